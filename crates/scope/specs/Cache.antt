@@ -1,0 +1,52 @@
+-- 01's cache: its words, and its order behind a few definitions: what is dropped, where a found and where a new entry goes.
+-- "Replacement is least recently used, as in source 003." Translate knows no more of the order than what stands here.
+use Prim.Native.Nat.{ℕ, suc, _+_, _*_, _-_}
+use mathlib.Core.Bool.{Bool}
+use mathlib.Core.List.{List, [], _∷_, _++_}
+use lib.Dec.{eqb}
+use lib.ListN.{take, drop}
+use lib.Seq.{sets}
+use Rattle.scope.specs.SmallRecord.{with-used}
+use Rattle.scope.specs.Lent.{none, State, Mapping, entry-words, logical-at, physical-at, changed-at}
+use Rattle.scope.specs.Operations.{Step, give, set-cache, set-small, _>>=_, _>>_}
+
+-- The entry at a rank, and the cache without it, those behind it one rank nearer.
+abbrev pub entry-at : ℕ → List ℕ → List ℕ
+entry-at i cache = take entry-words (drop (i * entry-words) cache)
+
+abbrev pub without : ℕ → List ℕ → List ℕ
+without i cache = take (i * entry-words) cache ++ drop (i * entry-words + entry-words) cache
+
+-- "A cached entry moves to the front." The rank that it has then is handed back.
+unfoldable pub touch : ℕ → Step ℕ
+touch i = do
+  set-cache (λ s. entry-at i (s .cache) ++ without i (s .cache))
+  give 0
+
+-- "Put the entry in front, unchanged": in the place of the first unused one. The rank that it has is handed back.
+unfoldable pub enter : ℕ → ℕ → Step ℕ
+enter l place = do
+  set-cache (λ s. l ∷ place ∷ 0 ∷ without (s .small .used) (s .cache))
+  set-small (λ r. with-used (suc (r .used)) r)
+  give 0
+
+-- "Drop the last": the rank of the entry that goes.
+unfoldable pub dropped : State → ℕ
+dropped s = s .small .used - 1
+
+-- The entry at a rank is dropped: it becomes an unused one, *none* throughout.
+unfoldable pub forget : ℕ → Step (Unit {0})
+forget i = do
+  set-cache (λ s. sets (s .cache) (i * entry-words) (none ∷ none ∷ none ∷ []))
+  set-small (λ r. with-used (r .used - 1) r)
+
+abbrev pub is-changed : ℕ → List ℕ → Bool
+is-changed i cache = eqb (changed-at i cache) 1
+
+-- "Update its translation page with that one entry": what the write-back of the entry at a rank sets.
+unfoldable pub written-back : ℕ → State → List Mapping
+written-back i s = record { logical = logical-at i (s .cache); physical = physical-at i (s .cache) } ∷ []
+
+-- The entry at a rank names a new place and is changed, "with its rank kept".
+unfoldable pub set-entry : ℕ → ℕ → Step (Unit {0})
+set-entry i place = set-cache (λ s. sets (s .cache) (i * entry-words + 1) (place ∷ 1 ∷ []))

@@ -1,0 +1,112 @@
+-- The five public calls as total functions: for any geometry numbers, page number and lists, the reply, the operations, whose
+-- counts are the answer's, and every lent list after. `boundary` says whether the lengths that only C lends are right (Boundary.antt).
+use Prim.Native.Nat.{ℕ, zero, suc, _+_, _*_}
+use mathlib.Core.Bool.{Bool, not, cond, _&&_}
+use mathlib.Core.List.{List, [], _∷_, _++_}
+use lib.Dec.{eqb, leb}
+use lib.ListN.{length, getD, take, drop, set}
+use lib.Seq.{sets}
+use Rattle.scope.specs.Geometry.{Geometry, accepted}
+use Rattle.scope.specs.Lent.{none, State, Request, most-requests, chip-size, spare-size, directory-size, cache-size}
+use Rattle.scope.specs.Decisions.{sound}
+use Rattle.scope.specs.Operations.{Step, give, look, _>>=_, _>>_}
+use Rattle.scope.specs.Replies.{DONE, GEOMETRY, LENGTH, DAMAGED, KIND, PAGE, Test, Size, admit, right-sizes}
+use Rattle.scope.specs.Requests.{Replied, replied, read-steps, write-steps, format-steps}
+
+-- The sizes that every call tests: those of the state's four lists.
+abbrev pub state-sizes : Geometry → State → List Size
+state-sizes g s =
+    record { has = length (s .chip); should = chip-size g }
+    ∷ record { has = length (s .spare); should = spare-size g }
+    ∷ record { has = length (s .directory); should = directory-size g }
+    ∷ record { has = length (s .cache); should = cache-size g }
+    ∷ []
+
+-- "Page buffer of W words for read and write."
+abbrev pub buffer-sizes : Geometry → List ℕ → List Size
+buffer-sizes g buffer = record { has = length buffer; should = g .W } ∷ []
+
+-- "A data buffer of n·W words; n answer words are lent too."
+abbrev pub run-sizes : Geometry → List Request → List ℕ → List ℕ → List Size
+run-sizes g requests words answers =
+    record { has = length words; should = length requests * g .W }
+    ∷ record { has = length answers; should = length requests }
+    ∷ []
+
+-- The tests, each list in number order. Format's: "The old state isn't tested."
+abbrev pub size-tests : Geometry → Bool → List Test
+size-tests g sizes = record { number = GEOMETRY; applies = not (accepted g) } ∷ record { number = LENGTH; applies = not sizes } ∷ []
+
+-- "DAMAGED: the state isn't sound."
+abbrev pub state-tests : Geometry → Bool → State → List Test
+state-tests g sizes s = size-tests g sizes ++ record { number = DAMAGED; applies = not (sound g s) } ∷ []
+
+-- "PAGE: the logical page is L or more."
+abbrev pub page-tests : Geometry → ℕ → List Test
+page-tests g l = record { number = PAGE; applies = leb (g .L) l } ∷ []
+
+-- "Kind 0 read or 1 write."
+abbrev pub record-tests : Geometry → Request → List Test
+record-tests g q = record { number = KIND; applies = leb 2 (q .kind) } ∷ page-tests g (q .page)
+
+unfoldable pub format : Geometry → Bool → Step ℕ
+format g boundary = do
+  sizes ← look (λ s. right-sizes (state-sizes g s) && boundary)
+  admit (size-tests g sizes) (λ n. n) (format-steps g)
+
+-- "Check: DONE if sound, counts 0, 0, 0, nothing changed."
+unfoldable pub check : Geometry → Bool → Step ℕ
+check g boundary = do
+  tests ← look (λ s. state-tests g (right-sizes (state-sizes g s) && boundary) s)
+  admit tests (λ n. n) (give DONE)
+
+unfoldable pub read : Geometry → Bool → ℕ → List ℕ → Step Replied
+read g boundary l buffer = do
+  tests ← look (λ s. state-tests g (right-sizes (state-sizes g s ++ buffer-sizes g buffer) && boundary) s ++ page-tests g l)
+  admit tests (replied buffer) (read-steps g l buffer)
+
+unfoldable pub write : Geometry → Bool → ℕ → List ℕ → Step Replied
+write g boundary l buffer = do
+  tests ← look (λ s. state-tests g (right-sizes (state-sizes g s ++ buffer-sizes g buffer) && boundary) s ++ page-tests g l)
+  admit tests (replied buffer) (write-steps g l buffer)
+
+-- What a run has lent beside the state: its data buffer and its answers.
+pub record RunReplied : Type 0 where
+  pub reply : ℕ
+  pub words : List ℕ
+  pub answers : List ℕ
+
+abbrev pub run-replied : List ℕ → List ℕ → ℕ → RunReplied
+run-replied words answers n = record { reply = n; words = words; answers = answers }
+
+-- "Record i uses words i·W to i·W+W-1 of a data buffer."
+abbrev pub part : Geometry → ℕ → List ℕ → List ℕ
+part g i words = take (g .W) (drop (i * g .W) words)
+
+-- A request that has passed its tests: kind 0 reads, kind 1 writes.
+unfoldable pub serve : Geometry → Request → List ℕ → Step Replied
+serve g q buffer = cond (eqb (q .kind) 0) (read-steps g (q .page) buffer) (write-steps g (q .page) buffer)
+
+-- "Then each record gets its own number": record i, its tests first; its answer is stored, and its words where it gives any.
+unfoldable pub serve-record : Geometry → ℕ → Request → RunReplied → Step RunReplied
+serve-record g i q lent = do
+  r ← admit (record-tests g q) (replied (part g i (lent .words))) (serve g q (part g i (lent .words)))
+  give (run-replied (sets (lent .words) (i * g .W) (r .buffer)) (set (lent .answers) i (r .reply)) DONE)
+
+abbrev pub no-request : Request
+no-request = record { kind = none; page = none }
+
+-- "And the run goes on": the first n records, in order.
+unfoldable pub serve-records : Geometry → List Request → ℕ → RunReplied → Step RunReplied
+serve-records g requests zero lent = give lent
+serve-records g requests (suc n) lent = do
+  lent′ ← serve-records g requests n lent
+  serve-record g n (getD requests n no-request) lent′
+
+-- "A run tests 2, 3, 4 once"; LENGTH too where it "has over 1,024 records". "The run itself answers DONE with the sums of its
+-- records' counts; an empty run changes nothing."
+unfoldable pub run : Geometry → Bool → List Request → List ℕ → List ℕ → Step RunReplied
+run g boundary requests words answers = do
+  tests ← look (λ s. state-tests g
+      (right-sizes (state-sizes g s ++ run-sizes g requests words answers) && leb (length requests) most-requests && boundary) s)
+  admit tests (run-replied words answers) (serve-records g requests (length requests) (run-replied words answers DONE))
