@@ -1,0 +1,1 @@
+// The three demands, proved of the definitions. No code.
