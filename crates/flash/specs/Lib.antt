@@ -1,1 +1,3 @@
 -- The modules of this crate.
+pub mod Cases
+pub mod Counting

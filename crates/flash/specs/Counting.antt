@@ -1,0 +1,113 @@
+-- Laws of scope's tests, searches and counts over the numbers below a bound: `all` is "each", `some` is "there is one",
+-- `count` counts, and what `lowest` and `fewest` find.
+use Prim.Native.Nat.{ℕ, zero, suc, _+_, _*_, _≤_, _<_}
+use mathlib.Core.Path.{_≡_, refl, sym, ap, _∙_}
+use mathlib.Core.Logic.{_≢_}
+use mathlib.Core.Bool.{Bool, true, false, not, cond, _&&_, _||_}
+use native.Mathlib.Omega.{arith}
+use lib.Dec.{eqb, ltb}
+use borrow.Author.Tests.{eqb-true, eqb-false, ltb-true, ltb-false, lt-ltb, le-ltb, not-true, not-false}
+use Rattle.scope.specs.Counting.{all, some, count, lowest, fewest}
+use Rattle.flash.specs.Cases.{on, same?, below?, last, clash, and-true, true-and, and-cases, or-cases, or-left, or-right, or-false, not-of-false, not-of-true, is-true, is-false}
+
+-- ---- every, some
+
+pub all-each : (n : ℕ) (f : ℕ → Bool) → all n f ≡ true → (i : ℕ) → i < n → f i ≡ true
+all-each zero f h i k = absurd (omega arith)
+all-each (suc n) f h i k =
+    last i n k (all-each n f (and-true (all n f) (f n) h .0) i) (λ e. rw e (and-true (all n f) (f n) h .1))
+
+pub each-all : (n : ℕ) (f : ℕ → Bool) → ((i : ℕ) → i < n → f i ≡ true) → all n f ≡ true
+each-all zero f h = refl
+each-all (suc n) f h = true-and (each-all n f (λ i k. h i (omega arith))) (h n (omega arith))
+
+-- Not all: one fails.
+pub all-fails : (n : ℕ) (f : ℕ → Bool) → all n f ≡ false → (i : ℕ) × (i < n) × (f i ≡ false)
+all-fails zero f h = clash refl h
+all-fails (suc n) f h =
+    and-cases (all n f) (f n) h
+    (λ e. let r = all-fails n f e in (r .0, omega arith, r .2))
+    (λ e. (n, omega arith, e))
+
+pub some-found : (n : ℕ) (f : ℕ → Bool) → some n f ≡ true → (i : ℕ) × (i < n) × (f i ≡ true)
+some-found zero f h = clash h refl
+some-found (suc n) f h =
+    or-cases (some n f) (f n) h
+    (λ e. let r = some-found n f e in (r .0, omega arith, r .2))
+    (λ e. (n, omega arith, e))
+
+pub found-some : (n : ℕ) (f : ℕ → Bool) (i : ℕ) → i < n → f i ≡ true → some n f ≡ true
+found-some zero f i k h = absurd (omega arith)
+found-some (suc n) f i k h =
+    last i n k (λ l. or-left (f n) (found-some n f i l h)) (λ e. or-right (some n f) (rw (← e) h))
+
+pub none-some : (n : ℕ) (f : ℕ → Bool) → some n f ≡ false → (i : ℕ) → i < n → f i ≡ false
+none-some n f h i k = is-false (f i) (λ e. clash (found-some n f i k e) h)
+
+-- ---- count
+
+-- What one test adds to a count.
+bit-le : (b : Bool) → cond b 1 0 ≤ 1
+bit-le true = omega arith
+bit-le false = omega arith
+
+pub count-le : (n : ℕ) (f : ℕ → Bool) → count n f ≤ n
+count-le zero f = omega arith
+count-le (suc n) f = omega (arith, count-le n f, bit-le (f n))
+
+-- Tests that agree below n count the same; where each that passes f passes h, f counts no more.
+pub count-same : (n : ℕ) (f h : ℕ → Bool) → ((i : ℕ) → i < n → f i ≡ h i) → count n f ≡ count n h
+count-same zero f h e = refl
+count-same (suc n) f h e = rw (count-same n f h (λ i k. e i (omega arith)), e n (omega arith))
+
+pub count-mono : (n : ℕ) (f h : ℕ → Bool) → ((i : ℕ) → i < n → f i ≡ true → h i ≡ true) → count n f ≤ count n h
+count-mono zero f h e = omega arith
+count-mono (suc n) f h e =
+    let ih : count n f ≤ count n h = count-mono n f h (λ i k. e i (omega arith)) in
+    on (f n) (λ p. rw (p, e n (omega arith) p) (omega arith)) (λ p. rw p (omega arith))
+
+-- None passes; each passes.
+pub count-none : (n : ℕ) (f : ℕ → Bool) → ((i : ℕ) → i < n → f i ≡ false) → count n f ≡ 0
+count-none zero f e = refl
+count-none (suc n) f e = rw (count-none n f (λ i k. e i (omega arith)), e n (omega arith))
+
+pub count-each : (n : ℕ) (f : ℕ → Bool) → ((i : ℕ) → i < n → f i ≡ true) → count n f ≡ n
+count-each zero f e = refl
+count-each (suc n) f e =
+    let ih : count n f ≡ n = count-each n f (λ i k. e i (omega arith)) in
+    rw (e n (omega arith)) (omega arith)
+
+-- Of those that pass one is counted, so that a count of none says that none passes.
+pub count-one : (n : ℕ) (f : ℕ → Bool) (i : ℕ) → i < n → f i ≡ true → 1 ≤ count n f
+count-one zero f i k h = absurd (omega arith)
+count-one (suc n) f i k h =
+    last i n k
+    (λ l. omega (arith, count-one n f i l h))
+    (λ e. let p : f n ≡ true = rw (← e) h in rw p (omega arith))
+
+pub none-counted : (n : ℕ) (f : ℕ → Bool) → count n f ≡ 0 → (i : ℕ) → i < n → f i ≡ false
+none-counted n f h i k = is-false (f i) (λ e. omega (arith, count-one n f i k e))
+
+-- One that fails is not counted, so that a count of n says that each passes.
+pub count-fails : (n : ℕ) (f : ℕ → Bool) (i : ℕ) → i < n → f i ≡ false → suc (count n f) ≤ n
+count-fails zero f i k h = absurd (omega arith)
+count-fails (suc n) f i k h =
+    last i n k
+    (λ l. omega (arith, count-fails n f i l h, bit-le (f n)))
+    (λ e. let p : f n ≡ false = rw (← e) h in rw p (omega (arith, count-le n f)))
+
+pub each-counted : (n : ℕ) (f : ℕ → Bool) → count n f ≡ n → (i : ℕ) → i < n → f i ≡ true
+each-counted n f h i k = is-true (f i) (λ e. omega (arith, count-fails n f i k e))
+
+-- A count of at least one has one that passes.
+pub counted-found : (n : ℕ) (f : ℕ → Bool) → 1 ≤ count n f → (i : ℕ) × (i < n) × (f i ≡ true)
+counted-found n f h =
+    on (some n f) (some-found n f)
+    (λ e. absurd (omega (arith, count-none n f (none-some n f e))))
+
+-- Those that pass and those that don't are n.
+pub count-not : (n : ℕ) (f : ℕ → Bool) → count n f + count n (λ i. not (f i)) ≡ n
+count-not zero f = refl
+count-not (suc n) f =
+    let ih : count n f + count n (λ i. not (f i)) ≡ n = count-not n f in
+    on (f n) (λ p. rw p (omega arith)) (λ p. rw p (omega arith))
