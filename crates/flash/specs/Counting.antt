@@ -1,14 +1,15 @@
 -- Laws of scope's tests, searches and counts over the numbers below a bound: `all` is "each", `some` is "there is one",
 -- `count` counts, and what `lowest` and `fewest` find.
 use Prim.Native.Nat.{ℕ, zero, suc, _+_, _*_, _≤_, _<_}
-use mathlib.Core.Path.{_≡_, refl, sym, ap, _∙_}
+use mathlib.Core.Path.{_≡_, refl, sym, _∙_}
 use mathlib.Core.Logic.{_≢_}
-use mathlib.Core.Bool.{Bool, true, false, not, cond, _&&_, _||_}
+use mathlib.Core.Bool.{Bool, true, false, not, cond, _&&_}
+use native.Mathlib.Nat.{add-zero, add-suc, zero-mul, suc-mul}
 use native.Mathlib.Omega.{arith}
-use lib.Dec.{eqb, ltb}
-use borrow.Author.Tests.{eqb-true, eqb-false, ltb-true, ltb-false, lt-ltb, le-ltb, not-true, not-false}
-use Rattle.scope.specs.Counting.{all, some, count, lowest, fewest}
-use Rattle.flash.specs.Cases.{on, same?, below?, last, clash, and-true, true-and, and-cases, or-cases, or-left, or-right, or-false, not-of-false, not-of-true, is-true, is-false}
+use lib.Dec.{eqb}
+use borrow.Author.Tests.{eqb-true, eqb-false, not-true}
+use Rattle.scope.specs.Counting.{all, some, count}
+use Rattle.flash.specs.Cases.{on, last, clash, and-true, true-and, and-cases, or-cases, or-left, or-right, is-true, is-false}
 
 -- ---- every, some
 
@@ -111,3 +112,73 @@ count-not zero f = refl
 count-not (suc n) f =
     let ih : count n f + count n (λ i. not (f i)) ≡ n = count-not n f in
     on (f n) (λ p. rw p (omega arith)) (λ p. rw p (omega arith))
+
+-- Those that pass both tests and those that pass only the first.
+pub count-split : (n : ℕ) (f h : ℕ → Bool) → count n f ≡ count n (λ i. f i && h i) + count n (λ i. f i && not (h i))
+count-split zero f h = refl
+count-split (suc n) f h =
+    let ih : count n f ≡ count n (λ i. f i && h i) + count n (λ i. f i && not (h i)) = count-split n f h in
+    on (f n)
+    (λ p. on (h n) (λ q. rw (p, q) (omega arith)) (λ q. rw (p, q) (omega arith)))
+    (λ p. rw p (omega arith))
+
+-- The numbers below m + n: those below m, and those from m on.
+pub count-add : (m n : ℕ) (f : ℕ → Bool) → count (m + n) f ≡ count m f + count n (λ i. f (m + i))
+count-add m zero f = rw (add-zero m) (omega arith)
+count-add m (suc n) f = rw (add-suc, count-add m n f) (omega arith)
+
+-- The sum of a size over the numbers below n, and its laws.
+abbrev pub sum : ℕ → (ℕ → ℕ) → ℕ
+sum zero size = zero
+sum (suc n) size = sum n size + size n
+
+pub sum-same : (n : ℕ) (a b : ℕ → ℕ) → ((i : ℕ) → i < n → a i ≡ b i) → sum n a ≡ sum n b
+sum-same zero a b e = refl
+sum-same (suc n) a b e = rw (sum-same n a b (λ i k. e i (omega arith)), e n (omega arith))
+
+pub sum-mono : (n : ℕ) (a b : ℕ → ℕ) → ((i : ℕ) → i < n → a i ≤ b i) → sum n a ≤ sum n b
+sum-mono zero a b e = omega arith
+sum-mono (suc n) a b e = omega (arith, sum-mono n a b (λ i k. e i (omega arith)), e n (omega arith))
+
+-- Counting block by block: m blocks of P numbers each.
+pub count-blocks : (m P : ℕ) (f : ℕ → Bool) → count (m * P) f ≡ sum m (λ b. count P (λ i. f (b * P + i)))
+count-blocks zero P f = rw zero-mul refl
+count-blocks (suc m) P f = rw (suc-mul, count-add (m * P) P f, count-blocks m P f) refl
+
+-- ---- pigeonhole
+
+-- At most one passes where no two do.
+pub count-at-most-one : (n : ℕ) (f : ℕ → Bool)
+    → ((i j : ℕ) → i < n → j < n → f i ≡ true → f j ≡ true → i ≡ j) → count n f ≤ 1
+count-at-most-one zero f differ = omega arith
+count-at-most-one (suc n) f differ =
+    on (f n)
+    (λ p.
+    let none : count n f ≡ 0 =
+    count-none n f (λ i k. is-false (f i) (λ q. omega (arith, differ i n (omega arith) (omega arith) q p))) in
+    rw p (omega arith))
+    (λ p. rw p (omega (arith, count-at-most-one n f (λ i j k l. differ i j (omega arith) (omega arith)))))
+
+-- Where f takes the numbers below n that pass to numbers below K, no two of them to one, no more than K pass.
+pub pigeonhole : (n K : ℕ) (pass : ℕ → Bool) (f : ℕ → ℕ)
+    → ((i : ℕ) → i < n → pass i ≡ true → f i < K)
+    → ((i j : ℕ) → i < n → j < n → pass i ≡ true → pass j ≡ true → f i ≡ f j → i ≡ j)
+    → count n pass ≤ K
+pigeonhole n zero pass f small differ =
+    omega (arith, count-none n pass (λ i k. is-false (pass i) (λ p. omega (arith, small i k p))))
+pigeonhole n (suc K) pass f small differ =
+    let at-K : ℕ → Bool = λ i. eqb (f i) K in
+    let one : count n (λ i. pass i && at-K i) ≤ 1 =
+    count-at-most-one n (λ i. pass i && at-K i) (λ i j k l p q.
+    let p′ = and-true (pass i) (at-K i) p in
+    let q′ = and-true (pass j) (at-K j) q in
+    differ i j k l (p′ .0) (q′ .0) (eqb-true (f i) K (p′ .1) ∙ sym (eqb-true (f j) K (q′ .1)))) in
+    let others : count n (λ i. pass i && not (at-K i)) ≤ K =
+    pigeonhole n K (λ i. pass i && not (at-K i)) f
+    (λ i k p.
+    let p′ = and-true (pass i) (not (at-K i)) p in
+    let ne : f i ≢ K = eqb-false (f i) K (not-true (at-K i) (p′ .1)) in
+    omega (arith, small i k (p′ .0)))
+    (λ i j k l p q.
+    differ i j k l (and-true (pass i) (not (at-K i)) p .0) (and-true (pass j) (not (at-K j)) q .0)) in
+    omega (arith, count-split n pass at-K)

@@ -1,3 +1,4 @@
 -- The modules of this crate.
 pub mod Cases
 pub mod Counting
+pub mod Searching
