@@ -43,15 +43,18 @@ pub record Accepted (g : Geometry) : Type 0 where
   pub C-from : 1 ≤ g .C
   pub C-to : g .C ≤ 4096
 
--- The same as a decision.
+-- The same as a decision, a row of the table a line.
+abbrev pub within : ℕ → ℕ → ℕ → Bool
+within from x to = leb from x && leb x to
+
 unfoldable pub accepted : Geometry → Bool
 accepted g =
-    leb 1 (g .P) && leb (g .P) most-pages-in-block
-    && leb 1 (g .W) && leb (g .W) 512
-    && leb 2 (g .D) && leb 2 (g .T) && leb (g .D + g .T) most-blocks
-    && leb 1 (g .L) && leb (g .L) ((g .D - 1) * g .P - 1)
-    && leb 1 (M g) && leb (M g) ((g .T - 1) * g .P - 1)
-    && leb 1 (g .C) && leb (g .C) 4096
+    within 1 (g .P) most-pages-in-block
+    && within 1 (g .W) 512
+    && (leb 2 (g .D) && leb 2 (g .T) && leb (g .D + g .T) most-blocks)
+    && within 1 (g .L) ((g .D - 1) * g .P - 1)
+    && within 1 (M g) ((g .T - 1) * g .P - 1)
+    && within 1 (g .C) 4096
 
 -- The blocks and the pages of the whole chip.
 abbrev pub blocks : Geometry → ℕ

@@ -16,3 +16,4 @@ pub mod Requests
 pub mod Calls
 pub mod Boundary
 pub mod Session
+pub mod Laws

@@ -1,0 +1,3 @@
+-- Laws of the definitions that stand with them: each rule's test decides it, and each step's flash is its operations applied.
+pub mod Decides
+pub mod Decided
