@@ -1,3 +1,5 @@
 -- Laws of the definitions that stand with them: each rule's test decides it, and each step's flash is its operations applied.
 pub mod Decides
 pub mod Decided
+pub mod Applied
+pub mod AppliedSteps
