@@ -2,3 +2,6 @@
 pub mod Cases
 pub mod Counting
 pub mod Searching
+pub mod Stores
+pub mod Words
+pub mod Pages

@@ -1,0 +1,152 @@
+-- What each operation does, page by page: to the page or the block that it is made on, and to every other page.
+-- Where only equalities of pages matter, they speak of chip and spare alone, and so hold of any states that have these.
+use Prim.Native.Nat.{ℕ, _+_, _*_, _<_}
+use mathlib.Core.Path.{_≡_, refl, sym, _∙_}
+use mathlib.Core.Logic.{_≢_}
+use mathlib.Core.List.{List, [], _∷_}
+use native.Mathlib.Omega.{arith}
+use native.Mathlib.Nat.{add-zero}
+use lib.ListN.{length, getD, replicate, length-replicate, getD-replicate}
+use lib.Seq.{sets, length-sets, getD-set-same, getD-set-other}
+use Rattle.scope.specs.Geometry.{Geometry, pages, blocks}
+use Rattle.scope.specs.Lent.{none, erased, valid, invalid, State, spare-words, words-of, word-of, state-of, owner-of}
+use Rattle.scope.specs.Regions.{page-in}
+use Rattle.scope.specs.Operations.{Read, Program, Mark, Erase, apply}
+use Rattle.flash.specs.Stores.{getD-sets-inside, slot-below, record-kept, block-filled, block-kept}
+use Rattle.flash.specs.Words.{Lengths, words-are, words-same}
+
+-- ---- pages as before
+
+-- A page has the state, the owner and the words that it had before.
+pub record Page-same (g : Geometry) (p : ℕ) (chip spare chip′ spare′ : List ℕ) : Type 0 where
+  pub state : state-of p spare′ ≡ state-of p spare
+  pub owner : owner-of p spare′ ≡ owner-of p spare
+  pub words : words-of g p chip′ ≡ words-of g p chip
+
+abbrev pub Same-page : Geometry → ℕ → State → State → Type 0
+Same-page g p s s′ = Page-same g p (s .chip) (s .spare) (s′ .chip) (s′ .spare)
+
+-- A page's words and its spare words tell that it is as before.
+page-same : (g : Geometry) (p : ℕ) (chip spare chip′ spare′ : List ℕ) → length chip′ ≡ length chip
+    → ((i : ℕ) → i < g .W → word-of g p i chip′ ≡ word-of g p i chip)
+    → ((i : ℕ) → i < spare-words → getD spare′ (p * spare-words + i) none ≡ getD spare (p * spare-words + i) none)
+    → Page-same g p chip spare chip′ spare′
+page-same g p chip spare chip′ spare′ len words spares =
+    record {
+      state = rw add-zero at (spares 0 (omega arith));
+      owner = spares 1 (omega arith);
+      words = words-same g p chip chip′ len words;
+    }
+
+-- ---- program
+
+-- After a program of page p it is valid, with that owner and those words; every other page is as before.
+pub record Programmed (g : Geometry) (p k : ℕ) (contents : List ℕ) (s s′ : State) : Type 0 where
+  pub state : state-of p (s′ .spare) ≡ valid
+  pub owner : owner-of p (s′ .spare) ≡ k
+  pub words : words-of g p (s′ .chip) ≡ contents
+  pub others : (q : ℕ) → q ≢ p → Same-page g q s s′
+
+pub program-page : (g : Geometry) (p k : ℕ) (contents : List ℕ) (s : State) → Lengths g s → p < pages g → length contents ≡ g .W
+    → Programmed g p k contents s (apply g (Program p k contents) s)
+unfolding apply
+program-page g p k contents s len h w =
+    record {
+      state = rw add-zero at (getD-sets-inside (s .spare) (p * spare-words) (valid ∷ k ∷ []) 0 none (omega arith) (omega (arith, len .spare-fits)));
+      owner = getD-sets-inside (s .spare) (p * spare-words) (valid ∷ k ∷ []) 1 none (omega arith) (omega (arith, len .spare-fits));
+      words = words-are g p (sets (s .chip) (p * g .W) contents) contents h (length-sets (s .chip) (p * g .W) contents ∙ len .chip-fits) w
+          (λ i l. getD-sets-inside (s .chip) (p * g .W) contents i none (omega arith)
+          (omega (arith, len .chip-fits, slot-below (g .W) (pages g) p i h l)));
+      others = λ q other. page-same g q (s .chip) (s .spare) (sets (s .chip) (p * g .W) contents) (sets (s .spare) (p * spare-words) (valid ∷ k ∷ []))
+          (length-sets (s .chip) (p * g .W) contents)
+          (λ i l. record-kept (s .chip) (g .W) p q i none contents w l other)
+          (λ i l. record-kept (s .spare) spare-words p q i none (valid ∷ k ∷ []) refl l other);
+    }
+
+-- ---- mark
+
+-- After a mark of page p it is invalid and has its owner; no word of the chip and no other page has changed.
+pub record Marked (g : Geometry) (p : ℕ) (s s′ : State) : Type 0 where
+  pub state : state-of p (s′ .spare) ≡ invalid
+  pub owner : owner-of p (s′ .spare) ≡ owner-of p (s .spare)
+  pub chip : s′ .chip ≡ s .chip
+  pub others : (q : ℕ) → q ≢ p → Same-page g q s s′
+
+pub mark-page : (g : Geometry) (p : ℕ) (s : State) → Lengths g s → p < pages g → Marked g p s (apply g (Mark p) s)
+unfolding apply
+mark-page g p s len h =
+    record {
+      state = getD-set-same (s .spare) (p * spare-words) invalid none (omega (arith, len .spare-fits));
+      owner = getD-set-other (s .spare) (p * spare-words) (p * spare-words + 1) invalid none (omega arith);
+      chip = refl;
+      others = λ q other. record {
+        state = getD-set-other (s .spare) (p * spare-words) (q * spare-words) invalid none (omega arith);
+        owner = getD-set-other (s .spare) (p * spare-words) (q * spare-words + 1) invalid none (omega arith);
+        words = refl;
+      };
+    }
+
+-- ---- erase
+
+-- An erased page: its state, no owner, and only erased words.
+pub record Page-erased (g : Geometry) (p : ℕ) (chip spare : List ℕ) : Type 0 where
+  pub state : state-of p spare ≡ erased
+  pub owner : owner-of p spare ≡ none
+  pub word : (i : ℕ) → i < g .W → word-of g p i chip ≡ erased
+  pub words : words-of g p chip ≡ replicate (g .W) erased
+
+-- A page that is none of block b's.
+abbrev pub Outside : Geometry → ℕ → ℕ → Type 0
+Outside g b q = (i : ℕ) → i < g .P → q ≢ page-in g b i
+
+-- After an erase of block b each of its pages is erased; every other page is as before.
+pub record Erased (g : Geometry) (b : ℕ) (s s′ : State) : Type 0 where
+  pub pages : (i : ℕ) → i < g .P → Page-erased g (page-in g b i) (s′ .chip) (s′ .spare)
+  pub others : (q : ℕ) → Outside g b q → Same-page g q s s′
+
+pub erase-block : (g : Geometry) (b : ℕ) (s : State) → Lengths g s → b < blocks g → Erased g b s (apply g (Erase b) s)
+unfolding apply
+erase-block g b s len h = record { pages = inside; others = outside }
+  where
+    chip′ : List ℕ
+    chip′ = sets (s .chip) (b * g .P * g .W) (replicate (g .P * g .W) erased)
+
+    spare′ : List ℕ
+    spare′ = sets (s .spare) (b * g .P * spare-words) (replicate (g .P * spare-words) erased)
+
+    on-chip : (i : ℕ) → i < g .P → page-in g b i < pages g
+    on-chip i k = slot-below (g .P) (blocks g) b i h k
+
+    spare-word : (i j : ℕ) → i < g .P → j < spare-words → getD spare′ (page-in g b i * spare-words + j) none ≡ erased
+    spare-word i j k l =
+        block-filled (s .spare) spare-words (g .P) b i j erased none k l
+        (omega (arith, len .spare-fits, slot-below spare-words (pages g) (page-in g b i) j (on-chip i k) l))
+
+    chip-word : (i j : ℕ) → i < g .P → j < g .W → word-of g (page-in g b i) j chip′ ≡ erased
+    chip-word i j k l =
+        block-filled (s .chip) (g .W) (g .P) b i j erased none k l
+        (omega (arith, len .chip-fits, slot-below (g .W) (pages g) (page-in g b i) j (on-chip i k) l))
+
+    inside : (i : ℕ) → i < g .P → Page-erased g (page-in g b i) chip′ spare′
+    inside i k =
+        record {
+          state = rw add-zero at (spare-word i 0 k (omega arith));
+          owner = spare-word i 1 k (omega arith);
+          word = λ j l. chip-word i j k l;
+          words = words-are g (page-in g b i) chip′ (replicate (g .W) erased) (on-chip i k)
+              (length-sets (s .chip) (b * g .P * g .W) (replicate (g .P * g .W) erased) ∙ len .chip-fits) (length-replicate (g .W) erased)
+              (λ j l. chip-word i j k l ∙ sym (getD-replicate (g .W) j erased none l));
+        }
+
+    outside : (q : ℕ) → Outside g b q → Same-page g q s (apply g (Erase b) s)
+    outside q out =
+        page-same g q (s .chip) (s .spare) chip′ spare′
+        (length-sets (s .chip) (b * g .P * g .W) (replicate (g .P * g .W) erased))
+        (λ j l. block-kept (s .chip) (g .W) (g .P) b q j erased none l out)
+        (λ j l. block-kept (s .spare) spare-words (g .P) b q j erased none l out)
+
+-- ---- read
+
+pub read-page-same : (g : Geometry) (p : ℕ) (s : State) → apply g (Read p) s ≡ s
+unfolding apply
+read-page-same g p s = refl

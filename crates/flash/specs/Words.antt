@@ -1,0 +1,51 @@
+-- The lengths of the lent lists, and a page's words as a list and one by one.
+use Prim.Native.Nat.{ℕ, _*_, _≤_, _<_}
+use mathlib.Core.Path.{_≡_, sym, ap, _∙_}
+use mathlib.Core.List.{List}
+use native.Mathlib.Nat.{mul-le-mul-right}
+use native.Mathlib.Omega.{arith}
+use lib.ListN.{length, getD, drop, length-take, length-drop}
+use lib.Seq.{getD-take, getD-drop, ext-getD}
+use Rattle.scope.specs.Geometry.{Geometry, pages}
+use Rattle.scope.specs.Lent.{none, State, chip-size, spare-size, directory-size, cache-size, words-of, word-of}
+
+-- The lists have the sizes that 01 gives them.
+pub record Lengths-fit (g : Geometry) (chip spare directory cache : List ℕ) : Type 0 where
+  pub chip-fits : length chip ≡ chip-size g
+  pub spare-fits : length spare ≡ spare-size g
+  pub directory-fits : length directory ≡ directory-size g
+  pub cache-fits : length cache ≡ cache-size g
+
+abbrev pub Lengths : Geometry → State → Type 0
+Lengths g s = Lengths-fit g (s .chip) (s .spare) (s .directory) (s .cache)
+
+-- Word i of a page's list of words is the page's word i.
+pub words-at : (g : Geometry) (p i : ℕ) (chip : List ℕ) → i < g .W → getD (words-of g p chip) i none ≡ word-of g p i chip
+words-at g p i chip h = getD-take (g .W) (drop (p * g .W) chip) i none h ∙ getD-drop (p * g .W) chip i none
+
+-- A page of the chip has W words.
+pub length-words-of : (g : Geometry) (p : ℕ) (chip : List ℕ) → p < pages g → length chip ≡ chip-size g
+    → length (words-of g p chip) ≡ g .W
+length-words-of g p chip h len =
+    simp (length-take, length-drop) (omega (arith, mul-le-mul-right (g .W) h))
+
+-- A page's words are told by each word: as a list of W words, and of two chips of one length.
+pub words-are : (g : Geometry) (p : ℕ) (chip words : List ℕ) → p < pages g → length chip ≡ chip-size g → length words ≡ g .W
+    → ((i : ℕ) → i < g .W → word-of g p i chip ≡ getD words i none) → words-of g p chip ≡ words
+words-are g p chip words h len w e =
+    let n : length (words-of g p chip) ≡ g .W = length-words-of g p chip h len in
+    ext-getD none (words-of g p chip) words (omega arith) (λ i k. words-at g p i chip (omega arith) ∙ e i (omega arith))
+
+pub words-same : (g : Geometry) (p : ℕ) (chip chip′ : List ℕ) → length chip′ ≡ length chip
+    → ((i : ℕ) → i < g .W → word-of g p i chip′ ≡ word-of g p i chip) → words-of g p chip′ ≡ words-of g p chip
+words-same g p chip chip′ len e =
+    let short : length (words-of g p chip′) ≤ g .W = simp length-take (omega arith) in
+    ext-getD none (words-of g p chip′) (words-of g p chip)
+    (simp (length-take, length-drop, len))
+    (λ i k. words-at g p i chip′ (omega arith) ∙ e i (omega arith) ∙ sym (words-at g p i chip (omega arith)))
+
+-- And the other way: pages of one list of words have each word equal.
+pub word-same : (g : Geometry) (p q i : ℕ) (chip chip′ : List ℕ) → i < g .W → words-of g p chip′ ≡ words-of g q chip
+    → word-of g p i chip′ ≡ word-of g q i chip
+word-same g p q i chip chip′ h e =
+    sym (words-at g p i chip′ h) ∙ ap (λ (words : List ℕ). getD words i none) e ∙ words-at g q i chip h
