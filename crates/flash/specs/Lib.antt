@@ -5,3 +5,5 @@ pub mod Searching
 pub mod Stores
 pub mod Words
 pub mod Pages
+pub mod Kept
+pub mod Places
