@@ -1,0 +1,38 @@
+-- What the structs of src/lib.rt mean in document 01's definitions.
+use Prim.Native.Nat.{ℕ}
+use mathlib.Core.List.{List}
+use denote.Ref.{RefT, now}
+use Rattle.lent.specs.declared.Geometry.{Geometry as Numbers}
+use Rattle.lent.specs.declared.Record.{Record}
+use Rattle.lent.specs.declared.Counts.{Counts as Counted}
+use Rattle.lent.specs.declared.Entry.{Entry as Coded}
+use Rattle.lent.specs.declared.Entry.the-variants.{Place as PlaceOf, Nowhere as NowhereOf}
+use Rattle.scope.specs.Geometry.{Geometry}
+use Rattle.scope.specs.SmallRecord.{SmallRecord}
+use Rattle.scope.specs.Lent.{State, Entry, Place, Nowhere}
+use Rattle.scope.specs.Operations.{Counts}
+
+abbrev pub geometry : Numbers → Geometry
+geometry g = record { P = g .p; W = g .w; D = g .d; T = g .t; L = g .l; C = g .c }
+
+abbrev pub small : Record → SmallRecord
+small r =
+    record {
+      open-data = r .«open_data»;
+      data-offset = r .«data_offset»;
+      open-translation = r .«open_translation»;
+      translation-offset = r .«translation_offset»;
+      used = r .used;
+    }
+
+abbrev pub counts : Counted → Counts
+counts c = record { reads = c .reads; programs = c .programs; erases = c .erases }
+
+abbrev pub entry : Coded → Entry
+entry (PlaceOf p) = Place p
+entry NowhereOf = Nowhere
+
+-- The lent lists and the record as one state.
+abbrev pub state : List ℕ → List ℕ → List ℕ → List ℕ → Record → State
+state chip spare directory cache r =
+    record { chip = chip; spare = spare; directory = directory; cache = cache; small = small r }

@@ -1,0 +1,34 @@
+// The numbers that travel by value: the geometry, the small record, the counts, and an entry taken apart. Their models, and the
+// shape of every step's contract, stand in specs/.
+
+// The six numbers of a geometry.
+pub struct Geometry {
+    pub p: u32,
+    pub w: u32,
+    pub d: u32,
+    pub t: u32,
+    pub l: u32,
+    pub c: u32,
+}
+
+// The small record, in document 01's order.
+pub struct Record {
+    pub open_data: u32,
+    pub data_offset: u32,
+    pub open_translation: u32,
+    pub translation_offset: u32,
+    pub used: u32,
+}
+
+// Reads, programs and erases.
+pub struct Counts {
+    pub reads: u32,
+    pub programs: u32,
+    pub erases: u32,
+}
+
+// An entry: a page number, or none.
+pub enum Entry {
+    Place(u32),
+    Nowhere,
+}
