@@ -1,1 +1,4 @@
 -- The modules of this crate.
+pub mod Tests
+pub mod Reasons
+pub mod Refusals
