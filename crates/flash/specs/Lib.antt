@@ -7,3 +7,5 @@ pub mod Words
 pub mod Pages
 pub mod Kept
 pub mod Places
+pub mod SamePages
+pub mod Listed
