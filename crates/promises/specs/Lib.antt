@@ -2,3 +2,5 @@
 pub mod Tests
 pub mod Reasons
 pub mod Refusals
+pub mod Index
+pub mod Formatted
