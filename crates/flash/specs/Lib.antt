@@ -9,3 +9,4 @@ pub mod Kept
 pub mod Places
 pub mod SamePages
 pub mod Listed
+pub mod Clearing
