@@ -26,7 +26,9 @@ Only-clears new old = bitAnd new old ≡ new
 pub clears-bit : (new old i : ℕ) → Only-clears new old → new / 2 ^ i % 2 ≤ old / 2 ^ i % 2
 clears-bit new old i c =
     let same : new / 2 ^ i % 2 ≡ bitAnd (new / 2 ^ i % 2) (old / 2 ^ i % 2) =
-    ap (λ (x : ℕ). x / 2 ^ i % 2) (sym c) ∙ ap (λ (x : ℕ). x % 2) (and-shr new old i) ∙ and-mod (new / 2 ^ i) (old / 2 ^ i) 1 in
+    ap (λ (x : ℕ). x / 2 ^ i % 2) (sym c)
+    ∙ ap (λ (x : ℕ). x % 2) (and-shr new old i)
+    ∙ and-mod (new / 2 ^ i) (old / 2 ^ i) 1 in
     omega (arith, and-le-r (new / 2 ^ i % 2) (old / 2 ^ i % 2))
 
 -- The operation is no erase of the page's block.

@@ -1,5 +1,5 @@
--- Laws of scope's tests, searches and counts over the numbers below a bound: `all` is "each", `some` is "there is one",
--- `count` counts, and what `lowest` and `fewest` find.
+-- Laws of scope's tests and counts over the numbers below a bound: `all` is "each", `some` is "there is one", `count` counts.
+-- Searching.antt has those of its searches.
 use Prim.Native.Nat.{ℕ, zero, suc, _+_, _*_, _≤_, _<_}
 use mathlib.Core.Path.{_≡_, refl, sym, _∙_}
 use mathlib.Core.Logic.{_≢_}

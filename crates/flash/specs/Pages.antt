@@ -13,7 +13,7 @@ use Rattle.scope.specs.Lent.{none, erased, valid, invalid, State, spare-words, 
 use Rattle.scope.specs.Regions.{page-in}
 use Rattle.scope.specs.Operations.{Read, Program, Mark, Erase, apply}
 use Rattle.flash.specs.Stores.{getD-sets-inside, slot-below, record-kept, block-filled, block-kept}
-use Rattle.flash.specs.Words.{Lengths, words-are, words-same}
+use Rattle.flash.specs.Words.{Lengths, words-are, words-same, word-same}
 
 -- ---- pages as before
 
@@ -25,6 +25,20 @@ pub record Page-same (g : Geometry) (p : ℕ) (chip spare chip′ spare′ : Lis
 
 abbrev pub Same-page : Geometry → ℕ → State → State → Type 0
 Same-page g p s s′ = Page-same g p (s .chip) (s .spare) (s′ .chip) (s′ .spare)
+
+module _ {g : Geometry} {p : ℕ} where
+  pub page-refl : {c d : List ℕ} → Page-same g p c d c d
+  page-refl = record { state = refl; owner = refl; words = refl }
+
+  pub page-sym : {c d c′ d′ : List ℕ} → Page-same g p c d c′ d′ → Page-same g p c′ d′ c d
+  page-sym a = record { state = sym (a .state); owner = sym (a .owner); words = sym (a .words) }
+
+  pub page-trans : {c d c′ d′ c″ d″ : List ℕ} → Page-same g p c d c′ d′ → Page-same g p c′ d′ c″ d″ → Page-same g p c d c″ d″
+  page-trans a b = record { state = b .state ∙ a .state; owner = b .owner ∙ a .owner; words = b .words ∙ a .words }
+
+  -- Its words one by one.
+  pub page-word : {c d c′ d′ : List ℕ} → Page-same g p c d c′ d′ → (i : ℕ) → i < g .W → word-of g p i c′ ≡ word-of g p i c
+  page-word {c} {d} {c′} a i h = word-same g p p i c c′ h (a .words)
 
 -- A page's words and its spare words tell that it is as before.
 page-same : (g : Geometry) (p : ℕ) (chip spare chip′ spare′ : List ℕ) → length chip′ ≡ length chip
@@ -52,16 +66,29 @@ pub program-page : (g : Geometry) (p k : ℕ) (contents : List ℕ) (s : State) 
 unfolding apply
 program-page g p k contents s len h w =
     record {
-      state = rw add-zero at (getD-sets-inside (s .spare) (p * spare-words) (valid ∷ k ∷ []) 0 none (omega arith) (omega (arith, len .spare-fits)));
-      owner = getD-sets-inside (s .spare) (p * spare-words) (valid ∷ k ∷ []) 1 none (omega arith) (omega (arith, len .spare-fits));
-      words = words-are g p (sets (s .chip) (p * g .W) contents) contents h (length-sets (s .chip) (p * g .W) contents ∙ len .chip-fits) w
-          (λ i l. getD-sets-inside (s .chip) (p * g .W) contents i none (omega arith)
-          (omega (arith, len .chip-fits, slot-below (g .W) (pages g) p i h l)));
-      others = λ q other. page-same g q (s .chip) (s .spare) (sets (s .chip) (p * g .W) contents) (sets (s .spare) (p * spare-words) (valid ∷ k ∷ []))
-          (length-sets (s .chip) (p * g .W) contents)
+      state = rw add-zero at (spare-word 0 (omega arith));
+      owner = spare-word 1 (omega arith);
+      words = words-are g p chip′ contents h (length-sets (s .chip) (p * g .W) contents ∙ len .chip-fits) w chip-word;
+      others = λ q other. page-same g q (s .chip) (s .spare) chip′ spare′ (length-sets (s .chip) (p * g .W) contents)
           (λ i l. record-kept (s .chip) (g .W) p q i none contents w l other)
           (λ i l. record-kept (s .spare) spare-words p q i none (valid ∷ k ∷ []) refl l other);
     }
+  where
+    chip′ : List ℕ
+    chip′ = sets (s .chip) (p * g .W) contents
+
+    spare′ : List ℕ
+    spare′ = sets (s .spare) (p * spare-words) (valid ∷ k ∷ [])
+
+    spare-word : (i : ℕ) → i < spare-words → getD spare′ (p * spare-words + i) none ≡ getD (valid ∷ k ∷ []) i none
+    spare-word i l =
+        getD-sets-inside (s .spare) (p * spare-words) (valid ∷ k ∷ []) i none l
+        (omega (arith, len .spare-fits, slot-below spare-words (pages g) p i h l))
+
+    chip-word : (i : ℕ) → i < g .W → word-of g p i chip′ ≡ getD contents i none
+    chip-word i l =
+        getD-sets-inside (s .chip) (p * g .W) contents i none (omega arith)
+        (omega (arith, len .chip-fits, slot-below (g .W) (pages g) p i h l))
 
 -- ---- mark
 
@@ -134,7 +161,8 @@ erase-block g b s len h = record { pages = inside; others = outside }
           owner = spare-word i 1 k (omega arith);
           word = λ j l. chip-word i j k l;
           words = words-are g (page-in g b i) chip′ (replicate (g .W) erased) (on-chip i k)
-              (length-sets (s .chip) (b * g .P * g .W) (replicate (g .P * g .W) erased) ∙ len .chip-fits) (length-replicate (g .W) erased)
+              (length-sets (s .chip) (b * g .P * g .W) (replicate (g .P * g .W) erased) ∙ len .chip-fits)
+              (length-replicate (g .W) erased)
               (λ j l. chip-word i j k l ∙ sym (getD-replicate (g .W) j erased none l));
         }
 

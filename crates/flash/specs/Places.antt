@@ -47,7 +47,8 @@ page-other g Translation p q h k = omega arith
 pub page-in-region : (g : Geometry) (r : Region) (b i : ℕ) → Has-block g r b → i < g .P → Has-page g r (page-in g b i)
 page-in-region g r b i h k =
     let low : first-block g r * g .P ≤ b * g .P = mul-le-mul-right (g .P) (h .0) in
-    let high : b * g .P + i < (first-block g r + region-blocks g r) * g .P = slot-below (g .P) (first-block g r + region-blocks g r) b i (h .1) k in
+    let end : ℕ = first-block g r + region-blocks g r in
+    let high : b * g .P + i < end * g .P = slot-below (g .P) end b i (h .1) k in
     (omega arith, omega arith)
 
 pub block-of-page : (g : Geometry) (r : Region) (b i : ℕ) → i < g .P → Has-page g r (page-in g b i) → Has-block g r b

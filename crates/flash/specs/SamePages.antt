@@ -1,12 +1,11 @@
 -- A region whose pages are as before, and that an operation on one region leaves the other one so.
-use Prim.Native.Nat.{ℕ, _<_}
-use mathlib.Core.Path.{_≡_, refl, sym, _∙_}
+use Prim.Native.Nat.{ℕ}
+use mathlib.Core.Path.{sym}
 use mathlib.Core.List.{List}
 use Rattle.scope.specs.Geometry.{Geometry}
-use Rattle.scope.specs.Lent.{State, word-of}
+use Rattle.scope.specs.Lent.{State}
 use Rattle.scope.specs.Regions.{Region, Has-block, Has-page}
-use Rattle.flash.specs.Words.{word-same}
-use Rattle.flash.specs.Pages.{Page-same, Programmed, Marked, Erased}
+use Rattle.flash.specs.Pages.{Page-same, page-refl, page-sym, page-trans, Programmed, Marked, Erased}
 use Rattle.flash.specs.Places.{other, page-other, outside-region}
 
 -- The pages of a region have the states, the owners and the words that they had before.
@@ -18,32 +17,13 @@ Same-pages g r s s′ = Pages-same g r (s .chip) (s .spare) (s′ .chip) (s′ .
 
 module _ {g : Geometry} {r : Region} where
   pub same-refl : {chip spare : List ℕ} → Pages-same g r chip spare chip spare
-  same-refl = record { page = λ p h. record { state = refl; owner = refl; words = refl } }
+  same-refl = record { page = λ p h. page-refl }
 
   pub same-sym : {c d c′ d′ : List ℕ} → Pages-same g r c d c′ d′ → Pages-same g r c′ d′ c d
-  same-sym a =
-      record {
-        page = λ p h. record {
-          state = sym (a .page p h .state);
-          owner = sym (a .page p h .owner);
-          words = sym (a .page p h .words);
-        };
-      }
+  same-sym a = record { page = λ p h. page-sym (a .page p h) }
 
   pub same-trans : {c d c′ d′ c″ d″ : List ℕ} → Pages-same g r c d c′ d′ → Pages-same g r c′ d′ c″ d″ → Pages-same g r c d c″ d″
-  same-trans a b =
-      record {
-        page = λ p h. record {
-          state = b .page p h .state ∙ a .page p h .state;
-          owner = b .page p h .owner ∙ a .page p h .owner;
-          words = b .page p h .words ∙ a .page p h .words;
-        };
-      }
-
-  -- Word by word.
-  pub same-word : {c d c′ d′ : List ℕ} → Pages-same g r c d c′ d′ → (p i : ℕ) → Has-page g r p → i < g .W
-      → word-of g p i c′ ≡ word-of g p i c
-  same-word {c} {d} {c′} {d′} a p i h k = word-same g p p i c c′ k (a .page p h .words)
+  same-trans a b = record { page = λ p h. page-trans (a .page p h) (b .page p h) }
 
 -- An operation on a page or a block of r leaves the other region's pages as they were.
 module _ {g : Geometry} (r : Region) where
