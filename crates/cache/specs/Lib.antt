@@ -1,1 +1,5 @@
 -- The modules of this crate.
+pub mod Entries
+pub mod Ranks
+pub mod Holds
+pub mod Order
