@@ -3,6 +3,7 @@ use Prim.Native.Nat.{ℕ, zero, suc, _+_, _*_, _/_, _%_, _≤_, _<_}
 use mathlib.Core.Path.{_≡_, refl, sym, _∙_, ap}
 use mathlib.Core.Logic.{_≢_, inl, ⊎-elim}
 use mathlib.Core.Bool.{Bool, _&&_}
+use mathlib.Core.List.{List, [], _∷_, append-nil}
 use native.Mathlib.Omega.{arith}
 use lib.Dec.{eqb, ltb}
 use lib.ListN.{getD, length-replicate, getD-replicate}
@@ -13,7 +14,8 @@ use Rattle.scope.specs.Lent.{none, valid, Entry, Place, Nowhere, State, entry-w
 use Rattle.scope.specs.Regions.{Region, Data, Translation, first-block, region-blocks, page-in, Has-block, Has-page}
 use Rattle.scope.specs.SmallRecord.{SmallRecord, fresh, open-block, next-offset}
 use Rattle.scope.specs.Sound.{Page-fits, Blocks-fit, Entries-fit, rank-of, stored, current, Sound}
-use Rattle.scope.specs.Operations.{Erase, Step, apply, perform, give, set-directory, set-cache, set-small, for, _>>=_}
+use Rattle.flash.specs.Listed.{counted-++, counts-same, Allowed, allowed-++}
+use Rattle.scope.specs.Operations.{Counts, counts-add, counted, Erase, Step, apply, perform, give, set-directory, set-cache, set-small, for, _>>=_}
 use Rattle.scope.specs.Requests.{format-steps}
 use Rattle.flash.specs.Cases.{last, and-true}
 use Rattle.promises.specs.Index.{page-below}
@@ -52,6 +54,21 @@ erased-pages g (suc n) s len h b i k l =
       words = same .words ∙ before .words;
     })
     (λ at. rw at (e .pages i l))
+
+-- "Counts 0, 0, D+T", and an erase asks for nothing.
+erasing-counts : (g : Geometry) (n : ℕ) (s : State) → counted (erasing g n s .did) ≡ record { reads = 0; programs = 0; erases = n }
+unfolding erasing for perform give counted _>>=_
+erasing-counts g zero s = refl
+erasing-counts g (suc n) s =
+    counted-++ (erasing g n s .did) (Erase n ∷ [])
+    ∙ ap (λ (c : Counts). counts-add c (record { reads = 0; programs = 0; erases = 1 })) (erasing-counts g n s)
+    ∙ counts-same (omega arith) (omega arith) (omega arith)
+
+erasing-allowed : (g : Geometry) (n : ℕ) (s : State) → Allowed g (erasing g n s .did) s
+unfolding erasing for perform give _>>=_
+erasing-allowed g zero s = tt
+erasing-allowed g (suc n) s =
+    allowed-++ g (erasing g n s .did) (Erase n ∷ []) s (erasing-allowed g n s) (tt, tt)
 
 -- The state that format leaves.
 abbrev formatted : Geometry → State → State
@@ -169,3 +186,11 @@ module _ (g : Geometry) (ok : Accepted g) (s : State) (len : Lengths g s) where
         };
         rule-7 = λ i h k. absurd (omega (arith, ap (λ (r : SmallRecord). r .used) is-fresh));
       }
+
+pub format-counts : (g : Geometry) (s : State) → counted (format-steps g s .did) ≡ record { reads = 0; programs = 0; erases = blocks g }
+unfolding format-steps erasing set-directory set-cache set-small give _>>=_
+format-counts g s = ap counted (append-nil (erasing g (blocks g) s .did)) ∙ erasing-counts g (blocks g) s
+
+pub format-allowed : (g : Geometry) (s : State) → Allowed g (format-steps g s .did) s
+unfolding format-steps erasing set-directory set-cache set-small give _>>=_
+format-allowed g s = rw (append-nil (erasing g (blocks g) s .did)) (erasing-allowed g (blocks g) s)

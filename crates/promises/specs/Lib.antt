@@ -1,4 +1,5 @@
 -- The modules of this crate.
+pub mod Demands
 pub mod Tests
 pub mod Reasons
 pub mod Refusals

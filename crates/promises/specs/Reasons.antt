@@ -16,18 +16,10 @@ use Rattle.scope.specs.Replies.{GEOMETRY, LENGTH, DAMAGED, KIND, PAGE, Size, ri
 use Rattle.scope.specs.Calls.{state-sizes, buffer-sizes, run-sizes}
 use Rattle.scope.specs.Laws.Decides.{Decides, by-equal, by-and, by-not, by-most}
 use Rattle.scope.specs.Laws.Decided.{accepted-decided, sound-decided}
+use Rattle.promises.specs.Demands.{Right, Wrong}
 use Rattle.promises.specs.Tests.{Reason}
 
 -- ---- the lengths, as propositions
-
--- Every size is the one that it should be; some size isn't.
-abbrev pub Right : List Size → Type 0
-Right [] = Unit {0}
-Right (z ∷ zs) = (z .has ≡ z .should) × Right zs
-
-abbrev pub Wrong : List Size → Type 0
-Wrong [] = ⊥
-Wrong (z ∷ zs) = (z .has ≢ z .should) ⊎ Wrong zs
 
 pub right-decided : (zs : List Size) → Decides (right-sizes zs) (Right zs)
 unfolding right-sizes
