@@ -15,5 +15,5 @@ pub mod Replies
 pub mod Requests
 pub mod Calls
 pub mod Boundary
-pub mod Session
+pub mod Tables
 pub mod Laws

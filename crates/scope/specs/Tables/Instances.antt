@@ -1,0 +1,126 @@
+-- Sessions on tiny geometries, by computation, for the cases that 01's session does not reach. After each call the state is sound by the
+-- decision, each program was of an erased page, the bound held, and a read gave what was last written.
+use Prim.Native.Nat.{ℕ, suc, _+_, _*_}
+use mathlib.Core.Path.{_≡_, refl}
+use mathlib.Core.Bool.{Bool, true, not, cond, _&&_}
+use mathlib.Core.List.{List, [], _∷_, _++_}
+use lib.Dec.{eqb, ltb, leb}
+use lib.ListN.{getD, set, replicate}
+use Rattle.scope.specs.Geometry.{Geometry}
+use Rattle.scope.specs.Lent.{none, is-erased, State}
+use Rattle.scope.specs.Decisions.{sound}
+use Rattle.scope.specs.Operations.{Operation, Read, Program, Mark, Erase, Outcome, apply, counted}
+use Rattle.scope.specs.Replies.{DONE, UNWRITTEN}
+use Rattle.scope.specs.Requests.{Replied}
+use Rattle.scope.specs.Tables.Play.{computed, Line, W, R, formatted, made, printed}
+
+-- "Only erased pages are programmed": of a list of operations, each at its moment.
+unfoldable pub programs-erased : Geometry → List Operation → State → Bool
+programs-erased g [] s = true
+programs-erased g (Read p ∷ os) s = programs-erased g os s
+programs-erased g (Program p owner words ∷ os) s =
+    is-erased p (s .spare) && programs-erased g os (apply g (Program p owner words) s)
+programs-erased g (Mark p ∷ os) s = programs-erased g os (apply g (Mark p) s)
+programs-erased g (Erase b ∷ os) s = programs-erased g os (apply g (Erase b) s)
+
+-- "(2P+1)(P+1) reads, programs and erases" for a write; "2P+3" for a read.
+unfoldable pub bound : Geometry → Line → ℕ
+bound g (W l value) = (2 * g .P + 1) * (g .P + 1)
+bound g (R l) = 2 * g .P + 3
+
+unfoldable pub within-bound : Geometry → Line → Outcome Replied → Bool
+within-bound g line o =
+    let c = counted (o .did) in
+    leb (c .reads + c .programs + c .erases) (bound g line)
+
+-- What was last written to each page: its value, *none* where nothing was.
+unfoldable pub noted : Line → List ℕ → List ℕ
+noted (W l value) last = set last l value
+noted (R l) last = last
+
+unfoldable pub as-written : Line → List ℕ → Replied → Bool
+as-written (W l value) last r = eqb (r .reply) DONE
+as-written (R l) last r =
+    cond (eqb (getD last l none) none)
+    (eqb (r .reply) UNWRITTEN)
+    (eqb (r .reply) DONE && eqb (getD (r .buffer) 0 none) (getD last l none))
+
+-- What a line prints, and which of the four does not hold: 1 not sound, 2 a programmed page programmed, 3 over the bound, 4 another word.
+unfoldable pub fault : ℕ → Bool → List ℕ
+fault n holds = cond holds [] (n ∷ [])
+
+unfoldable pub faults : Geometry → Line → List ℕ → State → Outcome Replied → List ℕ
+faults g line last s o =
+    fault 1 (sound g (o .after)) ++ fault 2 (programs-erased g (o .did) s)
+    ++ fault 3 (within-bound g line o) ++ fault 4 (as-written line last (o .value))
+
+unfoldable pub watch : Geometry → List Line → List ℕ → State → List (List (List ℕ))
+watch g [] last s = []
+watch g (line ∷ lines) last s =
+    let o = made g line s in
+    (printed line o ∷ faults g line last s o ∷ []) ∷ watch g lines (noted line last) (o .after)
+
+unfoldable pub watched : Geometry → List Line → List (List (List ℕ))
+watched g lines = watch g lines (replicate (g .L) none) (formatted g)
+
+-- A line that prints so, and nothing is wrong.
+abbrev pub good : List ℕ → List (List ℕ)
+good line = line ∷ [] ∷ []
+
+abbrev pub geometry : ℕ → ℕ → ℕ → ℕ → ℕ → ℕ → Geometry
+geometry p w d t l c = record { P = p; W = w; D = d; T = t; L = l; C = c }
+
+pub record Instances : Type 0 where
+  -- An unchanged entry is dropped and not written back; a changed one is.
+  pub dropped-entries :
+      good (1 ∷ 0 ∷ 0 ∷ 0 ∷ []) ∷ good (0 ∷ 0 ∷ 1 ∷ 0 ∷ []) ∷ good (1 ∷ 0 ∷ 1 ∷ 0 ∷ []) ∷ good (0 ∷ 2 ∷ 0 ∷ 0 ∷ 11 ∷ []) ∷ []
+      ≡ watched (geometry 2 1 3 3 3 1) (R 1 ∷ W 0 11 ∷ R 1 ∷ R 0 ∷ [])
+  -- D and T of 2: the open block, once full, is the only victim; the update's own page moves when its region makes room.
+  pub two-blocks :
+      good (0 ∷ 0 ∷ 1 ∷ 0 ∷ []) ∷ good (0 ∷ 0 ∷ 2 ∷ 0 ∷ []) ∷ good (0 ∷ 1 ∷ 2 ∷ 0 ∷ []) ∷ good (0 ∷ 7 ∷ 7 ∷ 2 ∷ [])
+      ∷ good (0 ∷ 5 ∷ 3 ∷ 1 ∷ 12 ∷ []) ∷ []
+      ≡ watched (geometry 3 1 2 2 2 1) (W 0 10 ∷ W 1 11 ∷ W 0 12 ∷ W 1 13 ∷ R 0 ∷ [])
+  -- P of 1: every collection moves nothing.
+  pub one-page-blocks :
+      good (0 ∷ 0 ∷ 1 ∷ 0 ∷ []) ∷ good (0 ∷ 0 ∷ 1 ∷ 0 ∷ []) ∷ good (0 ∷ 0 ∷ 1 ∷ 1 ∷ []) ∷ good (0 ∷ 0 ∷ 1 ∷ 1 ∷ [])
+      ∷ good (0 ∷ 1 ∷ 0 ∷ 0 ∷ 13 ∷ []) ∷ []
+      ≡ watched (geometry 1 1 3 3 1 2) (W 0 10 ∷ W 0 11 ∷ W 0 12 ∷ W 0 13 ∷ R 0 ∷ [])
+  -- A moved page's entry behind the front takes the new place, is changed, and keeps its rank.
+  pub moved-behind-the-front :
+      good (0 ∷ 0 ∷ 1 ∷ 0 ∷ []) ∷ good (0 ∷ 0 ∷ 1 ∷ 0 ∷ []) ∷ good (0 ∷ 0 ∷ 1 ∷ 0 ∷ []) ∷ good (0 ∷ 2 ∷ 3 ∷ 1 ∷ [])
+      ∷ good (0 ∷ 1 ∷ 0 ∷ 0 ∷ 12 ∷ []) ∷ []
+      ≡ watched (geometry 3 1 2 2 2 2) (W 0 10 ∷ W 1 11 ∷ W 1 12 ∷ W 0 13 ∷ R 1 ∷ [])
+  -- Of two blocks with as few valid pages the lower is the victim.
+  pub lowest-on-a-tie :
+      good (0 ∷ 0 ∷ 1 ∷ 0 ∷ []) ∷ good (0 ∷ 0 ∷ 2 ∷ 0 ∷ []) ∷ good (0 ∷ 1 ∷ 2 ∷ 0 ∷ []) ∷ good (0 ∷ 0 ∷ 1 ∷ 0 ∷ [])
+      ∷ good (0 ∷ 3 ∷ 3 ∷ 1 ∷ []) ∷ []
+      ≡ watched (geometry 2 1 3 3 3 1) (W 2 10 ∷ W 0 11 ∷ W 2 12 ∷ W 2 13 ∷ W 0 14 ∷ [])
+  -- Moved entries of two translation pages wait: both are updated, the lower first.
+  pub two-pages-touched :
+      good (0 ∷ 0 ∷ 1 ∷ 0 ∷ []) ∷ good (0 ∷ 0 ∷ 1 ∷ 0 ∷ []) ∷ good (0 ∷ 0 ∷ 2 ∷ 0 ∷ []) ∷ good (0 ∷ 0 ∷ 2 ∷ 0 ∷ [])
+      ∷ good (0 ∷ 0 ∷ 1 ∷ 0 ∷ []) ∷ good (0 ∷ 0 ∷ 1 ∷ 0 ∷ []) ∷ good (0 ∷ 4 ∷ 5 ∷ 1 ∷ []) ∷ []
+      ≡ watched (geometry 3 1 3 3 5 2) (W 3 10 ∷ W 1 11 ∷ W 0 12 ∷ W 2 13 ∷ W 0 14 ∷ W 0 15 ∷ W 2 16 ∷ [])
+  -- Two moved entries of one translation page wait: it is updated once.
+  pub one-page-touched-twice :
+      good (0 ∷ 0 ∷ 1 ∷ 0 ∷ []) ∷ good (0 ∷ 0 ∷ 1 ∷ 0 ∷ []) ∷ good (0 ∷ 0 ∷ 1 ∷ 0 ∷ []) ∷ good (0 ∷ 0 ∷ 2 ∷ 0 ∷ [])
+      ∷ good (0 ∷ 1 ∷ 2 ∷ 0 ∷ []) ∷ good (0 ∷ 0 ∷ 1 ∷ 0 ∷ []) ∷ good (0 ∷ 3 ∷ 4 ∷ 1 ∷ []) ∷ []
+      ≡ watched (geometry 3 2 3 2 4 2) (W 0 10 ∷ W 0 11 ∷ W 1 12 ∷ W 2 13 ∷ W 3 14 ∷ W 3 15 ∷ W 2 16 ∷ [])
+  -- The translation region is collected while the data region is, and the pages of both are found.
+  pub collections-in-a-collection :
+      good (0 ∷ 0 ∷ 1 ∷ 0 ∷ []) ∷ good (0 ∷ 0 ∷ 2 ∷ 0 ∷ []) ∷ good (0 ∷ 0 ∷ 2 ∷ 0 ∷ []) ∷ good (0 ∷ 1 ∷ 2 ∷ 0 ∷ [])
+      ∷ good (0 ∷ 1 ∷ 2 ∷ 0 ∷ []) ∷ good (0 ∷ 1 ∷ 2 ∷ 0 ∷ []) ∷ good (0 ∷ 9 ∷ 10 ∷ 3 ∷ []) ∷ []
+      ≡ watched (geometry 3 1 3 3 5 1) (W 4 10 ∷ W 2 11 ∷ W 0 12 ∷ W 4 13 ∷ W 3 14 ∷ W 4 15 ∷ W 1 16 ∷ [])
+
+pub instances-hold : Instances
+unfolding computed programs-erased bound within-bound noted as-written fault faults watch watched
+instances-hold =
+    record {
+      dropped-entries = refl;
+      two-blocks = refl;
+      one-page-blocks = refl;
+      moved-behind-the-front = refl;
+      lowest-on-a-tie = refl;
+      two-pages-touched = refl;
+      one-page-touched-twice = refl;
+      collections-in-a-collection = refl;
+    }
