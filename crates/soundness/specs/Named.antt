@@ -1,0 +1,183 @@
+-- A map from the owners of a region to its pages names, for each owner, the valid page that it owns exactly where every word that is
+-- no *none* names such a page and there are as many of these as valid pages. So rules 4 and 6 are decided by three counts.
+use Prim.Native.Nat.{ℕ, _+_, _*_, _-_, _≤_, _<_}
+use mathlib.Core.Path.{_≡_, refl, sym, ap, subst, _∙_}
+use mathlib.Core.Logic.{_≢_}
+use mathlib.Core.Bool.{Bool, true, false, not, _&&_}
+use mathlib.Core.List.{List}
+use native.Mathlib.Nat.{mul-le-mul, mul-le-mul-right}
+use native.Mathlib.Omega.{arith}
+use lib.Dec.{eqb, ltb, leb}
+use borrow.Author.Tests.{eqb-true, eqb-false, eq-eqb, ne-eqb, not-true}
+use Rattle.scope.specs.Counting.{count}
+use Rattle.scope.specs.Geometry.{Geometry, Accepted, most-pages}
+use Rattle.scope.specs.Lent.{none, valid, Entry, Place, Nowhere, decode, state-of, owner-of, is-valid}
+use Rattle.scope.specs.Regions.{Region, Data, Translation, owners, first-page, region-pages, Has-page}
+use Rattle.scope.specs.Sound.{Pages-fit, Owners-differ, Names}
+use Rattle.scope.specs.Laws.Decides.{Decides, by-equal, by-below, by-most, by-same, by-and}
+use Rattle.flash.specs.Cases.{on, same?, clash, and-true, true-and, not-of-false, not-of-true, is-false}
+use Rattle.flash.specs.Counting.{count-same}
+use Rattle.soundness.specs.Counted.{count-into, count-less, count-tight}
+
+-- What rule 1 says of the owners of valid pages.
+abbrev pub Owners-fit : Geometry → Region → List ℕ → Type 0
+Owners-fit g r spare = (p : ℕ) → Has-page g r p → state-of p spare ≡ valid → owner-of p spare < owners g r
+
+pub owners-fit : (g : Geometry) (r : Region) (chip spare : List ℕ) → Pages-fit g r chip spare → Owners-fit g r spare
+owners-fit g r chip spare fit p h v = fit p h .owned (λ e. omega arith)
+
+-- Page p is one of the n pages from `first` on, valid, and owned by k.
+abbrev pub owns : ℕ → ℕ → List ℕ → ℕ → ℕ → Bool
+owns first n spare k p = leb first p && ltb p (first + n) && is-valid p spare && eqb (owner-of p spare) k
+
+-- A word names a page: it is no *none*.
+abbrev pub names-page : ℕ → Bool
+names-page x = not (eqb x none)
+
+-- A region's pages have numbers that are no *none*.
+pub region-small : (g : Geometry) (r : Region) → Accepted g → first-page g r + region-pages g r ≤ most-pages
+region-small g Data acc =
+    omega (arith, mul-le-mul {n₁ = g .D} {m₁ = g .P} {n₂ = 1024} {m₂ = 64} (omega (arith, acc .D+T-to)) (acc .P-to))
+region-small g Translation acc =
+    omega (arith, mul-le-mul {n₁ = g .D + g .T} {m₁ = g .P} {n₂ = 1024} {m₂ = 64} (acc .D+T-to) (acc .P-to), native.Mathlib.Nat.add-mul (g .D) (g .T) (g .P))
+
+module _ (g : Geometry) (r : Region) (spare : List ℕ) where
+  pub owns-decided : (k p : ℕ) → Decides (owns (first-page g r) (region-pages g r) spare k p) (Names g r spare k (Place p))
+  owns-decided k p =
+      by-same
+      (λ x. (x .0 .0, x .0 .1, x .1))
+      (λ x. ((x .0, x .1), x .2))
+      (by-and
+      (by-and (by-and (by-most (first-page g r) p) (by-below p (first-page g r + region-pages g r))) (by-equal (state-of p spare) valid))
+      (by-equal (owner-of p spare) k))
+
+  -- The tests that are counted: of an owner's word, and of a page of the region.
+  abbrev named-at : (ℕ → ℕ) → ℕ → Bool
+  named-at place k = names-page (place k)
+
+  abbrev good-at : (ℕ → ℕ) → ℕ → Bool
+  good-at place k = owns (first-page g r) (region-pages g r) spare k (place k)
+
+  abbrev valid-at : ℕ → Bool
+  valid-at i = is-valid (first-page g r + i) spare
+
+  module _ (small : first-page g r + region-pages g r ≤ most-pages) (place : ℕ → ℕ) where
+    -- A word that names an owner's page is no *none*.
+    good-named : (k : ℕ) → good-at place k ≡ true → named-at place k ≡ true
+    good-named k h =
+        let n = owns-decided k (place k) .holds h in
+        not-of-false (ne-eqb (place k) none (λ e. omega (arith, n .0 .1)))
+
+    -- The page that a good word names, counted from the region's first.
+    offset : ℕ → ℕ
+    offset k = place k - first-page g r
+
+    to-valid : (k : ℕ) → good-at place k ≡ true → (offset k < region-pages g r) × (valid-at (offset k) ≡ true)
+    unfolding offset
+    to-valid k h =
+        let n = owns-decided k (place k) .holds h in
+        let e : first-page g r + (place k - first-page g r) ≡ place k = omega (arith, n .0 .0) in
+        (omega (arith, n .0 .0, n .0 .1), rw e (eq-eqb (state-of (place k) spare) valid (n .1)))
+
+    to-differ : (i j : ℕ) → good-at place i ≡ true → good-at place j ≡ true → offset i ≡ offset j → i ≡ j
+    unfolding offset
+    to-differ i j p q e =
+        let m = owns-decided i (place i) .holds p in
+        let n = owns-decided j (place j) .holds q in
+        let s : place i ≡ place j = omega (arith, m .0 .0, n .0 .0) in
+        sym (m .2) ∙ ap (λ (x : ℕ). owner-of x spare) s ∙ n .2
+
+    -- ---- from the rule to the counts
+
+    module _ (fit : Owners-fit g r spare) (differ : Owners-differ g r spare)
+        (names : (k : ℕ) → k < owners g r → Names g r spare k (decode (place k))) where
+      -- The word of an owner that has a word, and of an owner that has a page.
+      good-of-named : (k : ℕ) → k < owners g r → named-at place k ≡ true → good-at place k ≡ true
+      good-of-named k l h =
+          let e : eqb (place k) none ≡ false = not-true (eqb (place k) none) h in
+          owns-decided k (place k) .passes (rw e at (names k l))
+
+      good-of-page : (p : ℕ) → Has-page g r p → state-of p spare ≡ valid → good-at place (owner-of p spare) ≡ true
+      good-of-page p h v =
+          let l = fit p h v in
+          on (eqb (place (owner-of p spare)) none)
+          (λ e. let n = rw e at (names (owner-of p spare) l) in absurd (n p h v refl))
+          (λ e. good-of-named (owner-of p spare) l (not-of-false e))
+
+      in-region : (i : ℕ) → i < region-pages g r → Has-page g r (first-page g r + i)
+      in-region i h = (omega arith, omega arith)
+
+      pub counts-of-names : (count (owners g r) (named-at place) ≡ count (owners g r) (good-at place))
+          × (count (owners g r) (good-at place) ≡ count (region-pages g r) valid-at)
+      counts-of-names = (
+        count-same (owners g r) (named-at place) (good-at place) (λ k l.
+            on (named-at place k)
+            (λ h. h ∙ sym (good-of-named k l h))
+            (λ h. h ∙ sym (is-false (good-at place k) (λ q. clash (good-named k q) h)))),
+        let up : count (owners g r) (good-at place) ≤ count (region-pages g r) valid-at =
+            count-into (owners g r) (region-pages g r) (good-at place) valid-at offset (λ k l h. to-valid k h) (λ i j k l p q. to-differ i j p q) in
+            let down : count (region-pages g r) valid-at ≤ count (owners g r) (good-at place) =
+            count-into (region-pages g r) (owners g r) valid-at (good-at place) (λ i. owner-of (first-page g r + i) spare)
+            (λ i k h.
+            let v : state-of (first-page g r + i) spare ≡ valid = eqb-true (state-of (first-page g r + i) spare) valid h in
+            (fit (first-page g r + i) (in-region i k) v, good-of-page (first-page g r + i) (in-region i k) v))
+            (λ i j k l p q e. omega (
+              arith,
+              differ (first-page g r + i) (first-page g r + j) (in-region i k) (in-region j l)
+                  (eqb-true (state-of (first-page g r + i) spare) valid p) (eqb-true (state-of (first-page g r + j) spare) valid q) e,
+            )) in
+            omega arith,
+      )
+
+    -- ---- from the counts to the rule
+
+    module _ (all-good : count (owners g r) (named-at place) ≡ count (owners g r) (good-at place))
+        (all-pages : count (owners g r) (good-at place) ≡ count (region-pages g r) valid-at) where
+      good-of-word : (k : ℕ) → k < owners g r → named-at place k ≡ true → good-at place k ≡ true
+      good-of-word = count-tight (owners g r) (good-at place) (named-at place) (λ k l. good-named k) all-good
+
+      -- A valid page is named by its owner's word: else there were fewer good words than valid pages.
+      no-page : (k : ℕ) → place k ≡ none → (p : ℕ) → Has-page g r p → state-of p spare ≡ valid → owner-of p spare ≢ k
+      unfolding offset
+      no-page k e p h v o =
+          let at : ℕ = p - first-page g r in
+          let others : ℕ → Bool = λ i. valid-at i && not (eqb i at) in
+          let is-p : first-page g r + at ≡ p = omega arith in
+          let fewer : count (region-pages g r) others < count (region-pages g r) valid-at =
+          count-less (region-pages g r) others valid-at (λ i l t. and-true (valid-at i) (not (eqb i at)) t .0)
+          at (omega (arith, h .0, h .1))
+          (is-false (others at) (λ t. absurd (eqb-false at at (not-true (eqb at at) (and-true (valid-at at) (not (eqb at at)) t .1)) refl)))
+          (rw is-p (eq-eqb (state-of p spare) valid v)) in
+          let up : count (owners g r) (good-at place) ≤ count (region-pages g r) others =
+          count-into (owners g r) (region-pages g r) (good-at place) others offset
+          (λ i l t.
+          let n = owns-decided i (place i) .holds t in (
+            to-valid i t .0,
+            true-and (to-valid i t .1) (not-of-false (ne-eqb (offset i) at (λ same.
+                let s : place i ≡ p = omega (arith, n .0 .0, h .0) in
+                let i-is : i ≡ k = sym (n .2) ∙ ap (λ (x : ℕ). owner-of x spare) s ∙ o in
+                let s′ : p ≡ none = sym s ∙ ap place i-is ∙ e in
+                omega (arith, h .1)))),
+          ))
+          (λ i j k′ l p′ q. to-differ i j p′ q) in
+          omega arith
+
+      pub names-of-counts : (k : ℕ) → k < owners g r → Names g r spare k (decode (place k))
+      names-of-counts k l =
+          on (eqb (place k) none)
+          (λ e. rw e (no-page k (eqb-true (place k) none e)))
+          (λ e. rw e (owns-decided k (place k) .holds (good-of-word k l (not-of-false e))))
+
+    -- The rule for a whole map is decided by the two comparisons.
+    pub by-counts : Owners-fit g r spare → Owners-differ g r spare
+        → Decides
+        (eqb (count (owners g r) (named-at place)) (count (owners g r) (good-at place))
+        && eqb (count (owners g r) (good-at place)) (count (region-pages g r) valid-at))
+        ((k : ℕ) → k < owners g r → Names g r spare k (decode (place k)))
+    by-counts fit differ =
+        by-same
+        (λ x. names-of-counts (x .0) (x .1))
+        (λ n. counts-of-names fit differ n)
+        (by-and
+        (by-equal (count (owners g r) (named-at place)) (count (owners g r) (good-at place)))
+        (by-equal (count (owners g r) (good-at place)) (count (region-pages g r) valid-at)))
