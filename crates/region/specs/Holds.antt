@@ -2,11 +2,9 @@
 -- one; that block; and a map from owners to places, which for translation pages is the directory (rule 4) and for data pages the
 -- current places (rule 6).
 use Prim.Native.Nat.{ℕ, _+_, _*_, _≤_, _<_}
-use mathlib.Core.Path.{_≡_, refl, sym, ap, _∙_}
+use mathlib.Core.Path.{_≡_, sym, ap, _∙_}
 use mathlib.Core.Logic.{_≢_, _⊎_}
-use mathlib.Core.Bool.{cond}
 use mathlib.Core.List.{List, []}
-use native.Mathlib.Omega.{arith}
 use Rattle.scope.specs.Geometry.{Geometry}
 use Rattle.scope.specs.Regions.{Region, owners, page-in, Has-block, Has-page}
 use Rattle.scope.specs.SmallRecord.{open-block, next-offset}
@@ -75,3 +73,13 @@ module _ (g : Geometry) (r : Region) (chip spare : List ℕ) (opened offset : �
         others = fits .others;
         besides = besides;
       }
+
+-- The valid page that k owns is the one that the map names.
+pub valid-page-named : (g : Geometry) (r : Region) (spare : List ℕ) (view : ℕ → ℕ) (k p : ℕ)
+    → Owners-differ g r spare → Maps g r spare view → k < owners g r
+    → Has-page g r p → state-of p spare ≡ valid → owner-of p spare ≡ k → decode (view k) ≡ Place p
+valid-page-named g r spare view k p differ maps owned here is-valid is-owner = go (decode (view k)) (maps k owned)
+  where
+    go : (e : Entry) → Names g r spare k e → e ≡ Place p
+    go (Place q) (there, valid-q, owner-q) = ap Place (differ q p there here valid-q is-valid (owner-q ∙ sym is-owner))
+    go Nowhere nobody = absurd (nobody p here is-valid is-owner)

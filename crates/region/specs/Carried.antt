@@ -1,0 +1,77 @@
+-- What holds of a region goes on to hold where its pages are as before.
+use Prim.Native.Nat.{ℕ, _<_}
+use mathlib.Core.Path.{_≡_, refl, sym, _∙_}
+use mathlib.Core.Logic.{_≢_, ⊎-elim, inl, inr}
+use mathlib.Core.List.{List}
+use native.Mathlib.Omega.{arith}
+use Rattle.scope.specs.Geometry.{Geometry}
+use Rattle.scope.specs.Regions.{Region, owners, page-in, Has-block, Has-page}
+use Rattle.scope.specs.Lent.{Entry, Place, Nowhere, decode, state-of}
+use Rattle.scope.specs.Sound.{Page-fits, Wholly-erased, Full, Names}
+use Rattle.flash.specs.Pages.{Page-same, page-word}
+use Rattle.flash.specs.Places.{page-in-region}
+use Rattle.flash.specs.SamePages.{Pages-same}
+use Rattle.region.specs.Holds.{Region-fits, Besides, Maps, Region-holds, contents}
+
+-- Rule 1 of one page.
+pub page-fits-same : {g : Geometry} {r : Region} {p : ℕ} {chip spare chip′ spare′ : List ℕ}
+    → Page-same g p chip spare chip′ spare′ → Page-fits g r chip spare p → Page-fits g r chip′ spare′ p
+page-fits-same same fits =
+    record {
+      one-of-three = rw (same .state) (fits .one-of-three);
+      no-owner = λ e. same .owner ∙ fits .no-owner (sym (same .state) ∙ e);
+      no-words = λ e i h. page-word same i h ∙ fits .no-words (sym (same .state) ∙ e) i h;
+      owned = λ e. rw (same .owner) (fits .owned (λ q. e (same .state ∙ q)));
+    }
+
+module _ {g : Geometry} {r : Region} {chip spare chip′ spare′ : List ℕ} (same : Pages-same g r chip spare chip′ spare′) where
+  wholly-erased-same : (b : ℕ) → Has-block g r b → Wholly-erased g spare b → Wholly-erased g spare′ b
+  wholly-erased-same b here h i k = same .page _ (page-in-region g r b i here k) .state ∙ h i k
+
+  full-same : (b : ℕ) → Has-block g r b → Full g spare b → Full g spare′ b
+  full-same b here h i k e = h i k (sym (same .page _ (page-in-region g r b i here k) .state) ∙ e)
+
+  pub region-fits-same : {opened offset : ℕ} → Region-fits g r chip spare opened offset → Region-fits g r chip′ spare′ opened offset
+  region-fits-same {opened} {offset} fits =
+      record {
+        pages-fit = λ p here. page-fits-same (same .page p here) (fits .pages-fit p here);
+        owners-differ = λ p q here there p-valid q-valid e.
+            fits .owners-differ p q here there
+            (sym (same .page p here .state) ∙ p-valid) (sym (same .page q there .state) ∙ q-valid)
+            (sym (same .page p here .owner) ∙ e ∙ same .page q there .owner);
+        in-region = fits .in-region;
+        offset-fits = fits .offset-fits;
+        before-offset = λ i k e.
+            fits .before-offset i k
+            (sym (same .page _ (page-in-region g r opened i (fits .in-region) (omega (arith, fits .offset-fits))) .state) ∙ e);
+        from-offset = λ i k l.
+            same .page _ (page-in-region g r opened i (fits .in-region) k) .state ∙ fits .from-offset i k l;
+        others = λ b here apart.
+            ⊎-elim (λ h. inl (wholly-erased-same b here h)) (λ h. inr (full-same b here h)) (fits .others b here apart);
+      }
+
+  pub besides-same : {opened : ℕ} → Besides g r spare opened → Besides g r spare′ opened
+  besides-same (b, here, apart, empty) = (b, here, apart, wholly-erased-same b here empty)
+
+  pub names-same : (k : ℕ) (e : Entry) → Names g r spare k e → Names g r spare′ k e
+  names-same k (Place p) (here, is-valid, is-owner) =
+      (here, same .page p here .state ∙ is-valid, same .page p here .owner ∙ is-owner)
+  names-same k Nowhere nobody =
+      λ p here is-valid is-owner.
+      nobody p here (sym (same .page p here .state) ∙ is-valid) (sym (same .page p here .owner) ∙ is-owner)
+
+  pub contents-same : (k : ℕ) (e : Entry) → Names g r spare k e → contents g chip′ e ≡ contents g chip e
+  contents-same k (Place p) h = same .page p (h .0) .words
+  contents-same k Nowhere h = refl
+
+  pub maps-same : (view : ℕ → ℕ) → Maps g r spare view → Maps g r spare′ view
+  maps-same view maps k owned = names-same k (decode (view k)) (maps k owned)
+
+  pub holds-same : {opened offset : ℕ} {view : ℕ → ℕ}
+      → Region-holds g r chip spare opened offset view → Region-holds g r chip′ spare′ opened offset view
+  holds-same {view = view} holds =
+      record {
+        fits = region-fits-same (holds .fits);
+        besides = besides-same (holds .besides);
+        maps = maps-same view (holds .maps);
+      }
