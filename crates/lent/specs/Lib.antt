@@ -1,3 +1,4 @@
--- The models of the numbers that travel by value, and the shape of every step's contract.
+-- The models of the numbers that travel by value, what a decoded word says, and the shape of every step's contract.
 pub mod Model
 pub mod Does
+pub mod Decoded

@@ -1,5 +1,8 @@
 // The numbers that travel by value: the geometry, the small record, the counts, and an entry taken apart. Their models, and the
 // shape of every step's contract, stand in specs/.
+ghost use mathlib.Core.Path.{_≡_};
+ghost use Rattle.scope.specs.Lent.{decode};
+ghost use Rattle.lent.specs.Model.{entry};
 
 // The six numbers of a geometry.
 pub struct Geometry {
@@ -31,4 +34,15 @@ pub struct Counts {
 pub enum Entry {
     Place(u32),
     Nowhere,
+}
+
+// A word as an entry.
+pub fn decode(x: u32) -> Entry
+    ensures { λ r. ⌜ entry r ≡ decode x ⌝ }
+{
+    if x == 4294967295 {
+        Entry::Nowhere
+    } else {
+        Entry::Place(x)
+    }
 }
