@@ -1,4 +1,6 @@
 -- The modules of this crate.
+pub mod Bools
 pub mod Bitmap
+pub mod Seen
 pub mod Counted
 pub mod Named

@@ -1,0 +1,29 @@
+-- Equations between tests.
+use Prim.Native.Nat.{ℕ, zero, suc}
+use mathlib.Core.Path.{_≡_, refl, sym}
+use mathlib.Core.Bool.{Bool, true, false, not, _&&_, _||_}
+use lib.Dec.{eqb}
+use borrow.Author.Tests.{eqb-true, eq-eqb}
+use Rattle.scope.specs.Counting.{all, some}
+use Rattle.flash.specs.Cases.{clash, is-false}
+
+-- Two tests that pass together are equal; a sum of none.
+pub same-test : (a b : Bool) → (a ≡ true → b ≡ true) → (b ≡ true → a ≡ true) → a ≡ b
+same-test true b f g = sym (f refl)
+same-test false b f g = sym (is-false b (λ p. clash (g p) refl))
+
+pub or-none : (a : Bool) {b : Bool} → b ≡ false → a || b ≡ a
+or-none true p = refl
+or-none false p = p
+
+pub eqb-sym : (a b : ℕ) → eqb a b ≡ eqb b a
+eqb-sym a b = same-test (eqb a b) (eqb b a) (λ p. eq-eqb b a (sym (eqb-true a b p))) (λ p. eq-eqb a b (sym (eqb-true b a p)))
+
+-- Each fails where none passes.
+and-not : (a b : Bool) → not a && not b ≡ not (a || b)
+and-not true b = refl
+and-not false b = refl
+
+pub all-not-some : (n : ℕ) (f h : ℕ → Bool) → ((j : ℕ) → f j ≡ not (h j)) → all n f ≡ not (some n h)
+all-not-some zero f h e = refl
+all-not-some (suc n) f h e = rw (all-not-some n f h e, e n) (and-not (some n h) (h n))
