@@ -1,22 +1,23 @@
--- The three demands, as statements about the definitions of document 01. Beside those definitions a reader needs `cost` and `Allows`
--- of crate flash and what stands here: a list of calls, the store that a program may remember from them, and the demands themselves.
+-- The three demands, as statements about the definitions of document 01. Beside those definitions a reader needs `cost`, `Allowed`
+-- and `Clears-each` of crate flash, three recursions over a list of operations, and what stands here: a list of calls, the store
+-- that a program may remember from them, and the demands themselves.
 -- Kept.antt has the theorems: `demand-1`, `demand-2` and `demand-3`.
 use Prim.Native.Nat.{ℕ, zero, suc, _+_, _*_, _≤_, _<_}
 use mathlib.Core.Path.{_≡_}
 use mathlib.Core.Logic.{_≢_, _↔_, _⊎_}
 use mathlib.Core.Bool.{Bool, true, false, cond, _&&_}
 use mathlib.Core.List.{List, [], _∷_, _++_}
-use lib.Bits.{bitAnd}
 use lib.Dec.{eqb}
 use lib.ListN.{length, getD}
-use Rattle.scope.specs.Geometry.{Geometry, Accepted, pages, blocks}
+use Rattle.scope.specs.Geometry.{Geometry, Accepted}
 use Rattle.scope.specs.Lent.{none, valid, Entry, Place, Nowhere, decode, State, Request, most-requests, words-of, state-of, owner-of}
 use Rattle.scope.specs.Regions.{Data, Has-page}
 use Rattle.scope.specs.Sound.{Sound, Written, current}
-use Rattle.scope.specs.Operations.{Operation, Read, Program, Mark, Erase, Outcome, Counts, counted, apply}
+use Rattle.scope.specs.Operations.{Operation, Outcome}
 use Rattle.scope.specs.Replies.{DONE, UNWRITTEN, GEOMETRY, LENGTH, DAMAGED, KIND, PAGE, Size}
 use Rattle.scope.specs.Calls.{state-sizes, buffer-sizes, run-sizes, RunReplied, run-replied, part, no-request, serve-record, serve-records, format, check, read, write, run}
-use Rattle.flash.specs.Listed.{cost, Allows}
+use Rattle.flash.specs.Listed.{cost, Allowed}
+use Rattle.flash.specs.Clearing.{Clears-each}
 
 -- ---- Demand 1: refusals
 
@@ -234,23 +235,6 @@ pub record Demand-2 (g : Geometry) (s : State) (calls : List Call) : Type 0 wher
 
 -- ---- Demand 3: bounds, flash discipline, soundness
 
--- "A change other than an erase only clears bits."
-abbrev pub Clears : ℕ → ℕ → Type 0
-Clears old new = bitAnd new old ≡ new
-
-abbrev pub Disciplined : Geometry → Operation → State → Type 0
-Disciplined g (Erase b) s = Unit {0}
-Disciplined g (Read p) s = (q : ℕ) → q < pages g → Clears (state-of q (s .spare)) (state-of q (apply g (Read p) s .spare))
-Disciplined g (Program p owner words) s =
-    Allows g (Program p owner words) (s .spare)
-    × ((q : ℕ) → q < pages g → Clears (state-of q (s .spare)) (state-of q (apply g (Program p owner words) s .spare)))
-Disciplined g (Mark p) s = (q : ℕ) → q < pages g → Clears (state-of q (s .spare)) (state-of q (apply g (Mark p) s .spare))
-
--- Each operation at its moment.
-abbrev pub All-disciplined : Geometry → List Operation → State → Type 0
-All-disciplined g [] s = Unit {0}
-All-disciplined g (o ∷ os) s = Disciplined g o s × All-disciplined g os (apply g o s)
-
 -- "The valid data pages are one for each written logical page."
 pub record One-for-each (g : Geometry) (s : State) : Type 0 where
   pub page-of : (l : ℕ) → l < g .L → Written g s l → (p : ℕ) × Has-page g Data p × (state-of p (s .spare) ≡ valid) × (owner-of p (s .spare) ≡ l)
@@ -277,7 +261,9 @@ pub record Demand-3 (g : Geometry) (s : State) (calls : List Call) : Type 0 wher
   pub sound : Sound g (after-calls g calls s)
   pub lengths-kept : Right (state-sizes g (after-calls g calls s))
   pub one-for-each : One-for-each g (after-calls g calls s)
-  pub disciplined : (c : Call) → All-disciplined g (make g c (after-calls g calls s) .did) (after-calls g calls s)
+  -- Each program of a further call is of a page that is erased at that moment, and "a change other than an erase only clears bits".
+  pub allowed : (c : Call) → Allowed g (make g c (after-calls g calls s) .did) (after-calls g calls s)
+  pub clears : (c : Call) → Clears-each g (make g c (after-calls g calls s) .did) (after-calls g calls s)
   pub reads-well : (l : ℕ) (buffer : List ℕ) → l < g .L → Right (buffer-sizes g buffer) →
       let o = read g true l buffer (after-calls g calls s) in
       Reads-well g (o .value .reply) (o .did)

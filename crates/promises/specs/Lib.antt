@@ -5,3 +5,5 @@ pub mod Reasons
 pub mod Refusals
 pub mod Index
 pub mod Formatted
+pub mod Records
+pub mod Demand1
