@@ -88,11 +88,6 @@ entry-of-after i m j cache h =
     let e : i * entry-words + entry-words + m * entry-words ≡ j * entry-words = omega arith in
     ap (take entry-words) (drop-drop (m * entry-words) (i * entry-words + entry-words) cache) ∙ ap (λ k. take entry-words (drop k cache)) e
 
--- A new place for the entry at a rank, and changed: its logical page is stored anew as it was.
-pub new-place : (i place : ℕ) (cache : List ℕ)
-    → sets cache (i * entry-words + 1) (place ∷ 1 ∷ []) ≡ put i (record { logical = logical-at i cache; physical = place; changed = 1 }) cache
-new-place i place cache = rw (add-one, set-getD)
-
 -- ---- the two changes, at a rank below the number n of entries
 
 pub record Stores (n i : ℕ) (e : CacheEntry) (cache cache′ : List ℕ) : Type 0 where
@@ -153,6 +148,13 @@ module _ (n : ℕ) (cache : List ℕ) (long : length cache ≡ n * entry-words) 
           here = entry-is i (put i e cache) e put-words;
           elsewhere = put-elsewhere;
         }
+
+  -- A new place for the entry at rank i, and changed: its logical page is stored anew as it was.
+  pub place-stores : (l place : ℕ) → logical-at i cache ≡ l
+      → Stores n i (record { logical = l; physical = place; changed = 1 }) cache (sets cache (i * entry-words + 1) (place ∷ 1 ∷ []))
+  place-stores l place q =
+      rw (add-one, ← q)
+      (rw (set-getD cache (i * entry-words) none) at (put-stores (record { logical = logical-at i cache; physical = place; changed = 1 })))
 
   -- The entry at rank i comes to the front, and those before it are one rank further back.
   length-entry : length (entry-at i cache) ≡ entry-words

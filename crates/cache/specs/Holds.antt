@@ -21,6 +21,9 @@ pub data Found : Type 0 where
   Hit : ℕ → ℕ → Found
   Miss : Found
 
+pub hit-is-no-miss : {p c : ℕ} → Hit p c ≢ Miss
+hit-is-no-miss e = let z : _≡_ {A = ℕ} 0 1 = cc in omega arith
+
 unfoldable pub lookup : Geometry → List ℕ → ℕ → ℕ → Found
 lookup g cache used l =
     let i = rank-of g cache used l in
@@ -31,15 +34,23 @@ abbrev pub updated : {X : Type 0} → (ℕ → X) → ℕ → X → ℕ → X
 updated m l x k = cond (eqb k l) x (m k)
 
 -- A cache of the right size that keeps rule 5 and whose entries in use are what `m` says.
-pub record Holds (g : Geometry) (cache : List ℕ) (used : ℕ) (m : ℕ → Found) : Type 0 where
+pub record Cache-holds (g : Geometry) (cache : List ℕ) (used : ℕ) (m : ℕ → Found) : Type 0 where
   pub long : length cache ≡ cache-size g
   pub fits : Entries-fit g cache used
   pub hits : (i : ℕ) → i < used → m (logical-at i cache) ≡ Hit (physical-at i cache) (changed-at i cache)
   pub misses : (l : ℕ) → Not-cached cache used l → m l ≡ Miss
 
+-- The entry in use for a page, by its rank and its other two words.
+pub record Hit-at (cache : List ℕ) (used l place c : ℕ) : Type 0 where
+  pub rank : ℕ
+  pub in-use : rank < used
+  pub logical : logical-at rank cache ≡ l
+  pub physical : physical-at rank cache ≡ place
+  pub changed : changed-at rank cache ≡ c
+
 -- It holds what is looked up in it, and nothing else.
 pub holds-lookup : (g : Geometry) (cache : List ℕ) (used : ℕ) → length cache ≡ cache-size g → Entries-fit g cache used
-    → Holds g cache used (lookup g cache used)
+    → Cache-holds g cache used (lookup g cache used)
 unfolding lookup
 holds-lookup g cache used long fits =
     record {
@@ -52,7 +63,7 @@ holds-lookup g cache used long fits =
     }
 
 -- The map that a cache holds is the one that is looked up in it.
-pub holds-found : (g : Geometry) (cache : List ℕ) (used : ℕ) (m : ℕ → Found) → Holds g cache used m → (l : ℕ) → lookup g cache used l ≡ m l
+pub holds-found : (g : Geometry) (cache : List ℕ) (used : ℕ) (m : ℕ → Found) → Cache-holds g cache used m → (l : ℕ) → lookup g cache used l ≡ m l
 unfolding lookup
 holds-found g cache used m h l =
     let i = rank-of g cache used l in
@@ -61,6 +72,23 @@ holds-found g cache used m h l =
     rw (lt-ltb i (g .C) k) (sym (h .hits i (r .in-use)) ∙ ap m (r .is-l)))
     (λ k. rw (le-ltb i (g .C) k) (sym (h .misses l (rank-missing g cache used l (h .fits .at-most) k))))
 
+module _ (g : Geometry) (cache : List ℕ) (used : ℕ) (m : ℕ → Found) (h : Cache-holds g cache used m) where
+  -- A page that the map misses has no entry; one that it hits has one, and is a logical page.
+  pub miss-not-cached : (l : ℕ) → m l ≡ Miss → Not-cached cache used l
+  miss-not-cached l e i k q = hit-is-no-miss (sym (h .hits i k) ∙ ap m q ∙ e)
+
+  pub hit-at : (l place c : ℕ) → m l ≡ Hit place c → Hit-at cache used l place c
+  hit-at l place c e =
+      cached? g cache used l (h .fits .at-most)
+      (λ r.
+      let i = rank-of g cache used l in
+      let q : Hit (physical-at i cache) (changed-at i cache) ≡ Hit place c = sym (h .hits i (r .in-use)) ∙ ap m (r .is-l) ∙ e in
+      record { rank = i; in-use = r .in-use; logical = r .is-l; physical = cc; changed = cc })
+      (λ n. absurd (hit-is-no-miss (sym e ∙ h .misses l n)))
+
+  pub hit-below-L : (l place c : ℕ) → m l ≡ Hit place c → l < g .L
+  hit-below-L l place c e = let a = hit-at l place c e in rw (a .logical) at (h .fits .below-L (a .rank) (a .in-use))
+
 -- What is said of an entry in use, and of an unused one.
 abbrev pub Says : (ℕ → Found) → CacheEntry → Type 0
 Says m e = m (e .logical) ≡ Hit (e .physical) (e .changed)
@@ -68,13 +96,13 @@ Says m e = m (e .logical) ≡ Hit (e .physical) (e .changed)
 abbrev pub Unused : CacheEntry → Type 0
 Unused e = (e .logical ≡ none) × (e .physical ≡ none) × (e .changed ≡ none)
 
-updated-here : {X : Type 0} (m : ℕ → X) (l : ℕ) (x : X) → updated m l x l ≡ x
+pub updated-here : {X : Type 0} (m : ℕ → X) (l : ℕ) (x : X) → updated m l x l ≡ x
 updated-here m l x = rw (eq-eqb l l refl)
 
-updated-elsewhere : {X : Type 0} (m : ℕ → X) (l : ℕ) (x : X) (k : ℕ) → k ≢ l → updated m l x k ≡ m k
+pub updated-elsewhere : {X : Type 0} (m : ℕ → X) (l : ℕ) (x : X) (k : ℕ) → k ≢ l → updated m l x k ≡ m k
 updated-elsewhere m l x k h = rw (ne-eqb k l h)
 
-module _ (g : Geometry) (cache : List ℕ) (used : ℕ) (m : ℕ → Found) (h : Holds g cache used m) where
+module _ (g : Geometry) (cache : List ℕ) (used : ℕ) (m : ℕ → Found) (h : Cache-holds g cache used m) where
   -- An entry is stored at a rank that is in use afterwards, as the others were before; no other one in use has its logical page,
   -- and the one that stood there, if it was in use, had the same.
   stored-holds : (i : ℕ) (e : CacheEntry) (cache′ : List ℕ) (used′ : ℕ) → Stores (g .C) i e cache cache′
@@ -83,7 +111,7 @@ module _ (g : Geometry) (cache : List ℕ) (used : ℕ) (m : ℕ → Found) (h :
       → ((j : ℕ) → j < used → j ≢ i → logical-at j cache ≢ e .logical)
       → (i < used → logical-at i cache ≡ e .logical)
       → e .logical < g .L → e .changed ≤ 1
-      → Holds g cache′ used′ (updated m (e .logical) (Hit (e .physical) (e .changed)))
+      → Cache-holds g cache′ used′ (updated m (e .logical) (Hit (e .physical) (e .changed)))
   stored-holds i e cache′ used′ st k grows most others alone same below small =
       record {
         long = st .long;
@@ -126,7 +154,7 @@ module _ (g : Geometry) (cache : List ℕ) (used : ℕ) (m : ℕ → Found) (h :
   -- The entry at a rank in use has another place and changed word, its logical page kept.
   pub changed-holds : (i : ℕ) (e : CacheEntry) (cache′ : List ℕ) → Stores (g .C) i e cache cache′ → i < used
       → e .logical ≡ logical-at i cache → e .changed ≤ 1
-      → Holds g cache′ used (updated m (e .logical) (Hit (e .physical) (e .changed)))
+      → Cache-holds g cache′ used (updated m (e .logical) (Hit (e .physical) (e .changed)))
   changed-holds i e cache′ st k same small =
       stored-holds i e cache′ used st k (omega arith) (h .fits .at-most) (λ j u q. u)
       (λ j u q r. q (h .fits .different j i u k (r ∙ same))) (λ u. sym same)
@@ -135,14 +163,14 @@ module _ (g : Geometry) (cache : List ℕ) (used : ℕ) (m : ℕ → Found) (h :
   -- An entry for a page that is not cached is stored at the first unused rank.
   pub added-holds : (e : CacheEntry) (cache′ : List ℕ) → Stores (g .C) used e cache cache′ → used < g .C
       → Not-cached cache used (e .logical) → e .logical < g .L → e .changed ≤ 1
-      → Holds g cache′ (suc used) (updated m (e .logical) (Hit (e .physical) (e .changed)))
+      → Cache-holds g cache′ (suc used) (updated m (e .logical) (Hit (e .physical) (e .changed)))
   added-holds e cache′ st room new below small =
       stored-holds used e cache′ (suc used) st (omega arith) (omega arith) room (λ j u q. omega arith)
       (λ j u q. new j u) (λ u. absurd (omega arith)) below small
 
   -- The last entry in use becomes an unused one.
   pub dropped-holds : (i : ℕ) (e : CacheEntry) (cache′ : List ℕ) → Stores (g .C) i e cache cache′ → suc i ≡ used → Unused e
-      → Holds g cache′ i (updated m (logical-at i cache) Miss)
+      → Cache-holds g cache′ i (updated m (logical-at i cache) Miss)
   dropped-holds i e cache′ st last-one unused =
       record {
         long = st .long;

@@ -3,3 +3,6 @@ pub mod Entries
 pub mod Ranks
 pub mod Holds
 pub mod Order
+pub mod Changes
+pub mod Steps
+pub mod Current

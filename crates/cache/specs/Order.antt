@@ -11,7 +11,7 @@ use Rattle.flash.specs.Cases.{same?, below?}
 use Rattle.scope.specs.Geometry.{Geometry}
 use Rattle.scope.specs.Lent.{cache-size, logical-at}
 use Rattle.cache.specs.Entries.{CacheEntry, entry, to-front, rank-before, length-to-front, to-front-entry}
-use Rattle.cache.specs.Holds.{Found, Holds, Says, Unused}
+use Rattle.cache.specs.Holds.{Found, Cache-holds, Says, Unused}
 
 -- The entries in use stand in another order, and the unused ones where they stood. `from` is the rank that the one now at a rank
 -- had, and `to` the rank that it has now.
@@ -26,7 +26,7 @@ pub record Reordered (g : Geometry) (used : ℕ) (cache cache′ : List ℕ) : T
   pub stayed : (j : ℕ) → j < g .C → used ≤ j → entry j cache′ ≡ entry j cache
 
 pub reordered-holds : (g : Geometry) (cache cache′ : List ℕ) (used : ℕ) (m : ℕ → Found)
-    → Holds g cache used m → length cache′ ≡ cache-size g → Reordered g used cache cache′ → Holds g cache′ used m
+    → Cache-holds g cache used m → length cache′ ≡ cache-size g → Reordered g used cache cache′ → Cache-holds g cache′ used m
 reordered-holds g cache cache′ used m h long r =
     record {
       long = long;
@@ -106,8 +106,8 @@ front-reorders g cache used i long most h =
       stayed = λ j k u. to-front-entry (g .C) cache long i (omega arith) j ∙ ap (λ x. entry x cache) (rank-before-above i j (omega arith));
     }
 
-pub front-holds : (g : Geometry) (cache : List ℕ) (used : ℕ) (m : ℕ → Found) (i : ℕ) → Holds g cache used m → i < used
-    → Holds g (to-front i cache) used m
+pub front-holds : (g : Geometry) (cache : List ℕ) (used : ℕ) (m : ℕ → Found) (i : ℕ) → Cache-holds g cache used m → i < used
+    → Cache-holds g (to-front i cache) used m
 front-holds g cache used m i h k =
     reordered-holds g cache (to-front i cache) used m h (length-to-front (g .C) cache (h .long) i (omega (arith, h .fits .at-most)))
     (front-reorders g cache used i (h .long) (h .fits .at-most) k)

@@ -1,0 +1,72 @@
+-- What the cache holds after each change that scope's Cache.antt makes to its words, and which rank has the page that it is about.
+use Prim.Native.Nat.{ℕ, suc, _+_, _*_, _<_}
+use native.Mathlib.Omega.{arith}
+use mathlib.Core.Path.{_≡_, refl, ap, sym, _∙_}
+use mathlib.Core.List.{List, [], _∷_, _++_}
+use lib.Seq.{sets}
+use Rattle.flash.specs.Cases.{same?}
+use Rattle.scope.specs.Geometry.{Geometry}
+use Rattle.scope.specs.Lent.{none, entry-words, logical-at}
+use Rattle.scope.specs.Cache.{without}
+use Rattle.cache.specs.Entries.{CacheEntry, put, to-front, Stores, put-stores, to-front-entry, new-in-front, place-stores}
+use Rattle.cache.specs.Ranks.{Has-rank}
+use Rattle.cache.specs.Holds.{Found, Hit, Miss, updated, Cache-holds, miss-not-cached, changed-holds, added-holds, dropped-holds}
+use Rattle.cache.specs.Order.{front-holds}
+
+-- A cache that holds m, and in which logical page l has rank i.
+pub record Holds-at (g : Geometry) (cache : List ℕ) (used : ℕ) (m : ℕ → Found) (l i : ℕ) : Type 0 where
+  pub holds : Cache-holds g cache used m
+  pub rank : Has-rank cache used l i
+
+-- "A cached entry moves to the front."
+pub touched-holds : (g : Geometry) (cache : List ℕ) (used : ℕ) (m : ℕ → Found) → Cache-holds g cache used m
+    → (l i : ℕ) → Has-rank cache used l i → Holds-at g (to-front i cache) used m l 0
+touched-holds g cache used m h l i r =
+    record {
+      holds = front-holds g cache used m i h (r .in-use);
+      rank =
+          record {
+            in-use = omega (arith, r .in-use);
+            is-l = ap (λ e. e .logical) (to-front-entry (g .C) cache (h .long) i (omega (arith, r .in-use, h .fits .at-most)) 0) ∙ r .is-l;
+          };
+    }
+
+module _ (g : Geometry) (cache : List ℕ) (used : ℕ) (m : ℕ → Found) (h : Cache-holds g cache used m) where
+  -- "Put the entry in front, unchanged": it is stored behind those in use, and comes to the front.
+  pub entered-holds : (l place : ℕ) → used < g .C → m l ≡ Miss → l < g .L
+      → Holds-at g (l ∷ place ∷ 0 ∷ without used cache) (suc used) (updated m l (Hit place 0)) l 0
+  entered-holds l place room miss below =
+      rw (new-in-front (g .C) cache (h .long) used room e)
+      (touched-holds g (put used e cache) (suc used) (updated m l (Hit place 0))
+      (added-holds g cache used m h e (put used e cache) stores room (miss-not-cached g cache used m h l miss) below (omega arith))
+      l used (record { in-use = omega arith; is-l = ap (λ x. x .logical) (stores .here) }))
+    where
+      e : CacheEntry
+      e = record { logical = l; physical = place; changed = 0 }
+
+      stores : Stores (g .C) used e cache (put used e cache)
+      stores = put-stores (g .C) cache (h .long) used room e
+
+  -- "Drop the last": its entry "becomes an unused one, *none* throughout".
+  pub forgotten-holds : (i : ℕ) → suc i ≡ used
+      → Cache-holds g (sets cache (i * entry-words) (none ∷ none ∷ none ∷ [])) i (updated m (logical-at i cache) Miss)
+  forgotten-holds i last =
+      dropped-holds g cache used m h i e (put i e cache)
+      (put-stores (g .C) cache (h .long) i (omega (arith, h .fits .at-most)) e) last (refl, refl, refl)
+    where
+      e : CacheEntry
+      e = record { logical = none; physical = none; changed = none }
+
+  -- "Its entry takes the new place and is changed, with its rank kept": each rank has the logical page that it had.
+  module _ (l i place : ℕ) (r : Has-rank cache used l i) where
+    placed-stores : Stores (g .C) i (record { logical = l; physical = place; changed = 1 }) cache (sets cache (i * entry-words + 1) (place ∷ 1 ∷ []))
+    placed-stores = place-stores (g .C) cache (h .long) i (omega (arith, r .in-use, h .fits .at-most)) l place (r .is-l)
+
+    pub placed-holds : Cache-holds g (sets cache (i * entry-words + 1) (place ∷ 1 ∷ [])) used (updated m l (Hit place 1))
+    placed-holds =
+        changed-holds g cache used m h i (record { logical = l; physical = place; changed = 1 })
+        (sets cache (i * entry-words + 1) (place ∷ 1 ∷ [])) placed-stores (r .in-use) (sym (r .is-l)) (omega arith)
+
+    pub placed-ranks : (j : ℕ) → logical-at j (sets cache (i * entry-words + 1) (place ∷ 1 ∷ [])) ≡ logical-at j cache
+    placed-ranks j =
+        same? j i (λ q. rw q (ap (λ x. x .logical) (placed-stores .here) ∙ sym (r .is-l))) (λ q. ap (λ x. x .logical) (placed-stores .elsewhere j q))

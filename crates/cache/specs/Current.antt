@@ -1,0 +1,127 @@
+-- Current places and rule 7, by what the cache holds and what flash stores: what each change of either does to them.
+use Prim.Native.Nat.{ℕ, suc, _≤_, _<_}
+use native.Mathlib.Omega.{arith}
+use mathlib.Core.Path.{_≡_, refl, ap, sym, _∙_, subst}
+use mathlib.Core.Logic.{_≢_}
+use mathlib.Core.Bool.{cond, false}
+use mathlib.Core.List.{List}
+use borrow.Author.Tests.{eqb-false, lt-ltb, le-ltb}
+use Rattle.flash.specs.Cases.{same?, below?}
+use Rattle.scope.specs.Geometry.{Geometry}
+use Rattle.scope.specs.Lent.{State, logical-at, physical-at, changed-at}
+use Rattle.scope.specs.Operations.{Outcome}
+use Rattle.scope.specs.Cache.{is-changed, touch, enter, forget, set-entry}
+use Rattle.scope.specs.Sound.{Entries-fit, rank-of, stored, current, Unchanged-agree}
+use Rattle.cache.specs.Ranks.{Has-rank, Not-cached, rank-found, rank-missing}
+use Rattle.cache.specs.Holds.{Found, Hit, Miss, updated, updated-here, updated-elsewhere, Cache-holds, hit-at, hit-is-no-miss}
+use Rattle.cache.specs.Steps.{Holds-in, Cache-step, touch-law, enter-law, forget-law, set-entry-law}
+
+-- "The cache's if l is cached, else the translation page's word."
+abbrev pub place-or : ℕ → Found → ℕ
+place-or word (Hit place changed) = place
+place-or word Miss = word
+
+-- Rule 7, of a map and of what flash stores.
+abbrev pub Agrees : (ℕ → Found) → (ℕ → ℕ) → Type 0
+Agrees m word = (l place : ℕ) → m l ≡ Hit place 0 → place ≡ word l
+
+-- What flash stores in a state.
+abbrev pub stored-in : Geometry → State → ℕ → ℕ
+stored-in g s = stored g (s .chip) (s .directory)
+
+module _ (g : Geometry) (s : State) (m : ℕ → Found) (h : Holds-in g s m) where
+  pub current-is : (l : ℕ) → current g s l ≡ place-or (stored-in g s l) (m l)
+  unfolding current
+  current-is l =
+      let i = rank-of g (s .cache) (s .small .used) l in
+      below? i (g .C)
+      (λ k. let r = rank-found g (s .cache) (s .small .used) l k in
+      rw (lt-ltb i (g .C) k) (ap (place-or (stored-in g s l)) (sym (h .hits i (r .in-use)) ∙ ap m (r .is-l))))
+      (λ k. rw (le-ltb i (g .C) k) (ap (place-or (stored-in g s l)) (sym (h .misses l (rank-missing g (s .cache) (s .small .used) l (h .fits .at-most) k)))))
+
+  pub agree-maps : Unchanged-agree g s → Agrees m (stored-in g s)
+  agree-maps seven l place e =
+      let a = hit-at g (s .cache) (s .small .used) m h l place 0 e in
+      sym (a .physical) ∙ seven (a .rank) (omega (arith, a .in-use, h .fits .at-most)) (a .in-use) (a .changed) ∙ ap (stored-in g s) (a .logical)
+
+  pub maps-agree : Agrees m (stored-in g s) → Unchanged-agree g s
+  maps-agree a i c u z = a (logical-at i (s .cache)) (physical-at i (s .cache)) (h .hits i u ∙ ap (Hit (physical-at i (s .cache))) z)
+
+-- ---- steps of the cache
+
+-- Every current place is as it was, and rule 7 holds.
+pub record Places-kept (g : Geometry) (s s′ : State) : Type 0 where
+  pub places : (l : ℕ) → l < g .L → current g s′ l ≡ current g s l
+  pub agree : Unchanged-agree g s′
+
+-- The current place of l is now `place`; the others are as they were, and rule 7 holds.
+pub record Place-set (g : Geometry) (l place : ℕ) (s s′ : State) : Type 0 where
+  pub here : current g s′ l ≡ place
+  pub elsewhere : (k : ℕ) → k < g .L → k ≢ l → current g s′ k ≡ current g s k
+  pub agree : Unchanged-agree g s′
+
+-- Where l already had the place, nothing is set.
+pub set-keeps-places : (g : Geometry) (l place : ℕ) (s s′ : State) → Place-set g l place s s′ → current g s l ≡ place → Places-kept g s s′
+set-keeps-places g l place s s′ a e =
+    record {
+      places = λ k b. same? k l (λ q. rw q (a .here ∙ sym e)) (λ q. a .elsewhere k b q);
+      agree = a .agree;
+    }
+
+module _ (g : Geometry) {A : Type 0} (s : State) (o : Outcome A) (used : ℕ) (m : ℕ → Found) (step : Cache-step g s o used m) where
+  -- A step of the cache alone leaves what flash stores, so that only the map decides.
+  step-stored : (l : ℕ) → stored-in g (o .after) l ≡ stored-in g s l
+  step-stored l = rw (step .flash .chip, step .directory)
+
+  pub step-current : (l : ℕ) → current g (o .after) l ≡ place-or (stored-in g s l) (m l)
+  step-current l = current-is g (o .after) m (step .holds) l ∙ ap (λ w. place-or w (m l)) (step-stored l)
+
+  pub step-agree : Agrees m (stored-in g s) → Unchanged-agree g (o .after)
+  step-agree a = maps-agree g (o .after) m (step .holds) (λ l place e. a l place e ∙ sym (step-stored l))
+
+module _ (g : Geometry) (s : State) (m : ℕ → Found) (h : Holds-in g s m) (seven : Unchanged-agree g s) where
+  agrees : Agrees m (stored-in g s)
+  agrees = agree-maps g s m h seven
+
+  -- The map stays, as where an entry is touched.
+  pub same-keeps-places : {A : Type 0} (o : Outcome A) (used : ℕ) → Cache-step g s o used m → Places-kept g s (o .after)
+  same-keeps-places o used step =
+      record {
+        places = λ l b. step-current g s o used m step l ∙ sym (current-is g s m h l);
+        agree = step-agree g s o used m step agrees;
+      }
+
+  -- The answer for l changes: rule 7 asks of the new one what it asks of every entry.
+  updated-sets-place : {A : Type 0} (o : Outcome A) (used l : ℕ) (new : Found) → Cache-step g s o used (updated m l new)
+      → ((place : ℕ) → new ≡ Hit place 0 → place ≡ stored-in g s l) → Place-set g l (place-or (stored-in g s l) new) s (o .after)
+  updated-sets-place o used l new step fits =
+      record {
+        here = step-current g s o used (updated m l new) step l ∙ ap (place-or (stored-in g s l)) (updated-here m l new);
+        elsewhere = λ k b d. step-current g s o used (updated m l new) step k
+            ∙ ap (place-or (stored-in g s k)) (updated-elsewhere m l new k d) ∙ sym (current-is g s m h k);
+        agree = step-agree g s o used (updated m l new) step (λ k place e. same? k l
+            (λ q. fits place (sym (updated-here m l new) ∙ ap (updated m l new) (sym q) ∙ e) ∙ ap (stored-in g s) (sym q))
+            (λ q. agrees k place (sym (updated-elsewhere m l new k q) ∙ e)));
+      }
+
+  -- What flash stores for l enters the cache, unchanged.
+  pub enter-keeps-places : {A : Type 0} (o : Outcome A) (used l : ℕ) → Cache-step g s o used (updated m l (Hit (stored-in g s l) 0))
+      → m l ≡ Miss → Places-kept g s (o .after)
+  enter-keeps-places o used l step miss =
+      set-keeps-places g l (stored-in g s l) s (o .after)
+      (updated-sets-place o used l (Hit (stored-in g s l) 0) step (λ place e. cc))
+      (current-is g s m h l ∙ ap (place-or (stored-in g s l)) miss)
+
+  -- What flash stores for l leaves the cache.
+  pub forget-keeps-places : {A : Type 0} (o : Outcome A) (used l c : ℕ) → Cache-step g s o used (updated m l Miss)
+      → m l ≡ Hit (stored-in g s l) c → Places-kept g s (o .after)
+  forget-keeps-places o used l c step hit =
+      set-keeps-places g l (stored-in g s l) s (o .after)
+      (updated-sets-place o used l Miss step (λ place e. absurd (hit-is-no-miss (sym e))))
+      (current-is g s m h l ∙ ap (place-or (stored-in g s l)) hit)
+
+  -- Another place for l, changed.
+  pub set-entry-sets-place : {A : Type 0} (o : Outcome A) (used l place : ℕ) → Cache-step g s o used (updated m l (Hit place 1))
+      → Place-set g l place s (o .after)
+  set-entry-sets-place o used l place step =
+      updated-sets-place o used l (Hit place 1) step (λ p e. let z : _≡_ {A = ℕ} 1 0 = cc in absurd (omega arith))
