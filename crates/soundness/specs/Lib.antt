@@ -4,3 +4,5 @@ pub mod Bitmap
 pub mod Seen
 pub mod Counted
 pub mod Named
+pub mod Reads
+pub mod Tally

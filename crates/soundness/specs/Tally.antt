@@ -1,0 +1,53 @@
+-- What the counts of src/tally.rt say, of one word and of a list of words.
+use Prim.Native.Nat.{ℕ, zero, suc, _+_, _≤_, _<_}
+use native.Mathlib.Omega.{arith}
+use native.Mathlib.Numerals.{add-one}
+use mathlib.Core.Path.{_≡_, refl, ap, sym, _∙_}
+use mathlib.Core.Bool.{Bool, true, false, cond}
+use mathlib.Core.List.{List}
+use lib.Dec.{leb, ltb}
+use lib.ListN.{length, getD}
+use borrow.Author.Tests.{le-leb, le-ltb, eq-eqb, ne-eqb}
+use Rattle.scope.specs.Counting.{count}
+use Rattle.scope.specs.Geometry.{most-pages}
+use Rattle.scope.specs.Lent.{none, Place, Nowhere, decode}
+use Rattle.lent.specs.Decoded.{of-place, of-nowhere}
+use Rattle.flash.specs.Counting.{count-le}
+use Rattle.soundness.specs.Named.{owns, names-page}
+use Rattle.soundness.specs.declared.tally.Tally.{Tally}
+
+-- Both counts can grow by n.
+pub record Room (t : Tally) (n : ℕ) : Type 0 where
+  pub named-fits : t .named + n ≤ 4294967295
+  pub good-fits : t .good + n ≤ 4294967295
+
+-- The counts of t with one word more; with n words more.
+pub record Tallied-word (t r : Tally) (named good : Bool) : Type 0 where
+  pub named-more : r .named ≡ t .named + cond named 1 0
+  pub good-more : r .good ≡ t .good + cond good 1 0
+
+pub record Tallied (t r : Tally) (n : ℕ) (named good : ℕ → Bool) : Type 0 where
+  pub named-more : r .named ≡ t .named + count n named
+  pub good-more : r .good ≡ t .good + count n good
+
+-- *none* is no page of a region; a word that is a page's number counts as named, and as good where the page is its owner's.
+pub word-nowhere : (t : Tally) (x k : ℕ) (spare : List ℕ) (first n : ℕ) → first + n ≤ most-pages → Nowhere ≡ decode x
+    → Tallied-word t t (names-page x) (owns first n spare k x)
+word-nowhere t x k spare first n small e =
+    let is : x ≡ none = of-nowhere x e in
+    let low : leb first x ≡ true = le-leb first x (omega arith) in
+    let out : ltb x (first + n) ≡ false = le-ltb x (first + n) (omega arith) in
+    record {
+      named-more = rw (eq-eqb x none is) (omega arith);
+      good-more = rw (low, out) (omega arith);
+    }
+
+pub word-place : (t r : Tally) (x k : ℕ) (spare : List ℕ) (first n p : ℕ) → Place p ≡ decode x
+    → r .named ≡ t .named + 1 → r .good ≡ t .good + cond (owns first n spare k p) 1 0
+    → Tallied-word t r (names-page x) (owns first n spare k x)
+word-place t r x k spare first n p e named good =
+    let is = of-place x p e in
+    record {
+      named-more = rw (ne-eqb x none (is .is-some)) named;
+      good-more = rw (is .is-page) good;
+    }
