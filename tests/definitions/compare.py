@@ -1,0 +1,104 @@
+#!/usr/bin/env python3
+"""Holds the definitions of document 01 to the independent program.
+
+Random sessions on tiny geometries are played by the independent program; what
+it printed and the whole state it left are then stated of the definitions, one
+closed instance a session, and proved by computation in a scratch repository.
+A session on which the two differ is refused by the prover with both values.
+
+usage: compare.py [--seed N] [--sessions N]
+"""
+import argparse
+import pathlib
+import random
+import shutil
+import subprocess
+import sys
+import tempfile
+
+HERE = pathlib.Path(__file__).resolve().parent
+ROOT = HERE.parent.parent
+NUMBERS = "PWDTLC"
+RECORD = ["open-data", "data-offset", "open-translation", "translation-offset", "used"]
+HEAD = """-- Printed by tests/definitions/compare.py.
+use mathlib.Core.Path.{_≡_, refl}
+use mathlib.Core.List.{List, [], _∷_}
+use Rattle.scope.specs.Tables.Play.{computed, W, R, Played, formatted, play}
+
+"""
+
+
+def geometries():
+    """Every accepted geometry of at most 40 words, the corners among them."""
+    for p in range(1, 5):
+        for w in range(1, 4):
+            for d in range(2, 5):
+                for t in range(2, 5):
+                    for l in range(1, (d - 1) * p):
+                        m = -(-l // w)
+                        if m <= (t - 1) * p - 1 and (d + t) * p * w <= 40:
+                            yield from ((p, w, d, t, l, c) for c in (1, 2, 3))
+
+
+def session(rng, l):
+    """Lines of a session, now and then with a page past the limit."""
+    lines = []
+    for i in range(rng.randint(8, 14)):
+        page = rng.randrange(l + (rng.random() < 0.1))
+        lines.append(f"W {page} {10 + i}" if rng.random() < 0.75 else f"R {page}")
+    return lines
+
+
+def as_list(items):
+    return "(" + "".join(f"{x} ∷ " for x in items) + "[])"
+
+
+def instance(driver, number, geometry, lines):
+    """The statement that the definitions give what the independent program gave."""
+    played = subprocess.run([driver, *map(str, geometry)], input="\n".join(lines), text=True,
+                            capture_output=True, check=True).stdout.splitlines()
+    prints = [as_list(x.split()[1:]) for x in played if x.startswith("L")]
+    sides = [x.split()[1:] for x in played if x.startswith("S")]
+    small = "; ".join(f"{k} = {v}" for k, v in zip(RECORD, sides[4]))
+    left = "; ".join(f"{k} = {as_list(v)}" for k, v in zip(["chip", "spare", "directory", "cache"], sides))
+    g = "(record { " + "; ".join(f"{k} = {v}" for k, v in zip(NUMBERS, geometry)) + " })"
+    return (f"session-{number} : record {{ lines = {as_list(prints)}; left = record {{ {left}; "
+            f"small = record {{ {small} }} }} }}\n    ≡ play {g} {as_list(lines)} (formatted {g})\n"
+            f"unfolding computed\nsession-{number} = refl\n\n")
+
+
+def main():
+    arguments = argparse.ArgumentParser(description=__doc__, formatter_class=argparse.RawDescriptionHelpFormatter)
+    arguments.add_argument("--seed", type=int, default=1)
+    arguments.add_argument("--sessions", type=int, default=100)
+    asked = arguments.parse_args()
+    rng = random.Random(asked.seed)
+    choice = list(geometries())
+    with tempfile.TemporaryDirectory() as scratch:
+        scratch = pathlib.Path(scratch)
+        driver = scratch / "driver"
+        sources = sorted((ROOT / "tests/independent").glob("ind*.c"))
+        subprocess.run(["cc", "-std=c11", "-O1", "-o", driver, HERE / "driver.c", *sources], check=True)
+        crate = scratch / "crates/compared"
+        for folder in ("src", "specs"):
+            (crate / folder).mkdir(parents=True)
+        shutil.copytree(ROOT / "crates/scope", scratch / "crates/scope")
+        (scratch / "crates.txt").write_text("scope:\ncompared: scope\n")
+        (crate / "src/lib.rt").write_text("// Sessions of the independent program. No code.\n")
+        (crate / "specs/Lib.antt").write_text("pub mod Sessions\n")
+        text = HEAD
+        for number in range(asked.sessions):
+            geometry = rng.choice(choice)
+            text += instance(driver, number, geometry, session(rng, geometry[4]))
+        (crate / "specs/Sessions.antt").write_text(text)
+        print(f"definitions: {asked.sessions} random sessions of the independent program, seed {asked.seed} ..", flush=True)
+        proved = subprocess.run(["rt", "check", "compared"], cwd=scratch, text=True, capture_output=True)
+        if proved.returncode != 0:
+            sys.stderr.write(proved.stdout + proved.stderr)
+            sys.exit(f"error: the definitions and the independent program differ; replay with --seed {asked.seed} "
+                     f"--sessions {asked.sessions}")
+    print(f"definitions: {asked.sessions} sessions agree in every printed line and every word of the state")
+
+
+if __name__ == "__main__":
+    main()

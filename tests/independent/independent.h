@@ -1,0 +1,97 @@
+/*
+ * A demand-cached flash translation layer: the five public calls, and one
+ * helper for tests.
+ *
+ * Every slice is a pointer to 32-bit words followed by its count of words; an
+ * empty slice may come as NULL, 0.  Slices do not overlap.  Nothing is kept
+ * between calls: the whole state is the lent memory.
+ *
+ * The geometry is six numbers: p pages in a block, w words in a page, d data
+ * blocks, t translation blocks, l logical pages, c cache entries.
+ *
+ * The lent state is five slices: chip, spare (two words a page), directory,
+ * cache (three words an entry) and record (five words: open data block, its
+ * next offset, open translation block, its next offset, used cache entries).
+ *
+ * `counts` takes three words: reads, programs, erases.  With any other length
+ * nothing is written there; with three they are written in every answer.
+ *
+ * Each call returns the reply number.  The soundness check keeps about 270 KiB
+ * of scratch on the stack and allocates nothing.
+ */
+#ifndef INDEPENDENT_H
+#define INDEPENDENT_H
+
+#include <stddef.h>
+#include <stdint.h>
+
+enum {
+    IND_DONE = 0,
+    IND_UNWRITTEN = 1,
+    IND_GEOMETRY = 2,
+    IND_LENGTH = 3,
+    IND_DAMAGED = 4,
+    IND_KIND = 5,
+    IND_PAGE = 6
+};
+
+uint32_t ind_format(uint32_t p, uint32_t w, uint32_t d, uint32_t t, uint32_t l, uint32_t c,
+                    uint32_t *chip, size_t chip_n, uint32_t *spare, size_t spare_n,
+                    uint32_t *directory, size_t directory_n, uint32_t *cache, size_t cache_n,
+                    uint32_t *record, size_t record_n, uint32_t *counts, size_t counts_n);
+
+uint32_t ind_check(uint32_t p, uint32_t w, uint32_t d, uint32_t t, uint32_t l, uint32_t c,
+                   const uint32_t *chip, size_t chip_n, const uint32_t *spare, size_t spare_n,
+                   const uint32_t *directory, size_t directory_n,
+                   const uint32_t *cache, size_t cache_n,
+                   const uint32_t *record, size_t record_n, uint32_t *counts, size_t counts_n);
+
+/* DONE fills the buffer of w words; any other answer leaves it. */
+uint32_t ind_read(uint32_t p, uint32_t w, uint32_t d, uint32_t t, uint32_t l, uint32_t c,
+                  uint32_t page,
+                  uint32_t *chip, size_t chip_n, uint32_t *spare, size_t spare_n,
+                  uint32_t *directory, size_t directory_n, uint32_t *cache, size_t cache_n,
+                  uint32_t *record, size_t record_n, uint32_t *buffer, size_t buffer_n,
+                  uint32_t *counts, size_t counts_n);
+
+uint32_t ind_write(uint32_t p, uint32_t w, uint32_t d, uint32_t t, uint32_t l, uint32_t c,
+                   uint32_t page,
+                   uint32_t *chip, size_t chip_n, uint32_t *spare, size_t spare_n,
+                   uint32_t *directory, size_t directory_n, uint32_t *cache, size_t cache_n,
+                   uint32_t *record, size_t record_n, const uint32_t *buffer, size_t buffer_n,
+                   uint32_t *counts, size_t counts_n);
+
+/*
+ * A request is two words, kind (0 read, 1 write) and logical page.  Record i
+ * uses words i*w to i*w+w-1 of data, and its reply goes to answers[i].
+ */
+uint32_t ind_run(uint32_t p, uint32_t w, uint32_t d, uint32_t t, uint32_t l, uint32_t c,
+                 uint32_t *chip, size_t chip_n, uint32_t *spare, size_t spare_n,
+                 uint32_t *directory, size_t directory_n, uint32_t *cache, size_t cache_n,
+                 uint32_t *record, size_t record_n,
+                 const uint32_t *requests, size_t requests_n, uint32_t *data, size_t data_n,
+                 uint32_t *answers, size_t answers_n, uint32_t *counts, size_t counts_n);
+
+/*
+ * For tests: 0 if the state is sound, else the number (1 to 7) of the first
+ * rule of soundness that fails, tried in number order; -1 if the geometry is
+ * not accepted or one of the five lengths is wrong.  When a rule fails, *where
+ * tells the place (where may be NULL):
+ *   rule 1    the lowest page that breaks it
+ *   rule 2    the later of the first two pages with one owner
+ *   rule 3    a block: the open block as recorded, if it or its offset is out
+ *             of range, or if its region has no erased block besides it; else
+ *             the block whose pages are wrong
+ *   rule 4    the translation page number
+ *   rules 5, 7  the cache rank (c if too many entries are said to be used)
+ *   rule 6    the logical page (l or more for a word past the last)
+ * It keeps about 770 KiB of scratch on the stack.
+ */
+int ind_first_broken_rule(uint32_t p, uint32_t w, uint32_t d, uint32_t t, uint32_t l, uint32_t c,
+                          const uint32_t *chip, size_t chip_n,
+                          const uint32_t *spare, size_t spare_n,
+                          const uint32_t *directory, size_t directory_n,
+                          const uint32_t *cache, size_t cache_n,
+                          const uint32_t *record, size_t record_n, uint32_t *where);
+
+#endif

@@ -1,0 +1,34 @@
+/* The parts of the self-test, each in its own file; selftest.c runs them. */
+#ifndef SELFTEST_H
+#define SELFTEST_H
+
+#include "test_world.h"
+
+/* What the random parts met, so that a run shows what it covered. */
+struct coverage {
+    uint64_t calls, runs, unwritten, erases, full_bound_writes, full_bound_reads;
+    uint64_t states, corruptions, broken[8]; /* broken[0]: still sound */
+};
+
+/* test_sessions.c */
+struct oracle {
+    bool *written;
+    uint32_t *words; /* what was last written to each page, l*w words */
+};
+struct oracle oracle_of(const struct world *sound); /* what the state itself holds */
+void oracle_free(struct oracle *o);
+/* One random read, write or run, held against the literal steps and the oracle. */
+void random_call(struct world *x, struct oracle *o, uint64_t *seed, struct coverage *seen);
+void test_sessions(uint64_t seed, uint32_t worlds, uint32_t calls, struct coverage *seen);
+void test_medium(uint64_t seed, uint32_t calls, struct coverage *seen);
+void test_many_pages(uint64_t seed, uint32_t runs, struct coverage *seen);
+
+/* test_damage.c */
+void test_damage(uint64_t seed, uint32_t states, struct coverage *seen);
+
+/* test_refusals.c */
+void test_geometry_edges(uint64_t seed, uint32_t tries);
+void test_lengths(uint64_t seed, uint32_t worlds);
+void test_arbitrary_input(uint64_t seed, uint32_t tries);
+
+#endif
