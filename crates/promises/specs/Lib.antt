@@ -7,3 +7,5 @@ pub mod Index
 pub mod Formatted
 pub mod Records
 pub mod Demand1
+pub mod Stored
+pub mod Parts

@@ -1,0 +1,70 @@
+-- A sound state in the parts that the steps keep, each by a law of its own: the index (the translation region, the directory and the
+-- words past L), the data region under the current places, and the cache.
+use Prim.Native.Nat.{ℕ, _≤_, _<_}
+use mathlib.Core.Path.{_≡_, refl, sym, _∙_, ap}
+use mathlib.Core.List.{List}
+use lib.ListN.{getD}
+use Rattle.scope.specs.Geometry.{Geometry, Accepted, M}
+use Rattle.scope.specs.Lent.{none, State}
+use Rattle.scope.specs.Regions.{Region, Data, Translation}
+use Rattle.scope.specs.SmallRecord.{SmallRecord, open-block, next-offset, with-open}
+use Rattle.scope.specs.Sound.{Pages-fit, Owners-differ, Blocks-fit, Entries-fit, Unchanged-agree, current, Sound}
+use Rattle.flash.specs.SamePages.{Same-pages, same-refl, same-trans}
+use Rattle.region.specs.Holds.{Region-fits, Holds, rules-fit, fits-blocks}
+use Rattle.promises.specs.Stored.{None-past-L, past-none, none-past}
+
+-- The directory as a map from translation page numbers.
+abbrev pub directory-view : State → ℕ → ℕ
+directory-view s t = getD (s .directory) t none
+
+-- Rules 1 to 4 of the translation region, and rule 6's last sentence.
+pub record Index-fits (g : Geometry) (s : State) : Type 0 where
+  pub pages : Holds g Translation s (directory-view s)
+  pub past-L : None-past-L g (s .chip) (s .directory)
+
+-- Rules 5 and 7.
+pub record Cache-fits (g : Geometry) (s : State) : Type 0 where
+  pub entries : Entries-fit g (s .cache) (s .small .used)
+  pub agree : Unchanged-agree g s
+
+module _ {g : Geometry} {s : State} where
+  region-of : (r : Region) → Sound g s → Region-fits g r (s .chip) (s .spare) (open-block r (s .small)) (next-offset r (s .small))
+  region-of r sound = rules-fit g r (s .chip) (s .spare) _ _ (sound .rule-1 r) (sound .rule-2 r) (sound .rule-3 r)
+
+  pub index-of : Sound g s → Index-fits g s
+  index-of sound =
+      record {
+        pages = record { fits = region-of Translation sound; besides = sound .rule-3 Translation .besides; maps = sound .rule-4 };
+        past-L = past-none g (s .chip) (s .directory) (sound .rule-6 .past-L);
+      }
+
+  -- Rules 1 to 3 of the data region, and rule 6's first sentence.
+  pub data-of : Sound g s → Holds g Data s (current g s)
+  data-of sound =
+      record { fits = region-of Data sound; besides = sound .rule-3 Data .besides; maps = sound .rule-6 .current-place }
+
+  pub cache-of : Sound g s → Cache-fits g s
+  cache-of sound = record { entries = sound .rule-5; agree = sound .rule-7 }
+
+  -- The parts together.
+  pub sound-from : Index-fits g s → Holds g Data s (current g s) → Cache-fits g s → Sound g s
+  sound-from index pages cache =
+      record {
+        rule-1 = one;
+        rule-2 = two;
+        rule-3 = three;
+        rule-4 = index .pages .maps;
+        rule-5 = cache .entries;
+        rule-6 = record { current-place = pages .maps; past-L = none-past g (s .chip) (s .directory) (index .past-L) };
+        rule-7 = cache .agree;
+      }
+    where
+      one : (r : Region) → Pages-fit g r (s .chip) (s .spare)
+      one Data = pages .fits .pages-fit
+      one Translation = index .pages .fits .pages-fit
+      two : (r : Region) → Owners-differ g r (s .spare)
+      two Data = pages .fits .owners-differ
+      two Translation = index .pages .fits .owners-differ
+      three : (r : Region) → Blocks-fit g r (s .spare) (open-block r (s .small)) (next-offset r (s .small))
+      three Data = fits-blocks g Data (s .chip) (s .spare) _ _ (pages .fits) (pages .besides)
+      three Translation = fits-blocks g Translation (s .chip) (s .spare) _ _ (index .pages .fits) (index .pages .besides)

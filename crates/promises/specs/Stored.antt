@@ -1,0 +1,104 @@
+-- What flash stores for each logical page, by the words of its translation page: one list of words for each translation page number,
+-- empty where there is no page. Steps on the translation region are laws about these lists; what they say of `stored` is here.
+use Prim.Native.Nat.{ℕ, suc, _+_, _*_, _≤_, _<_}
+use mathlib.Core.Path.{_≡_, refl, sym, _∙_, ap}
+use mathlib.Core.Logic.{_≢_}
+use mathlib.Core.Bool.{cond}
+use mathlib.Core.List.{List, [], _∷_, _++_}
+use native.Mathlib.Omega.{arith}
+use lib.Dec.{eqb}
+use lib.ListN.{length, getD, set, replicate, length-set, length-replicate, getD-replicate}
+use lib.Seq.{getD-set-same, getD-set-other}
+use borrow.Author.Tests.{eq-eqb, ne-eqb}
+use Rattle.scope.specs.Geometry.{Geometry, Accepted, M}
+use Rattle.scope.specs.Lent.{none, Entry, Place, Nowhere, State, Mapping, named, word-of, translation-page, translation-word}
+use Rattle.scope.specs.Sound.{in-page, stored}
+use Rattle.scope.specs.Steps.{set-words}
+use Rattle.flash.specs.Cases.{same?}
+use Rattle.flash.specs.Words.{words-at}
+use Rattle.region.specs.Holds.{contents}
+use Rattle.promises.specs.Index.{word-below, page-and-word, word-tells}
+
+-- The words of translation page t, as the directory names it.
+abbrev pub table : Geometry → List ℕ → List ℕ → ℕ → List ℕ
+table g chip directory t = contents g chip (named t directory)
+
+in-contents : {g : Geometry} → Accepted g → (chip : List ℕ) (l : ℕ) (e : Entry)
+  → in-page g chip l e ≡ getD (contents g chip e) (translation-word g l) none
+in-contents {g} ok chip l (Place q) = sym (words-at g q (translation-word g l) chip (word-below ok l))
+in-contents ok chip l Nowhere = refl
+
+pub stored-is : {g : Geometry} → Accepted g → (chip directory : List ℕ) (l : ℕ)
+  → stored g chip directory l ≡ getD (table g chip directory (translation-page g l)) (translation-word g l) none
+unfolding stored
+stored-is {g} ok chip directory l = in-contents ok chip l (named (translation-page g l) directory)
+
+-- Rule 6's "Words past L are *none*", by the lists.
+abbrev pub None-past-L : Geometry → List ℕ → List ℕ → Type 0
+None-past-L g chip directory =
+    (t i : ℕ) → t < M g → i < g .W → g .L ≤ t * g .W + i → getD (table g chip directory t) i none ≡ none
+
+abbrev Past-L : Geometry → List ℕ → List ℕ → Type 0
+Past-L g chip directory =
+    (t q i : ℕ) → t < M g → named t directory ≡ Place q → i < g .W → g .L ≤ t * g .W + i → word-of g q i chip ≡ none
+
+pub past-none : (g : Geometry) (chip directory : List ℕ) → Past-L g chip directory → None-past-L g chip directory
+past-none g chip directory past t i h k l = go (named t directory) refl
+  where
+    go : (e : Entry) → named t directory ≡ e → getD (contents g chip e) i none ≡ none
+    go (Place q) e = words-at g q i chip k ∙ past t q i h e k l
+    go Nowhere e = refl
+
+pub none-past : (g : Geometry) (chip directory : List ℕ) → None-past-L g chip directory → Past-L g chip directory
+none-past g chip directory none-there t q i h e k l =
+    sym (words-at g q i chip k) ∙ ap (λ x. getD (contents g chip x) i none) (sym e) ∙ none-there t i h k l
+
+-- ---- words set for mappings
+
+-- The place that the last mapping of l names; `place` where there is none.
+abbrev pub latest : List Mapping → ℕ → ℕ → ℕ
+latest [] l place = place
+latest (m ∷ ms) l place = latest ms l (cond (eqb (m .logical) l) (m .physical) place)
+
+pub latest-++ : (a b : List Mapping) (l place : ℕ) → latest (a ++ b) l place ≡ latest b l (latest a l place)
+latest-++ [] b l place = refl
+latest-++ (m ∷ a) b l place = latest-++ a b l (cond (eqb (m .logical) l) (m .physical) place)
+
+-- Each mapping is of a logical page below L, and of translation page t.
+abbrev pub Mappings-of : Geometry → ℕ → List Mapping → Type 0
+Mappings-of g t [] = Unit {0}
+Mappings-of g t (m ∷ ms) = (m .logical < g .L) × (translation-page g (m .logical) ≡ t) × Mappings-of g t ms
+
+module _ {g : Geometry} (ok : Accepted g) where
+  pub length-set-words : (ms : List Mapping) (words : List ℕ) → length (set-words g ms words) ≡ length words
+  unfolding set-words
+  length-set-words [] words = refl
+  length-set-words (m ∷ ms) words =
+      length-set-words ms (set words (translation-word g (m .logical)) (m .physical)) ∙ length-set words (translation-word g (m .logical)) (m .physical)
+
+  -- The word of a logical page of translation page t is its latest mapping's.
+  pub set-words-at : (t : ℕ) (ms : List Mapping) (words : List ℕ) → Mappings-of g t ms → length words ≡ g .W
+    → (l : ℕ) → translation-page g l ≡ t
+    → getD (set-words g ms words) (translation-word g l) none ≡ latest ms l (getD words (translation-word g l) none)
+  unfolding set-words
+  set-words-at t [] words h w l e = refl
+  set-words-at t (m ∷ ms) words h w l e =
+      let k = m .logical in
+      let i = translation-word g k in
+      set-words-at t ms (set words i (m .physical)) (h .2) (length-set words i (m .physical) ∙ w) l e
+      ∙ ap (latest ms l)
+        (same? k l
+        (λ q. rw (eq-eqb k l q, q) (getD-set-same words (translation-word g l) (m .physical) none (omega (arith, word-below ok l))))
+        (λ q. rw (ne-eqb k l q) (getD-set-other words i (translation-word g l) (m .physical) none
+          (λ z. q (word-tells ok k l (h .1 ∙ sym e) (sym z))))))
+
+  -- Words past L stay as they are.
+  pub set-words-past : (t : ℕ) (ms : List Mapping) (words : List ℕ) → Mappings-of g t ms
+    → (i : ℕ) → i < g .W → g .L ≤ t * g .W + i → getD (set-words g ms words) i none ≡ getD words i none
+  unfolding set-words
+  set-words-past t [] words h i k l = refl
+  set-words-past t (m ∷ ms) words h i k l =
+      let j = translation-word g (m .logical) in
+      set-words-past t ms (set words j (m .physical)) (h .2) i k l
+      ∙ getD-set-other words j i (m .physical) none
+        (λ z. omega (arith, h .0, page-and-word ok (m .logical), ap (λ (x : ℕ). x * g .W) (h .1)))
