@@ -9,7 +9,7 @@ use borrow.Author.Tests.{eqb-false, lt-ltb, le-ltb}
 use Rattle.flash.specs.Cases.{same?, below?}
 use Rattle.scope.specs.Geometry.{Geometry}
 use Rattle.scope.specs.Lent.{State, logical-at, physical-at, changed-at}
-use Rattle.scope.specs.Operations.{Outcome}
+use Rattle.scope.specs.Operations.{Operation, Outcome}
 use Rattle.scope.specs.Cache.{is-changed, touch, enter, forget, set-entry}
 use Rattle.scope.specs.Sound.{Entries-fit, rank-of, stored, current, Unchanged-agree}
 use Rattle.cache.specs.Ranks.{Has-rank, Not-cached, rank-found, rank-missing}
@@ -68,7 +68,7 @@ set-keeps-places g l place s s′ a e =
       agree = a .agree;
     }
 
-module _ (g : Geometry) {A : Type 0} (s : State) (o : Outcome A) (used : ℕ) (m : ℕ → Found) (step : Cache-step g s o used m) where
+module _ (g : Geometry) {A : Type 0} (s : State) (o : Outcome A) (ops : List Operation) (used : ℕ) (m : ℕ → Found) (step : Cache-step g s o ops used m) where
   -- A step of the cache alone leaves what flash stores, so that only the map decides.
   step-stored : (l : ℕ) → stored-in g (o .after) l ≡ stored-in g s l
   step-stored l = rw (step .flash .chip, step .directory)
@@ -83,45 +83,45 @@ module _ (g : Geometry) (s : State) (m : ℕ → Found) (h : Holds-in g s m) (se
   agrees : Agrees m (stored-in g s)
   agrees = agree-maps g s m h seven
 
-  -- The map stays, as where an entry is touched.
-  pub same-keeps-places : {A : Type 0} (o : Outcome A) (used : ℕ) → Cache-step g s o used m → Places-kept g s (o .after)
-  same-keeps-places o used step =
+  pub touch-keeps-places : {A : Type 0} (o : Outcome A) (ops : List Operation) (used : ℕ) → Cache-step g s o ops used m → Places-kept g s (o .after)
+  touch-keeps-places o ops used step =
       record {
-        places = λ l b. step-current g s o used m step l ∙ sym (current-is g s m h l);
-        agree = step-agree g s o used m step agrees;
+        places = λ l b. step-current g s o ops used m step l ∙ sym (current-is g s m h l);
+        agree = step-agree g s o ops used m step agrees;
       }
 
   -- The answer for l changes: rule 7 asks of the new one what it asks of every entry.
-  updated-sets-place : {A : Type 0} (o : Outcome A) (used l : ℕ) (new : Found) → Cache-step g s o used (updated m l new)
+  updated-sets-place : {A : Type 0} (o : Outcome A) (ops : List Operation) (used l : ℕ) (new : Found) → Cache-step g s o ops used (updated m l new)
       → ((place : ℕ) → new ≡ Hit place 0 → place ≡ stored-in g s l) → Place-set g l (place-or (stored-in g s l) new) s (o .after)
-  updated-sets-place o used l new step fits =
+  updated-sets-place o ops used l new step fits =
       record {
-        here = step-current g s o used (updated m l new) step l ∙ ap (place-or (stored-in g s l)) (updated-here m l new);
-        elsewhere = λ k b d. step-current g s o used (updated m l new) step k
+        here = step-current g s o ops used (updated m l new) step l ∙ ap (place-or (stored-in g s l)) (updated-here m l new);
+        elsewhere = λ k b d. step-current g s o ops used (updated m l new) step k
             ∙ ap (place-or (stored-in g s k)) (updated-elsewhere m l new k d) ∙ sym (current-is g s m h k);
-        agree = step-agree g s o used (updated m l new) step (λ k place e. same? k l
+        agree = step-agree g s o ops used (updated m l new) step (λ k place e. same? k l
             (λ q. fits place (sym (updated-here m l new) ∙ ap (updated m l new) (sym q) ∙ e) ∙ ap (stored-in g s) (sym q))
             (λ q. agrees k place (sym (updated-elsewhere m l new k q) ∙ e)));
       }
 
   -- What flash stores for l enters the cache, unchanged.
-  pub enter-keeps-places : {A : Type 0} (o : Outcome A) (used l : ℕ) → Cache-step g s o used (updated m l (Hit (stored-in g s l) 0))
-      → m l ≡ Miss → Places-kept g s (o .after)
-  enter-keeps-places o used l step miss =
-      set-keeps-places g l (stored-in g s l) s (o .after)
-      (updated-sets-place o used l (Hit (stored-in g s l) 0) step (λ place e. cc))
-      (current-is g s m h l ∙ ap (place-or (stored-in g s l)) miss)
+  pub enter-keeps-places : {A : Type 0} (o : Outcome A) (ops : List Operation) (used l place : ℕ) → Cache-step g s o ops used (updated m l (Hit place 0))
+      → m l ≡ Miss → place ≡ stored-in g s l → Places-kept g s (o .after)
+  enter-keeps-places o ops used l place step miss q =
+      set-keeps-places g l place s (o .after)
+      (updated-sets-place o ops used l (Hit place 0) step (λ p e. let z : p ≡ place = cc in z ∙ q))
+      (current-is g s m h l ∙ ap (place-or (stored-in g s l)) miss ∙ sym q)
 
-  -- What flash stores for l leaves the cache.
-  pub forget-keeps-places : {A : Type 0} (o : Outcome A) (used l c : ℕ) → Cache-step g s o used (updated m l Miss)
-      → m l ≡ Hit (stored-in g s l) c → Places-kept g s (o .after)
-  forget-keeps-places o used l c step hit =
+  -- What flash stores for the page of an entry leaves the cache.
+  pub forget-keeps-places : {A : Type 0} (o : Outcome A) (ops : List Operation) (used i : ℕ) → Cache-step g s o ops used (updated m (logical-at i (s .cache)) Miss)
+      → i < s .small .used → physical-at i (s .cache) ≡ stored-in g s (logical-at i (s .cache)) → Places-kept g s (o .after)
+  forget-keeps-places o ops used i step k q =
+      let l = logical-at i (s .cache) in
       set-keeps-places g l (stored-in g s l) s (o .after)
-      (updated-sets-place o used l Miss step (λ place e. absurd (hit-is-no-miss (sym e))))
-      (current-is g s m h l ∙ ap (place-or (stored-in g s l)) hit)
+      (updated-sets-place o ops used l Miss step (λ p e. absurd (hit-is-no-miss (sym e))))
+      (current-is g s m h l ∙ ap (place-or (stored-in g s l)) (h .hits i k) ∙ q)
 
   -- Another place for l, changed.
-  pub set-entry-sets-place : {A : Type 0} (o : Outcome A) (used l place : ℕ) → Cache-step g s o used (updated m l (Hit place 1))
+  pub set-entry-sets-place : {A : Type 0} (o : Outcome A) (ops : List Operation) (used l place : ℕ) → Cache-step g s o ops used (updated m l (Hit place 1))
       → Place-set g l place s (o .after)
-  set-entry-sets-place o used l place step =
-      updated-sets-place o used l (Hit place 1) step (λ p e. let z : _≡_ {A = ℕ} 1 0 = cc in absurd (omega arith))
+  set-entry-sets-place o ops used l place step =
+      updated-sets-place o ops used l (Hit place 1) step (λ p e. let z : _≡_ {A = ℕ} 1 0 = cc in absurd (omega arith))

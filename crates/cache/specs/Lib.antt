@@ -6,3 +6,5 @@ pub mod Order
 pub mod Changes
 pub mod Steps
 pub mod Current
+pub mod Stored
+pub mod Fetch

@@ -7,7 +7,7 @@ use lib.Seq.{sets}
 use Rattle.scope.specs.Geometry.{Geometry}
 use Rattle.scope.specs.SmallRecord.{with-used}
 use Rattle.scope.specs.Lent.{none, State, entry-words, logical-at, with-cache, with-small}
-use Rattle.scope.specs.Operations.{Outcome, give, set-cache, set-small, _>>=_}
+use Rattle.scope.specs.Operations.{Operation, Outcome, give, set-cache, set-small, _>>=_}
 use Rattle.scope.specs.Cache.{without, touch, enter, forget, set-entry}
 use Rattle.scope.specs.Laws.Applied.{Same-flash}
 use Rattle.cache.specs.Entries.{to-front}
@@ -18,48 +18,49 @@ use Rattle.cache.specs.Changes.{Holds-at, touched-holds, entered-holds, 
 abbrev pub Holds-in : Geometry → State → (ℕ → Found) → Type 0
 Holds-in g s m = Cache-holds g (s .cache) (s .small .used) m
 
--- A step of the cache alone: no operation; chip, spare and directory stay, and the small record but for the number of used entries.
-pub record Cache-step (g : Geometry) {A : Type 0} (s : State) (o : Outcome A) (used : ℕ) (m : ℕ → Found) : Type 0 where
-  pub no-operation : o .did ≡ []
+-- A step that changes the cache alone: chip, spare and directory stay, and the small record but for the number of used entries. The
+-- operations are listed, if any: reads.
+pub record Cache-step (g : Geometry) {A : Type 0} (s : State) (o : Outcome A) (ops : List Operation) (used : ℕ) (m : ℕ → Found) : Type 0 where
+  pub did : o .did ≡ ops
   pub flash : Same-flash (o .after) s
   pub directory : o .after .directory ≡ s .directory
   pub small : o .after .small ≡ with-used used (s .small)
   pub holds : Holds-in g (o .after) m
 
 -- One that hands back the rank of logical page l.
-pub record Rank-handed (g : Geometry) (s : State) (o : Outcome ℕ) (used : ℕ) (m : ℕ → Found) (l : ℕ) : Type 0 where
-  pub step : Cache-step g s o used m
+pub record Rank-handed (g : Geometry) (s : State) (o : Outcome ℕ) (ops : List Operation) (used : ℕ) (m : ℕ → Found) (l : ℕ) : Type 0 where
+  pub step : Cache-step g s o ops used m
   pub rank : Has-rank (o .after .cache) (o .after .small .used) l (o .value)
 
 -- One that keeps the ranks: each has the logical page that it had.
 pub record Ranks-kept (g : Geometry) {A : Type 0} (s : State) (o : Outcome A) (m : ℕ → Found) : Type 0 where
-  pub step : Cache-step g s o (s .small .used) m
+  pub step : Cache-step g s o [] (s .small .used) m
   pub ranks : (i : ℕ) → logical-at i (o .after .cache) ≡ logical-at i (s .cache)
 
 abbrev with-entries : List ℕ → ℕ → State → State
 with-entries cache used s = with-small (with-used used (s .small)) (with-cache cache s)
 
-cache-alone : {A : Type 0} (x : A) {g : Geometry} (s : State) {cache : List ℕ} {used : ℕ} {m : ℕ → Found} → Cache-holds g cache used m
-    → Cache-step g s (record { value = x; after = with-entries cache used s; did = [] }) used m
+cache-alone : {A : Type 0} (x : A) {g : Geometry} (s : State) {cache : List ℕ} {ops : List Operation} {used : ℕ} {m : ℕ → Found} → Cache-holds g cache used m
+    → Cache-step g s (record { value = x; after = with-entries cache used s; did = ops }) ops used m
 cache-alone x s h =
-    record { no-operation = refl; flash = record { chip = refl; spare = refl }; directory = refl; small = refl; holds = h }
+    record { did = refl; flash = record { chip = refl; spare = refl }; directory = refl; small = refl; holds = h }
 
-rank-handed : {g : Geometry} (s : State) {cache : List ℕ} {used : ℕ} {m : ℕ → Found} {l : ℕ} → Holds-at g cache used m l 0
-    → Rank-handed g s (record { value = 0; after = with-entries cache used s; did = [] }) used m l
+rank-handed : {g : Geometry} (s : State) {cache : List ℕ} {ops : List Operation} {used : ℕ} {m : ℕ → Found} {l : ℕ} → Holds-at g cache used m l 0
+    → Rank-handed g s (record { value = 0; after = with-entries cache used s; did = ops }) ops used m l
 rank-handed s h = record { step = cache-alone 0 s (h .holds); rank = h .rank }
 
 module _ (g : Geometry) (s : State) (m : ℕ → Found) (h : Holds-in g s m) where
-  pub touch-law : (l i : ℕ) → Has-rank (s .cache) (s .small .used) l i → Rank-handed g s (touch i s) (s .small .used) m l
+  pub touch-law : (l i : ℕ) → Has-rank (s .cache) (s .small .used) l i → Rank-handed g s (touch i s) [] (s .small .used) m l
   unfolding touch _>>=_ set-cache give
   touch-law l i r = rank-handed s (touched-holds g (s .cache) (s .small .used) m h l i r)
 
   pub enter-law : (l place : ℕ) → s .small .used < g .C → m l ≡ Miss → l < g .L
-      → Rank-handed g s (enter l place s) (suc (s .small .used)) (updated m l (Hit place 0)) l
+      → Rank-handed g s (enter l place s) [] (suc (s .small .used)) (updated m l (Hit place 0)) l
   unfolding enter _>>=_ set-cache set-small give
   enter-law l place room miss below = rank-handed s (entered-holds g (s .cache) (s .small .used) m h l place room miss below)
 
   -- The last entry is dropped.
-  pub forget-law : (i : ℕ) → suc i ≡ s .small .used → Cache-step g s (forget i s) i (updated m (logical-at i (s .cache)) Miss)
+  pub forget-law : (i : ℕ) → suc i ≡ s .small .used → Cache-step g s (forget i s) [] i (updated m (logical-at i (s .cache)) Miss)
   unfolding forget _>>=_ set-cache set-small
   forget-law i last =
       let q : s .small .used - 1 ≡ i = omega arith in
