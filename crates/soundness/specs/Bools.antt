@@ -1,9 +1,9 @@
 -- Equations between tests.
 use Prim.Native.Nat.{ℕ, zero, suc}
-use mathlib.Core.Path.{_≡_, refl, sym}
+use mathlib.Core.Path.{_≡_, refl, sym, _∙_}
 use mathlib.Core.Bool.{Bool, true, false, not, _&&_, _||_}
 use lib.Dec.{eqb}
-use borrow.Author.Tests.{eqb-true, eq-eqb}
+use borrow.Author.Tests.{eqb-true, eq-eqb, not-true, not-false}
 use Rattle.scope.specs.Counting.{all, some}
 use Rattle.flash.specs.Cases.{clash, is-false}
 
@@ -16,6 +16,10 @@ pub or-none : (a : Bool) {b : Bool} → b ≡ false → a || b ≡ a
 or-none true p = refl
 or-none false p = p
 
+pub and-passed : (a : Bool) → a && true ≡ a
+and-passed true = refl
+and-passed false = refl
+
 pub eqb-sym : (a b : ℕ) → eqb a b ≡ eqb b a
 eqb-sym a b = same-test (eqb a b) (eqb b a) (λ p. eq-eqb b a (sym (eqb-true a b p))) (λ p. eq-eqb a b (sym (eqb-true b a p)))
 
@@ -27,3 +31,10 @@ and-not false b = refl
 pub all-not-some : (n : ℕ) (f h : ℕ → Bool) → ((j : ℕ) → f j ≡ not (h j)) → all n f ≡ not (some n h)
 all-not-some zero f h e = refl
 all-not-some (suc n) f h e = rw (all-not-some n f h e, e n) (and-not (some n h) (h n))
+
+-- What a branch on `!f(..)` tells of the test that f's result equals.
+pub refused : {r b : Bool} → r ≡ b → not r ≡ true → b ≡ false
+refused {r} e h = sym e ∙ not-true r h
+
+pub passed : {r b : Bool} → r ≡ b → not r ≡ false → b ≡ true
+passed {r} e h = sym e ∙ not-false r h

@@ -2,6 +2,7 @@
 pub mod Bools
 pub mod Bitmap
 pub mod Seen
+pub mod Sizes
 pub mod Counted
 pub mod Named
 pub mod Reads
