@@ -1,19 +1,28 @@
--- Document 01 as definitions, under 01's own headings and in its order. What a reader must believe stands in the first group.
+-- Document 01 as definitions, in its order. Below each of 01's headings stand the files that say it; a reader must believe those up to
+-- Boundary, and nothing else.
+
+-- "Geometry"
 pub mod Counting
 pub mod Geometry
+-- "What is lent"
 pub mod Regions
 pub mod SmallRecord
 pub mod Lent
 pub mod Blocks
+-- "Sound states"
 pub mod Sound
 pub mod Decisions
+-- "Reply numbers"
+pub mod Replies
+-- "The steps"
 pub mod Operations
 pub mod Room
 pub mod Cache
 pub mod Steps
-pub mod Replies
 pub mod Requests
+-- "What the library covers": the five calls, and the same calls as C makes them
 pub mod Calls
 pub mod Boundary
-pub mod Tables
+-- What is proved of these here: laws, and "A session in full" with other closed instances
 pub mod Laws
+pub mod Tables
