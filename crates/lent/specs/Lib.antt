@@ -1,4 +1,5 @@
 -- The models of the numbers that travel by value, what a decoded word says, and the shape of every step's contract.
 pub mod Model
 pub mod Does
+pub mod DoesLaws
 pub mod Decoded

@@ -1,1 +1,4 @@
--- The modules of this crate.
+-- Laws of the lists that the contracts of this crate speak of.
+pub mod Runs
+pub mod Entries
+pub mod States

@@ -1,1 +1,5 @@
-// Leaves over lent slices: fill, copy, store, compare and count words, each with a contract on the whole list.
+// Leaves over lent slices, each with a contract on the whole list. runs: words filled and copied; entries: the cache's entries;
+// states: the spare's state words.
+pub mod entries;
+pub mod runs;
+pub mod states;

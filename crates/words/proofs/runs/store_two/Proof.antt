@@ -1,0 +1,32 @@
+-- `words::runs::store_two` meets its contract.
+use native.Mathlib.Omega.{arith}
+use native.Mathlib.Numerals.{add-one}
+use lib.ListN.{length-set}
+use borrow.Author.Needs.{needs}
+use Rattle.words.proofs.runs.store_two.Statement.{statement}
+use Rattle.words.proofs.runs.store_two.Tie as tie
+
+mul-s : tie.Need-mul-s
+mul-s c = search needs
+
+slice-write-s : tie.Need-slice-write-s
+slice-write-s c = search needs
+
+add-s : tie.Need-add-s
+add-s c = search needs
+
+mul-s-2 : tie.Need-mul-s-2
+mul-s-2 c = search needs
+
+slice-write-s-2 : tie.Need-slice-write-s-2
+slice-write-s-2 c = simp length-set (omega arith)
+
+same-length : tie.Need-same-length
+same-length c = search needs
+
+returns : tie.Need-returns
+returns c = simp add-one
+
+pub store-two-spec : {M : Type 1} → statement M
+store-two-spec =
+    tie.close (tie.spec mul-s slice-write-s add-s mul-s-2 slice-write-s-2 same-length returns)

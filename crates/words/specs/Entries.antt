@@ -1,0 +1,100 @@
+-- Entries of three words: the first n words moved back by three, from the last one down, and what stands in front of them then.
+use Prim.Native.Nat.{ℕ, zero, suc, _+_, _-_, _*_, _≤_, _<_}
+use mathlib.Core.Path.{_≡_, refl, sym, ap, _∙_}
+use mathlib.Core.Logic.{⊎-elim}
+use mathlib.Core.Bool.{Bool, true, false, _&&_, and-false}
+use mathlib.Core.List.{List, [], _∷_, _++_, append-assoc}
+use native.Mathlib.Nat.{sub-zero}
+use native.Mathlib.Numerals.{add-one, add-two}
+use native.Mathlib.Omega.{arith}
+use lib.ListN.{length, getD, set, take, drop, length-set}
+use lib.Seq.{sets, sets-eq, length-sets, drop-cons, drop-at, length-take-le}
+use lib.Dec.{eqb, ltb}
+use borrow.Author.Tests.{lt-ltb, le-ltb, eq-eqb, ne-eqb}
+use Rattle.scope.specs.Counting.{lowest}
+use Rattle.scope.specs.Lent.{none, logical-at}
+use Rattle.flash.specs.Cases.{below?, clash, true-and}
+use Rattle.flash.specs.Searching.{lowest-cases}
+use Rattle.flash.specs.Stores.{getD-sets-outside}
+use Rattle.words.specs.Runs.{set-before, getD-any}
+
+-- Words i to n - 1 of l₀ have moved three words back.
+pub record Shifted (l₀ : List ℕ) (n : ℕ) (l : List ℕ) (i : ℕ) : Type 0 where
+  pub from : i ≤ n
+  pub words : l ≡ sets l₀ (i + 3) (take (n - i) (drop i l₀))
+  pub as-long : length l ≡ length l₀
+
+module _ {l₀ : List ℕ} {n : ℕ} (fits : n + 3 ≤ length l₀) where
+  pub none-shifted : Shifted l₀ n l₀ n
+  none-shifted =
+      let none : n - n ≡ 0 = omega arith in
+      record { from = omega arith; words = rw none refl; as-long = refl }
+
+  pub one-shifted : {l : List ℕ} {i : ℕ} → Shifted l₀ n l i → (j : ℕ) → i ≡ suc j → Shifted l₀ n (set l (j + 3) (getD l j 0)) j
+  one-shifted {l} {i} h j e =
+      let v = getD l₀ j 0 in
+      let rest = take (n - i) (drop i l₀) in
+      let read : getD l j 0 ≡ v =
+      ap (λ (x : List ℕ). getD x j 0) (h .words) ∙ getD-sets-outside l₀ (i + 3) rest j 0 (λ k _ q. omega arith) in
+      let more : n - j ≡ suc (n - i) = omega (arith, h .from) in
+      let behind : i + 3 ≡ suc (j + 3) = omega arith in
+      record {
+        from = omega (arith, h .from);
+        words = ap (λ (x : List ℕ). set x (j + 3) (getD l j 0)) (h .words)
+            ∙ ap (set (sets l₀ (i + 3) rest) (j + 3)) read
+            ∙ set-before l₀ (j + 3) (i + 3) rest v (omega arith)
+            ∙ ap (λ (k : ℕ). sets (set l₀ (j + 3) v) k rest) behind
+            ∙ ap (sets l₀ (j + 3)) (ap (λ (k : ℕ). v ∷ take (n - i) (drop k l₀)) e
+            ∙ sym (ap (take (suc (n - i))) (drop-cons l₀ j 0 (omega (arith, h .from))))
+            ∙ ap (λ (k : ℕ). take k (drop j l₀)) (sym more));
+        as-long = length-set l (j + 3) (getD l j 0) ∙ h .as-long;
+      }
+
+  -- All moved.
+  pub all-shifted : {l : List ℕ} {i : ℕ} → Shifted l₀ n l i → i ≡ 0 → l ≡ sets l₀ 3 (take n l₀)
+  all-shifted {l} {i} h e = h .words ∙ (rw (e, sub-zero) refl)
+
+-- Three words stored in front of the moved ones: what was there before, without the three words behind the first n.
+pub put-in-front : (l : List ℕ) (n a b c : ℕ) → n + 3 ≤ length l
+    → sets (sets l 3 (take n l)) 0 (a ∷ b ∷ c ∷ []) ≡ a ∷ b ∷ c ∷ (take n l ++ drop (n + 3) l)
+put-in-front l n a b c h =
+    let end : 3 + length (take n l) ≡ n + 3 = omega (arith, length-take-le n l (omega arith)) in
+    let moved : sets l 3 (take n l) ≡ take 3 l ++ (take n l ++ drop (n + 3) l) =
+    sets-eq (take n l) l 3 (omega arith) ∙ (rw end (append-assoc (take 3 l) (take n l) (drop (n + 3) l))) in
+    sets-eq (a ∷ b ∷ c ∷ []) (sets l 3 (take n l)) 0 (simp length-sets (omega arith))
+    ∙ ap (λ (x : List ℕ). a ∷ b ∷ c ∷ drop 3 x) moved
+    ∙ ap (λ (x : List ℕ). a ∷ b ∷ c ∷ x) (drop-at (take 3 l) (take n l ++ drop (n + 3) l) 3 (length-take-le 3 l (omega arith)))
+
+-- The three words at a place.
+pub three-at : (l : List ℕ) (i : ℕ) → i + 3 ≤ length l → take 3 (drop i l) ≡ getD l i 0 ∷ getD l (i + 1) 0 ∷ getD l (i + 2) 0 ∷ []
+three-at l i h =
+    rw (add-one, add-two, drop-cons l i 0 (omega arith), drop-cons l (suc i) 0 (omega arith), drop-cons l (suc (suc i)) 0 (omega arith)) refl
+
+-- ---- a search by logical page
+
+-- Whether rank i is in use and its entry has logical page l.
+abbrev pub matches : List ℕ → ℕ → ℕ → ℕ → Bool
+matches cache used l i = ltb i used && eqb (logical-at i cache) l
+
+module _ (cache : List ℕ) (used l i : ℕ) where
+  pub match-found : i * 3 < length cache → i < used → getD cache (i * 3) 0 ≡ l → matches cache used l i ≡ true
+  match-found h k e =
+      true-and (lt-ltb i used k) (eq-eqb (logical-at i cache) l (getD-any cache (i * 3) none 0 h ∙ e))
+
+  pub match-missed : i * 3 < length cache → (getD cache (i * 3) 0 ≡ l → ⊥) → matches cache used l i ≡ false
+  match-missed h ne =
+      rw (ne-eqb (logical-at i cache) l (λ e. ne (getD-any cache (i * 3) 0 none h ∙ e))) (and-false (ltb i used))
+
+  pub match-unused : used ≤ i → matches cache used l i ≡ false
+  match-unused h = rw (le-ltb i used h) refl
+
+-- None matches below n where none does among those in use.
+pub no-match : (cache : List ℕ) (used l n : ℕ) → ((i : ℕ) → i < used → matches cache used l i ≡ false)
+    → lowest n (matches cache used l) ≡ n
+no-match cache used l n h =
+    ⊎-elim
+    (λ found. clash (found .passes)
+    (below? (lowest n (matches cache used l)) used (h (lowest n (matches cache used l)))
+    (match-unused cache used l (lowest n (matches cache used l)))))
+    (λ missed. missed .is-n)
+    (lowest-cases n (matches cache used l))

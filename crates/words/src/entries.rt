@@ -1,0 +1,60 @@
+// The cache's entries, three words each: put in front of the others, and found by their logical page.
+use crate::runs::store_three;
+ghost use mathlib.Core.Path.{_≡_};
+ghost use mathlib.Core.Bool.{_&&_};
+ghost use mathlib.Core.List.{_∷_, _++_};
+ghost use Prim.Native.Nat.{_+_, _*_, _≤_};
+ghost use lib.Dec.{eqb, ltb};
+ghost use lib.ListN.{length, take};
+ghost use lib.Seq.{sets};
+ghost use Rattle.scope.specs.Counting.{lowest};
+ghost use Rattle.scope.specs.Lent.{«logical-at»};
+ghost use Rattle.scope.specs.Cache.{«entry-at», without};
+
+// The first n words move three words back, over those that stood there. From the last one down, so that the compiler sees a move.
+fn shift_back(s: &mut [u32], n: usize)
+    requires { ⌜ n + 3 ≤ length (now s) ⌝ }
+    ensures { λ _. ⌜ now (s .exit) ≡ sets (now (s .entry)) 3 (take n (now (s .entry))) ⌝ }
+{
+    let mut i = n;
+    while 0 < i {
+        i -= 1;
+        s[i + 3] = s[i];
+    }
+}
+
+// An entry in front, in the place of the one at rank i.
+pub fn put_front(cache: &mut [u32], i: usize, logical: u32, physical: u32, changed: u32)
+    requires { ⌜ i * 3 + 3 ≤ length (now cache) ⌝ }
+    ensures { λ _. ⌜ now (cache .exit) ≡ logical ∷ physical ∷ changed ∷ without i (now (cache .entry)) ⌝ }
+{
+    shift_back(cache, i * 3);
+    store_three(cache, 0, logical, physical, changed);
+}
+
+// The entry at rank i moves to the front.
+pub fn to_front(cache: &mut [u32], i: usize)
+    requires { ⌜ i * 3 + 3 ≤ length (now cache) ⌝ }
+    ensures { λ _. ⌜ now (cache .exit) ≡ entry-at i (now (cache .entry)) ++ without i (now (cache .entry)) ⌝ }
+{
+    let logical = cache[i * 3];
+    let physical = cache[i * 3 + 1];
+    let changed = cache[i * 3 + 2];
+    put_front(cache, i, logical, physical, changed);
+}
+
+// The lowest rank below `used` whose entry has logical page l; n where none has. The most recently used stand first, so that the
+// search ends early where it finds one.
+pub fn rank_of(cache: &[u32], used: usize, n: usize, l: u32) -> usize
+    requires { ⌜ (used ≤ n) × (n * 3 ≤ length (now cache)) ⌝ }
+    ensures { λ r. ⌜ r ≡ lowest n (λ i. ltb i used && eqb (logical-at i (now (cache .entry))) l) ⌝ }
+{
+    let mut i = 0;
+    while i < used {
+        if cache[i * 3] == l {
+            return i;
+        }
+        i += 1;
+    }
+    n
+}

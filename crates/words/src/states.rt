@@ -1,0 +1,37 @@
+// The spare's state words, two words a page: how many of a block's pages have a state.
+ghost use mathlib.Core.Path.{_≡_};
+ghost use mathlib.Core.Bool.{cond};
+ghost use Prim.Native.Nat.{_+_, _*_, _≤_};
+ghost use lib.Dec.{eqb};
+ghost use lib.ListN.{length};
+ghost use Rattle.scope.specs.Counting.{all, count};
+ghost use Rattle.scope.specs.Lent.{«state-of», «is-erased»};
+
+// What one page adds to a count. A function of its own, so that the loop below has no branch.
+fn bit(a: u32, b: u32) -> usize
+    ensures { λ r. ⌜ r ≡ cond (eqb a b) 1 0 ⌝ }
+{
+    if a == b { 1 } else { 0 }
+}
+
+// How many of the n pages from `first` on have the state.
+pub fn count_state(spare: &[u32], first: usize, n: usize, state: u32) -> usize
+    requires { ⌜ (first + n) * 2 ≤ length (now spare) ⌝ }
+    ensures { λ r. ⌜ r ≡ count n (λ i. eqb (state-of (first + i) (now (spare .entry))) state) ⌝ }
+{
+    let mut k = 0;
+    let mut i = 0;
+    while i < n {
+        k += bit(spare[(first + i) * 2], state);
+        i += 1;
+    }
+    k
+}
+
+// Whether all of the n pages from `first` on are erased.
+pub fn all_erased(spare: &[u32], first: usize, n: usize) -> bool
+    requires { ⌜ (first + n) * 2 ≤ length (now spare) ⌝ }
+    ensures { λ r. ⌜ r ≡ all n (λ i. is-erased (first + i) (now (spare .entry))) ⌝ }
+{
+    count_state(spare, first, n, 4294967295) == n
+}
