@@ -30,6 +30,13 @@ pub record Tallied (t r : Tally) (n : ℕ) (named good : ℕ → Bool) : Type 0 
   pub named-more : r .named ≡ t .named + count n named
   pub good-more : r .good ≡ t .good + count n good
 
+-- The tests of word i of a list: it names a page; it names the page of the owner `from + i`.
+abbrev pub word-named : List ℕ → ℕ → Bool
+word-named words i = names-page (getD words i none)
+
+abbrev pub word-good : List ℕ → ℕ → List ℕ → ℕ → ℕ → ℕ → Bool
+word-good words from spare first n i = owns first n spare (from + i) (getD words i none)
+
 -- *none* is no page of a region; a word that is a page's number counts as named, and as good where the page is its owner's.
 pub word-nowhere : (t : Tally) (x k : ℕ) (spare : List ℕ) (first n : ℕ) → first + n ≤ most-pages → Nowhere ≡ decode x
     → Tallied-word t t (names-page x) (owns first n spare k x)
@@ -50,4 +57,24 @@ word-place t r x k spare first n p e named good =
     record {
       named-more = rw (ne-eqb x none (is .is-some)) named;
       good-more = rw (is .is-page) good;
+    }
+
+-- From no words to n, a word at a time.
+pub tallied-start : (t : Tally) (named good : ℕ → Bool) → Tallied t t 0 named good
+tallied-start t named good = record { named-more = omega arith; good-more = omega arith }
+
+pub tallied-more : (t s r : Tally) (i : ℕ) (named good : ℕ → Bool) → Tallied t s i named good → Tallied-word s r (named i) (good i)
+    → Tallied t r (i + 1) named good
+tallied-more t s r i named good h w =
+    record {
+      named-more = rw (add-one i) (omega (arith, h .named-more, w .named-more));
+      good-more = rw (add-one i) (omega (arith, h .good-more, w .good-more));
+    }
+
+-- What was counted leaves room for the rest.
+pub tallied-room : (t s : Tally) (i m n : ℕ) (named good : ℕ → Bool) → Tallied t s i named good → Room t n → i + m ≤ n → Room s m
+tallied-room t s i m n named good h room fits =
+    record {
+      named-fits = omega (arith, h .named-more, count-le i named, room .named-fits);
+      good-fits = omega (arith, h .good-more, count-le i good, room .good-fits);
     }

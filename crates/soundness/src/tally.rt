@@ -5,12 +5,12 @@ ghost use Prim.Native.Nat.{_+_, _*_, _≤_};
 ghost use lib.ListN.{length};
 ghost use Rattle.scope.specs.Geometry.{most-pages};
 ghost use Rattle.soundness.specs.Named.{owns, names-page};
-ghost use Rattle.soundness.specs.Tally.{Room, Tallied-word};
+ghost use Rattle.soundness.specs.Tally.{Room, Tallied-word, Tallied, word-named, word-good};
 use lent::Entry;
 
 pub struct Tally {
-    pub named: u32,
-    pub good: u32,
+    pub named: usize,
+    pub good: usize,
 }
 
 // Whether p is one of the n pages from `first` on, valid and owned by k.
@@ -52,4 +52,30 @@ pub fn tallied(t: Tally, x: u32, k: u32, spare: &[u32], first: usize, n: usize) 
         named: t.named + 1,
         good: t.good,
     }
+}
+
+// The counts with all of `words` more, whose owners are those from `from` on.
+pub fn tally_words(
+    t: Tally,
+    words: &[u32],
+    from: usize,
+    spare: &[u32],
+    first: usize,
+    n: usize,
+) -> Tally
+    requires { ⌜ Room t (length (now words)) ⌝ }
+    requires { ⌜ from + length (now words) ≤ most-pages ⌝ }
+    requires { ⌜ (first + n) * 2 ≤ length (now spare) ⌝ }
+    requires { ⌜ first + n ≤ most-pages ⌝ }
+    ensures { λ r. ⌜ Tallied t r (length (now (words .entry)))
+        (word-named (now (words .entry)))
+        (word-good (now (words .entry)) from (now (spare .entry)) first n) ⌝ }
+{
+    let mut sum = t;
+    let mut i = 0;
+    while i < words.len() {
+        sum = tallied(sum, words[i], (from + i) as u32, spare, first, n);
+        i += 1;
+    }
+    sum
 }
