@@ -62,9 +62,11 @@ module _ {g : Geometry} {s : State} where
       one : (r : Region) → Pages-fit g r (s .chip) (s .spare)
       one Data = pages .fits .pages-fit
       one Translation = index .pages .fits .pages-fit
+
       two : (r : Region) → Owners-differ g r (s .spare)
       two Data = pages .fits .owners-differ
       two Translation = index .pages .fits .owners-differ
+
       three : (r : Region) → Blocks-fit g r (s .spare) (open-block r (s .small)) (next-offset r (s .small))
       three Data = fits-blocks g Data (s .chip) (s .spare) _ _ (pages .fits) (pages .besides)
       three Translation = fits-blocks g Translation (s .chip) (s .spare) _ _ (index .pages .fits) (index .pages .besides)

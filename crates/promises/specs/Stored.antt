@@ -24,12 +24,12 @@ abbrev pub table : Geometry → List ℕ → List ℕ → ℕ → List ℕ
 table g chip directory t = contents g chip (named t directory)
 
 in-contents : {g : Geometry} → Accepted g → (chip : List ℕ) (l : ℕ) (e : Entry)
-  → in-page g chip l e ≡ getD (contents g chip e) (translation-word g l) none
+    → in-page g chip l e ≡ getD (contents g chip e) (translation-word g l) none
 in-contents {g} ok chip l (Place q) = sym (words-at g q (translation-word g l) chip (word-below ok l))
 in-contents ok chip l Nowhere = refl
 
 pub stored-is : {g : Geometry} → Accepted g → (chip directory : List ℕ) (l : ℕ)
-  → stored g chip directory l ≡ getD (table g chip directory (translation-page g l)) (translation-word g l) none
+    → stored g chip directory l ≡ getD (table g chip directory (translation-page g l)) (translation-word g l) none
 unfolding stored
 stored-is {g} ok chip directory l = in-contents ok chip l (named (translation-page g l) directory)
 
@@ -78,8 +78,8 @@ module _ {g : Geometry} (ok : Accepted g) where
 
   -- The word of a logical page of translation page t is its latest mapping's.
   pub set-words-at : (t : ℕ) (ms : List Mapping) (words : List ℕ) → Mappings-of g t ms → length words ≡ g .W
-    → (l : ℕ) → translation-page g l ≡ t
-    → getD (set-words g ms words) (translation-word g l) none ≡ latest ms l (getD words (translation-word g l) none)
+      → (l : ℕ) → translation-page g l ≡ t
+      → getD (set-words g ms words) (translation-word g l) none ≡ latest ms l (getD words (translation-word g l) none)
   unfolding set-words
   set-words-at t [] words h w l e = refl
   set-words-at t (m ∷ ms) words h w l e =
@@ -87,18 +87,18 @@ module _ {g : Geometry} (ok : Accepted g) where
       let i = translation-word g k in
       set-words-at t ms (set words i (m .physical)) (h .2) (length-set words i (m .physical) ∙ w) l e
       ∙ ap (latest ms l)
-        (same? k l
-        (λ q. rw (eq-eqb k l q, q) (getD-set-same words (translation-word g l) (m .physical) none (omega (arith, word-below ok l))))
-        (λ q. rw (ne-eqb k l q) (getD-set-other words i (translation-word g l) (m .physical) none
-          (λ z. q (word-tells ok k l (h .1 ∙ sym e) (sym z))))))
+      (same? k l
+      (λ q. rw (eq-eqb k l q, q) (getD-set-same words (translation-word g l) (m .physical) none (omega (arith, word-below ok l))))
+      (λ q. rw (ne-eqb k l q) (getD-set-other words i (translation-word g l) (m .physical) none
+      (λ z. q (word-tells ok k l (h .1 ∙ sym e) (sym z))))))
 
   -- Words past L stay as they are.
   pub set-words-past : (t : ℕ) (ms : List Mapping) (words : List ℕ) → Mappings-of g t ms
-    → (i : ℕ) → i < g .W → g .L ≤ t * g .W + i → getD (set-words g ms words) i none ≡ getD words i none
+      → (i : ℕ) → i < g .W → g .L ≤ t * g .W + i → getD (set-words g ms words) i none ≡ getD words i none
   unfolding set-words
   set-words-past t [] words h i k l = refl
   set-words-past t (m ∷ ms) words h i k l =
       let j = translation-word g (m .logical) in
       set-words-past t ms (set words j (m .physical)) (h .2) i k l
       ∙ getD-set-other words j i (m .physical) none
-        (λ z. omega (arith, h .0, page-and-word ok (m .logical), ap (λ (x : ℕ). x * g .W) (h .1)))
+      (λ z. omega (arith, h .0, page-and-word ok (m .logical), ap (λ (x : ℕ). x * g .W) (h .1)))

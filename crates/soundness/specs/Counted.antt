@@ -1,16 +1,17 @@
--- Laws of counts that the rules of a sound state are decided by: counts told by a map without repeats, tests that count the same,
--- and the numbers that a list of keys hits.
+-- Laws of tests and counts that the rules of a sound state are decided by: a count told by a map without repeats, tests that count
+-- the same, and a walk that tests each number.
 use Prim.Native.Nat.{ℕ, zero, suc, _+_, _≤_, _<_}
 use mathlib.Core.Path.{_≡_, refl, sym, _∙_}
 use mathlib.Core.Logic.{_≢_}
 use mathlib.Core.Bool.{Bool, true, false, not, cond, _&&_}
+use native.Mathlib.Numerals.{add-one}
 use native.Mathlib.Omega.{arith}
 use lib.Dec.{eqb}
 use borrow.Author.Tests.{eqb-true, eqb-false, eq-eqb, ne-eqb, not-true}
-use Rattle.scope.specs.Counting.{count}
+use Rattle.scope.specs.Counting.{all, count}
 use Rattle.scope.specs.Laws.Decides.{Decides}
 use Rattle.flash.specs.Cases.{on, same?, last, clash, and-true, true-and, not-of-false, is-true, is-false}
-use Rattle.flash.specs.Counting.{count-mono, count-same, count-none, count-one, count-split, count-at-most-one}
+use Rattle.flash.specs.Counting.{all-each, count-mono, count-same, count-none, count-one, count-split, count-at-most-one}
 
 -- Two tests that decide one proposition are equal.
 pub decided-same : {a b : Bool} {X : Type 0} → Decides a X → Decides b X → a ≡ b
@@ -65,3 +66,10 @@ count-less n f h sub i k p q =
 pub count-tight : (n : ℕ) (f h : ℕ → Bool) → ((i : ℕ) → i < n → f i ≡ true → h i ≡ true) → count n h ≡ count n f
     → (i : ℕ) → i < n → h i ≡ true → f i ≡ true
 count-tight n f h sub same i k q = is-true (f i) (λ p. omega (arith, count-less n f h sub i k p q))
+
+-- A walk that tests each number: it goes on while the tests pass, and stops at the first that fails.
+pub all-more : (i : ℕ) (f : ℕ → Bool) → all i f ≡ true → f i ≡ true → all (i + 1) f ≡ true
+all-more i f h p = rw (add-one i) (true-and h p)
+
+pub all-stops : (n i : ℕ) (f : ℕ → Bool) → i < n → f i ≡ false → all n f ≡ false
+all-stops n i f k p = is-false (all n f) (λ h. clash (all-each n f h i k) p)

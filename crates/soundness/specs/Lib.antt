@@ -7,3 +7,4 @@ pub mod Counted
 pub mod Named
 pub mod Reads
 pub mod Tally
+pub mod Stored
