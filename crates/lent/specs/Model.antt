@@ -5,9 +5,12 @@ use denote.Ref.{RefT, now}
 use Rattle.lent.specs.declared.Geometry.{Geometry as Numbers}
 use Rattle.lent.specs.declared.Record.{Record}
 use Rattle.lent.specs.declared.Counts.{Counts as Counted}
+use Rattle.lent.specs.declared.Region.{Region as Kind}
+use Rattle.lent.specs.declared.Region.the-variants.{Data as DataOf, Translation as TranslationOf}
 use Rattle.lent.specs.declared.Entry.{Entry as Coded}
 use Rattle.lent.specs.declared.Entry.the-variants.{Place as PlaceOf, Nowhere as NowhereOf}
 use Rattle.scope.specs.Geometry.{Geometry}
+use Rattle.scope.specs.Regions.{Region, Data, Translation}
 use Rattle.scope.specs.SmallRecord.{SmallRecord}
 use Rattle.scope.specs.Lent.{State, Entry, Place, Nowhere}
 use Rattle.scope.specs.Operations.{Counts}
@@ -27,6 +30,10 @@ small r =
 
 abbrev pub counts : Counted → Counts
 counts c = record { reads = c .reads; programs = c .programs; erases = c .erases }
+
+abbrev pub region : Kind → Region
+region DataOf = Data
+region TranslationOf = Translation
 
 abbrev pub entry : Coded → Entry
 entry (PlaceOf p) = Place p

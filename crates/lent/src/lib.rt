@@ -1,5 +1,5 @@
-// The numbers that travel by value: the geometry, the small record, the counts, and an entry taken apart. Their models, and the
-// shape of every step's contract, stand in specs/.
+// The numbers that travel by value: the geometry, the small record, the counts, a region, and an entry taken apart. Their models,
+// and the shape of every step's contract, stand in specs/.
 ghost use mathlib.Core.Path.{_≡_};
 ghost use Rattle.scope.specs.Lent.{decode};
 ghost use Rattle.lent.specs.Model.{entry};
@@ -28,6 +28,24 @@ pub struct Counts {
     pub reads: u32,
     pub programs: u32,
     pub erases: u32,
+}
+
+// The small record and the counts so far: what a step takes, and hands back as it leaves them.
+pub struct Work {
+    pub rec: Record,
+    pub counts: Counts,
+}
+
+// What a step hands back beside that: a page number, or an entry's word.
+pub struct Handed {
+    pub value: u32,
+    pub work: Work,
+}
+
+// The two regions of the chip.
+pub enum Region {
+    Data,
+    Translation,
 }
 
 // An entry: a page number, or none.

@@ -1,0 +1,42 @@
+-- Contracts of steps that touch some of the lent lists only: they do their definition whatever the others hold, and leave these as
+-- they are. And room in the counts for what a step adds to them.
+use Prim.Native.Nat.{ℕ, _+_, _≤_, _<_}
+use mathlib.Core.Path.{_≡_, ap}
+use mathlib.Core.List.{List}
+use native.Mathlib.Omega.{arith}
+use Rattle.lent.specs.declared.Counts.{Counts as Counted}
+use Rattle.lent.specs.declared.Work.{Work}
+use Rattle.scope.specs.Operations.{Operation, Step, Counts, counts-add, counted}
+use Rattle.flash.specs.Listed.{cost}
+use Rattle.lent.specs.Model.{state, counts}
+use Rattle.lent.specs.Does.{Does}
+
+-- Chip and spare, and what travels by value.
+abbrev pub Does-flash : {A : Type 0} → Step A → List ℕ → List ℕ → Work → A → List ℕ → List ℕ → Work → Type 0
+Does-flash m chip spare w x chip′ spare′ w′ =
+    (directory cache : List ℕ)
+    → Does m (state chip spare directory cache (w .rec)) (counts (w .counts)) x
+    (state chip′ spare′ directory cache (w′ .rec)) (counts (w′ .counts))
+
+-- The cache, and what travels by value.
+abbrev pub Does-cache : {A : Type 0} → Step A → List ℕ → Work → A → List ℕ → Work → Type 0
+Does-cache m cache w x cache′ w′ =
+    (chip spare directory : List ℕ)
+    → Does m (state chip spare directory cache (w .rec)) (counts (w .counts)) x
+    (state chip spare directory cache′ (w′ .rec)) (counts (w′ .counts))
+
+-- Each count may grow by n and is still a 32-bit number.
+pub record Room-to-count (n : ℕ) (c : Counted) : Type 0 where
+  pub reads : c .reads + n < 4294967296
+  pub programs : c .programs + n < 4294967296
+  pub erases : c .erases + n < 4294967296
+
+-- Less room is left after a step, by no more than its operations cost.
+pub room-after : (n k : ℕ) (c c′ : Counted) (os : List Operation) → Room-to-count (n + k) c → cost os ≤ k
+    → counts-add (counts c) (counted os) ≡ counts c′ → Room-to-count n c′
+room-after n k c c′ os room most e =
+    record {
+      reads = omega (arith, room .reads, ap (λ (x : Counts). x .reads) e);
+      programs = omega (arith, room .programs, ap (λ (x : Counts). x .programs) e);
+      erases = omega (arith, room .erases, ap (λ (x : Counts). x .erases) e);
+    }
