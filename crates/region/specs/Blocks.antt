@@ -31,6 +31,14 @@ open-law {opened = opened} e fits full here empty =
           (λ ne. fits .others b in-b ne);
     }
 
+-- What an erase keeps of a region: all of it, with any map, and it leaves an erased block besides the open one.
+pub record Erasure (g : Geometry) (r : Region) (s s′ : State) (opened offset : ℕ) : Type 0 where
+  pub fits : Region-fits g r (s′ .chip) (s′ .spare) opened offset
+  pub besides : Besides g r (s′ .spare) opened
+  pub maps : (view : ℕ → ℕ) → Maps g r (s .spare) view → Maps g r (s′ .spare) view
+  pub keeps : (view : ℕ → ℕ) → Maps g r (s .spare) view → (k : ℕ) → k < owners g r
+      → contents g (s′ .chip) (decode (view k)) ≡ contents g (s .chip) (decode (view k))
+
 -- A block without a valid page is erased, and it is not the open one.
 module _ (g : Geometry) (r : Region) (s s′ : State) (opened offset v : ℕ)
     (fits : Region-fits g r (s .chip) (s .spare) opened offset) (here : Has-block g r v) (closed : v ≢ opened)
@@ -63,7 +71,7 @@ module _ (g : Geometry) (r : Region) (s s′ : State) (opened offset v : ℕ)
       (λ i h _ is-valid. absurd (none-valid i h is-valid))
       (λ p same _. same)
 
-  pub erase-fits : Region-fits g r (s′ .chip) (s′ .spare) opened offset
+  erase-fits : Region-fits g r (s′ .chip) (s′ .spare) opened offset
   erase-fits =
       record {
         pages-fit = λ p in-region. each (λ p. Page-fits g r (s .chip) (s .spare) p → Page-fits g r (s′ .chip) (s′ .spare) p)
@@ -92,9 +100,6 @@ module _ (g : Geometry) (r : Region) (s s′ : State) (opened offset v : ℕ)
             (fits .others b in-b apart));
       }
 
-  pub erase-besides : Besides g r (s′ .spare) opened
-  erase-besides = (v, here, closed, λ i h. did .pages i h .state)
-
   erase-names : (k : ℕ) (e : Entry) → Names g r (s .spare) k e → Names g r (s′ .spare) k e
   erase-names k (Place p) (in-region, is-valid, is-owner) =
       let same = stays-valid p in-region is-valid in
@@ -104,9 +109,15 @@ module _ (g : Geometry) (r : Region) (s s′ : State) (opened offset v : ℕ)
       let same = was-valid p in-region is-valid in
       nobody p in-region (sym (same .state) ∙ is-valid) (sym (same .owner) ∙ is-owner)
 
-  pub erase-maps : (view : ℕ → ℕ) → Maps g r (s .spare) view → Maps g r (s′ .spare) view
-  erase-maps view maps k owned = erase-names k (decode (view k)) (maps k owned)
-
-  pub erase-contents : (k : ℕ) (e : Entry) → Names g r (s .spare) k e → contents g (s′ .chip) e ≡ contents g (s .chip) e
+  erase-contents : (k : ℕ) (e : Entry) → Names g r (s .spare) k e → contents g (s′ .chip) e ≡ contents g (s .chip) e
   erase-contents k (Place p) names = stays-valid p (names .0) (names .1) .words
   erase-contents k Nowhere names = refl
+
+  pub erase-law : Erasure g r s s′ opened offset
+  erase-law =
+      record {
+        fits = erase-fits;
+        besides = (v, here, closed, λ i h. did .pages i h .state);
+        maps = λ view maps. record { names = λ k owned. erase-names k (decode (view k)) (maps .names k owned) };
+        keeps = λ view maps k owned. erase-contents k (decode (view k)) (maps .names k owned);
+      }

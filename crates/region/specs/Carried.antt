@@ -1,17 +1,35 @@
 -- What holds of a region goes on to hold where its pages are as before.
 use Prim.Native.Nat.{ℕ, _<_}
-use mathlib.Core.Path.{_≡_, refl, sym, _∙_}
+use mathlib.Core.Path.{_≡_, refl, sym, ap, subst, _∙_}
 use mathlib.Core.Logic.{_≢_, ⊎-elim, inl, inr}
 use mathlib.Core.List.{List}
 use native.Mathlib.Omega.{arith}
 use Rattle.scope.specs.Geometry.{Geometry}
 use Rattle.scope.specs.Regions.{Region, owners, page-in, Has-block, Has-page}
-use Rattle.scope.specs.Lent.{Entry, Place, Nowhere, decode, state-of}
+use Rattle.scope.specs.Lent.{Entry, Place, Nowhere, decode, State, words-of, state-of, owner-of}
 use Rattle.scope.specs.Sound.{Page-fits, Wholly-erased, Full, Names}
+use Rattle.scope.specs.Laws.Applied.{Same-flash}
 use Rattle.flash.specs.Pages.{Page-same, page-word}
 use Rattle.flash.specs.Places.{page-in-region}
-use Rattle.flash.specs.SamePages.{Pages-same}
+use Rattle.flash.specs.SamePages.{Pages-same, Same-pages}
 use Rattle.region.specs.Holds.{Region-fits, Besides, Maps, Region-holds, contents}
+
+-- A map that names the same for every owner.
+pub maps-viewed : {g : Geometry} {r : Region} {spare : List ℕ} {view view′ : ℕ → ℕ}
+    → ((k : ℕ) → k < owners g r → view′ k ≡ view k) → Maps g r spare view → Maps g r spare view′
+maps-viewed {g} {r} {spare} same maps =
+    record { names = λ k h. subst (λ x. Names g r spare k (decode x)) (sym (same k h)) (maps .names k h) }
+
+-- Pages are as before where chip and spare are.
+pub flash-pages : {g : Geometry} {r : Region} {s s′ : State} → Same-flash s′ s → Same-pages g r s s′
+flash-pages {g} h =
+    record {
+      page = λ p _. record {
+        state = ap (state-of p) (h .spare);
+        owner = ap (owner-of p) (h .spare);
+        words = ap (words-of g p) (h .chip);
+      };
+    }
 
 -- Rule 1 of one page.
 pub page-fits-same : {g : Geometry} {r : Region} {p : ℕ} {chip spare chip′ spare′ : List ℕ}
@@ -64,14 +82,14 @@ module _ {g : Geometry} {r : Region} {chip spare chip′ spare′ : List ℕ} (s
   contents-same k (Place p) h = same .page p (h .0) .words
   contents-same k Nowhere h = refl
 
-  pub maps-same : (view : ℕ → ℕ) → Maps g r spare view → Maps g r spare′ view
-  maps-same view maps k owned = names-same k (decode (view k)) (maps k owned)
+  pub maps-same : {view : ℕ → ℕ} → Maps g r spare view → Maps g r spare′ view
+  maps-same {view} maps = record { names = λ k owned. names-same k (decode (view k)) (maps .names k owned) }
 
   pub holds-same : {opened offset : ℕ} {view : ℕ → ℕ}
       → Region-holds g r chip spare opened offset view → Region-holds g r chip′ spare′ opened offset view
-  holds-same {view = view} holds =
+  holds-same holds =
       record {
         fits = region-fits-same (holds .fits);
         besides = besides-same (holds .besides);
-        maps = maps-same view (holds .maps);
+        maps = maps-same (holds .maps);
       }

@@ -4,30 +4,21 @@
 -- waits is where its last waiting entry says, and settling updates translation pages.
 use Prim.Native.Nat.{ℕ, _+_, _*_, _-_, _≤_, _<_}
 use mathlib.Core.Path.{_≡_}
-use mathlib.Core.Logic.{_≢_}
 use mathlib.Core.List.{List, [], _++_}
 use lib.ListN.{length}
 use Rattle.scope.specs.Geometry.{Geometry}
 use Rattle.scope.specs.Regions.{Region, owners, Has-page}
-use Rattle.scope.specs.SmallRecord.{open-block, next-offset, with-open}
+use Rattle.scope.specs.SmallRecord.{open-block, next-offset}
 use Rattle.scope.specs.Lent.{State, Mapping, decode}
 use Rattle.scope.specs.Operations.{Outcome}
 use Rattle.scope.specs.Room.{Following}
 use Rattle.scope.specs.Laws.Applied.{Same-flash}
 use Rattle.flash.specs.Words.{Lengths}
-use Rattle.flash.specs.Places.{other}
 use Rattle.flash.specs.SamePages.{Same-pages}
 use Rattle.flash.specs.Listed.{cost}
+use Rattle.region.specs.Elsewhere.{Same-elsewhere}
 use Rattle.region.specs.Holds.{Holds, Renames, contents}
 use Rattle.region.specs.Done.{Done}
-
--- All that is not region r's own is as before: the other region's pages, the directory, the cache, and the small record but for the
--- region's open block and next offset.
-pub record Same-elsewhere (g : Geometry) (r : Region) (s s′ : State) : Type 0 where
-  pub pages : Same-pages g (other r) s s′
-  pub directory : s′ .directory ≡ s .directory
-  pub cache : s′ .cache ≡ s .cache
-  pub small : s′ .small ≡ with-open r (open-block r (s′ .small)) (next-offset r (s′ .small)) (s .small)
 
 -- Where the owners' pages are, with what waits, and what is kept outside of the region.
 abbrev pub View : Type 0

@@ -26,8 +26,8 @@ abbrev pub Besides : Geometry → Region → List ℕ → ℕ → Type 0
 Besides g r spare opened = (b : ℕ) × Has-block g r b × (b ≢ opened) × Wholly-erased g spare b
 
 -- A map names, for each owner of the region, "the valid page with that owner; *none* where there isn't one".
-abbrev pub Maps : Geometry → Region → List ℕ → (ℕ → ℕ) → Type 0
-Maps g r spare view = (k : ℕ) → k < owners g r → Names g r spare k (decode (view k))
+pub record Maps (g : Geometry) (r : Region) (spare : List ℕ) (view : ℕ → ℕ) : Type 0 where
+  pub names : (k : ℕ) → k < owners g r → Names g r spare k (decode (view k))
 
 -- The words that an entry leads to; none at all where it is nowhere, for a page has at least one.
 abbrev pub contents : Geometry → List ℕ → Entry → List ℕ
@@ -78,7 +78,7 @@ module _ (g : Geometry) (r : Region) (chip spare : List ℕ) (opened offset : �
 pub valid-page-named : (g : Geometry) (r : Region) (spare : List ℕ) (view : ℕ → ℕ) (k p : ℕ)
     → Owners-differ g r spare → Maps g r spare view → k < owners g r
     → Has-page g r p → state-of p spare ≡ valid → owner-of p spare ≡ k → decode (view k) ≡ Place p
-valid-page-named g r spare view k p differ maps owned here is-valid is-owner = go (decode (view k)) (maps k owned)
+valid-page-named g r spare view k p differ maps owned here is-valid is-owner = go (decode (view k)) (maps .names k owned)
   where
     go : (e : Entry) → Names g r spare k e → e ≡ Place p
     go (Place q) (there, valid-q, owner-q) = ap Place (differ q p there here valid-q is-valid (owner-q ∙ sym is-owner))

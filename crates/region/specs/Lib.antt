@@ -2,7 +2,13 @@
 pub mod Holds
 pub mod Carried
 pub mod Room
-pub mod Done
-pub mod Follower
 pub mod Replace
 pub mod Blocks
+pub mod Done
+pub mod Elsewhere
+pub mod Follower
+pub mod NextPage
+pub mod Moving
+pub mod Copied
+pub mod Collect
+pub mod MakeRoom

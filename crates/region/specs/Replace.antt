@@ -40,15 +40,18 @@ pub place-of-page : (g : Geometry) (r : Region) (p : ℕ) → Accepted g → Has
 place-of-page g r p accepted here =
     rw (ne-eqb p none (omega (arith, page-on-chip g r p here, mul-le-mul (accepted .D+T-to) (accepted .P-to))))
 
--- What a replacement gives.
-pub record Replacement (g : Geometry) (r : Region) (k : ℕ) (words : List ℕ) (chip spare chip′ spare′ : List ℕ) (opened offset : ℕ)
-    (view view′ : ℕ → ℕ) : Type 0 where
+-- What a replacement gives; of the map, once it names the new page for k.
+pub record Replacement (g : Geometry) (r : Region) (k : ℕ) (words chip spare chip′ spare′ : List ℕ) (opened offset : ℕ)
+    (view : ℕ → ℕ) : Type 0 where
+  pub pages : Replaced g (page-in g opened offset) k words (decode (view k)) chip spare chip′ spare′
   pub fits : Region-fits g r chip′ spare′ opened (suc offset)
-  pub maps : Maps g r spare′ view′
   pub besides : Besides g r spare opened → Besides g r spare′ opened
-  pub written : contents g chip′ (decode (view′ k)) ≡ words
-  pub keeps : (j : ℕ) → j < owners g r → j ≢ k → contents g chip′ (decode (view′ j)) ≡ contents g chip (decode (view j))
   pub elsewhere : Pages-same g (other r) chip spare chip′ spare′
+  pub maps : (view′ : ℕ → ℕ) → Renames (owners g r) k (page-in g opened offset) view view′ → Maps g r spare′ view′
+  pub written : (view′ : ℕ → ℕ) → Renames (owners g r) k (page-in g opened offset) view view′
+      → contents g chip′ (decode (view′ k)) ≡ words
+  pub keeps : (view′ : ℕ → ℕ) → Renames (owners g r) k (page-in g opened offset) view view′
+      → (j : ℕ) → j < owners g r → j ≢ k → contents g chip′ (decode (view′ j)) ≡ contents g chip (decode (view j))
 
 -- Rule 1 of a programmed page.
 programmed-fits : {g : Geometry} {r : Region} {p : ℕ} {chip spare : List ℕ}
@@ -64,11 +67,10 @@ programmed-fits {p = p} {spare = spare} state owner =
     not-erased : state-of p spare ≢ erased
     not-erased e = ⊎-elim (λ h. omega arith) (λ h. omega arith) state
 
-module _ (g : Geometry) (r : Region) (k : ℕ) (words chip spare chip′ spare′ : List ℕ) (opened offset : ℕ) (view view′ : ℕ → ℕ)
+module _ (g : Geometry) (r : Region) (k : ℕ) (words chip spare chip′ spare′ : List ℕ) (opened offset : ℕ) (view : ℕ → ℕ)
     (accepted : Accepted g) (fits : Region-fits g r chip spare opened offset) (room : offset < g .P)
     (maps : Maps g r spare view) (owned : k < owners g r)
-    (did : Replaced g (page-in g opened offset) k words (decode (view k)) chip spare chip′ spare′)
-    (renames : Renames (owners g r) k (page-in g opened offset) view view′) where
+    (did : Replaced g (page-in g opened offset) k words (decode (view k)) chip spare chip′ spare′) where
   abbrev q : ℕ
   q = page-in g opened offset
 
@@ -77,7 +79,7 @@ module _ (g : Geometry) (r : Region) (k : ℕ) (words chip spare chip′ spare�
 
   -- The old page is a valid page of the region, and k's.
   old-names : (p : ℕ) → decode (view k) ≡ Place p → Names g r spare k (Place p)
-  old-names p e = subst (Names g r spare k) e (maps k owned)
+  old-names p e = subst (Names g r spare k) e (maps .names k owned)
 
   -- A page of the region is the new one, the old one or as before.
   each : (X : ℕ → Type 0) → X q → ((p : ℕ) → decode (view k) ≡ Place p → X p)
@@ -190,19 +192,22 @@ module _ (g : Geometry) (r : Region) (k : ℕ) (words chip spare chip′ spare�
   contents′ j apart (Place p) names = other-same j apart p names .words
   contents′ j apart Nowhere names = refl
 
-  new-place : decode (view′ k) ≡ Place q
-  new-place = ap decode (renames .there) ∙ place-of-page g r q accepted here
+  new-place : (view′ : ℕ → ℕ) → Renames (owners g r) k q view view′ → decode (view′ k) ≡ Place q
+  new-place view′ renames = ap decode (renames .there) ∙ place-of-page g r q accepted here
 
-  pub replace-law : Replacement g r k words chip spare chip′ spare′ opened offset view view′
+  pub replace-law : Replacement g r k words chip spare chip′ spare′ opened offset view
   replace-law =
       record {
+        pages = did;
         fits = fits′;
-        maps = λ j h. same? j k
-            (λ e. rw (e, new-place) (here, did .new-state, did .new-owner))
-            (λ apart. rw (renames .elsewhere j h apart) (names′ j apart (decode (view j)) (maps j h)));
         besides = besides′;
-        written = rw new-place (did .new-words);
-        keeps = λ j h apart. ap (λ x. contents g chip′ (decode x)) (renames .elsewhere j h apart)
-            ∙ contents′ j apart (decode (view j)) (maps j h);
         elsewhere = elsewhere′;
+        maps = λ view′ renames. record {
+          names = λ j h. same? j k
+              (λ e. rw (e, new-place view′ renames) (here, did .new-state, did .new-owner))
+              (λ apart. rw (renames .elsewhere j h apart) (names′ j apart (decode (view j)) (maps .names j h)));
+        };
+        written = λ view′ renames. rw (new-place view′ renames) (did .new-words);
+        keeps = λ view′ renames j h apart. ap (λ x. contents g chip′ (decode x)) (renames .elsewhere j h apart)
+            ∙ contents′ j apart (decode (view j)) (maps .names j h);
       }
