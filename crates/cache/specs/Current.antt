@@ -1,20 +1,18 @@
 -- Current places and rule 7, by what the cache holds and what flash stores: what each change of either does to them.
-use Prim.Native.Nat.{ℕ, suc, _≤_, _<_}
+use Prim.Native.Nat.{ℕ, _<_}
 use native.Mathlib.Omega.{arith}
-use mathlib.Core.Path.{_≡_, refl, ap, sym, _∙_, subst}
+use mathlib.Core.Path.{_≡_, ap, sym, _∙_}
 use mathlib.Core.Logic.{_≢_}
-use mathlib.Core.Bool.{cond, false}
 use mathlib.Core.List.{List}
-use borrow.Author.Tests.{eqb-false, lt-ltb, le-ltb}
+use borrow.Author.Tests.{lt-ltb, le-ltb}
 use Rattle.flash.specs.Cases.{same?, below?}
 use Rattle.scope.specs.Geometry.{Geometry}
-use Rattle.scope.specs.Lent.{State, logical-at, physical-at, changed-at}
+use Rattle.scope.specs.Lent.{State, logical-at, physical-at}
 use Rattle.scope.specs.Operations.{Operation, Outcome}
-use Rattle.scope.specs.Cache.{is-changed, touch, enter, forget, set-entry}
-use Rattle.scope.specs.Sound.{Entries-fit, rank-of, stored, current, Unchanged-agree}
-use Rattle.cache.specs.Ranks.{Has-rank, Not-cached, rank-found, rank-missing}
-use Rattle.cache.specs.Holds.{Found, Hit, Miss, updated, updated-here, updated-elsewhere, Cache-holds, hit-at, hit-is-no-miss}
-use Rattle.cache.specs.Steps.{Holds-in, Cache-step, touch-law, enter-law, forget-law, set-entry-law}
+use Rattle.scope.specs.Sound.{rank-of, stored, current, Unchanged-agree}
+use Rattle.cache.specs.Ranks.{rank-found, rank-missing}
+use Rattle.cache.specs.Holds.{Found, Hit, Miss, updated, updated-here, updated-elsewhere, hit-at, hit-is-no-miss}
+use Rattle.cache.specs.Steps.{Holds-in, Cache-step}
 
 -- "The cache's if l is cached, else the translation page's word."
 abbrev pub place-or : ℕ → Found → ℕ

@@ -1,6 +1,6 @@
 -- The cache as a map from logical pages, whatever its order: what a list of entries holds, and what it holds once its entries
 -- change places, one of them changes, one is added and the last is dropped. Each keeps rule 5.
-use Prim.Native.Nat.{ℕ, zero, suc, _≤_, _<_}
+use Prim.Native.Nat.{ℕ, suc, _≤_, _<_}
 use native.Mathlib.Omega.{arith}
 use mathlib.Core.Path.{_≡_, refl, ap, sym, _∙_, subst}
 use mathlib.Core.Logic.{_≢_}
@@ -14,7 +14,7 @@ use Rattle.scope.specs.Geometry.{Geometry}
 use Rattle.scope.specs.Lent.{none, cache-size, logical-at, physical-at, changed-at}
 use Rattle.scope.specs.Sound.{Entries-fit, rank-of}
 use Rattle.cache.specs.Entries.{CacheEntry, entry, Stores}
-use Rattle.cache.specs.Ranks.{Has-rank, Not-cached, rank-found, rank-missing, rank-is, cached?}
+use Rattle.cache.specs.Ranks.{Not-cached, rank-found, rank-missing, rank-is, cached?}
 
 -- What the cache says of a logical page: its place and whether that is changed, or nothing.
 pub data Found : Type 0 where

@@ -6,5 +6,7 @@ pub mod Order
 pub mod Changes
 pub mod Steps
 pub mod Current
+pub mod Waiting
 pub mod Stored
 pub mod Fetch
+pub mod Follow

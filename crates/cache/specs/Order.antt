@@ -10,7 +10,7 @@ use borrow.Author.Tests.{eq-eqb, ne-eqb, lt-ltb, le-ltb}
 use Rattle.flash.specs.Cases.{same?, below?}
 use Rattle.scope.specs.Geometry.{Geometry}
 use Rattle.scope.specs.Lent.{cache-size, logical-at}
-use Rattle.cache.specs.Entries.{CacheEntry, entry, to-front, rank-before, length-to-front, to-front-entry}
+use Rattle.cache.specs.Entries.{entry, to-front, rank-before, length-to-front, to-front-entry}
 use Rattle.cache.specs.Holds.{Found, Cache-holds, Says, Unused}
 
 -- The entries in use stand in another order, and the unused ones where they stood. `from` is the rank that the one now at a rank

@@ -1,16 +1,14 @@
 -- The steps that change the cache: what each hands back, what the cache holds after it, and that all else stays.
-use Prim.Native.Nat.{ℕ, suc, _+_, _*_, _-_, _≤_, _<_}
+use Prim.Native.Nat.{ℕ, suc, _-_, _<_}
 use native.Mathlib.Omega.{arith}
-use mathlib.Core.Path.{_≡_, refl, subst}
-use mathlib.Core.List.{List, [], _∷_}
-use lib.Seq.{sets}
+use mathlib.Core.Path.{_≡_, refl}
+use mathlib.Core.List.{List, []}
 use Rattle.scope.specs.Geometry.{Geometry}
 use Rattle.scope.specs.SmallRecord.{with-used}
-use Rattle.scope.specs.Lent.{none, State, entry-words, logical-at, with-cache, with-small}
+use Rattle.scope.specs.Lent.{State, logical-at, with-cache, with-small}
 use Rattle.scope.specs.Operations.{Operation, Outcome, give, set-cache, set-small, _>>=_}
-use Rattle.scope.specs.Cache.{without, touch, enter, forget, set-entry}
+use Rattle.scope.specs.Cache.{touch, enter, forget, set-entry}
 use Rattle.scope.specs.Laws.Applied.{Same-flash}
-use Rattle.cache.specs.Entries.{to-front}
 use Rattle.cache.specs.Ranks.{Has-rank}
 use Rattle.cache.specs.Holds.{Found, Hit, Miss, updated, Cache-holds}
 use Rattle.cache.specs.Changes.{Holds-at, touched-holds, entered-holds, forgotten-holds, placed-holds, placed-ranks}

@@ -1,20 +1,21 @@
 -- What flash stores for a logical page, and what becomes of current places and rule 7 when it changes while the cache stays.
-use Prim.Native.Nat.{ℕ, _%_, _≤_, _<_}
+use Prim.Native.Nat.{ℕ, _≤_, _<_}
 use native.Mathlib.Nat.{mod-lt}
 use native.Mathlib.Omega.{arith}
-use mathlib.Core.Path.{_≡_, refl, ap, sym, _∙_, subst}
-use mathlib.Core.Bool.{Bool, false}
+use mathlib.Core.Path.{_≡_, refl, ap, sym, _∙_}
+use mathlib.Core.Bool.{false}
 use mathlib.Core.List.{List, []}
 use lib.ListN.{getD}
 use borrow.Author.Tests.{eqb-false}
 use Rattle.flash.specs.Words.{words-at}
 use Rattle.scope.specs.Geometry.{Geometry}
-use Rattle.scope.specs.Lent.{none, Entry, Place, Nowhere, State, words-of, named, logical-at, physical-at, changed-at, translation-page, translation-word}
+use Rattle.scope.specs.Lent.{none, Entry, Place, Nowhere, State, Mapping, words-of, named, logical-at, physical-at, changed-at, translation-page, translation-word}
 use Rattle.scope.specs.Cache.{is-changed}
 use Rattle.scope.specs.Sound.{Entries-fit, in-page, stored, current, Unchanged-agree}
-use Rattle.cache.specs.Holds.{Found, Hit, Miss, Cache-holds, hit-below-L}
+use Rattle.cache.specs.Holds.{Found, Hit, Miss, hit-is-no-miss, hit-below-L}
 use Rattle.cache.specs.Steps.{Holds-in}
-use Rattle.cache.specs.Current.{place-or, Agrees, stored-in, Places-kept, current-is, agree-maps, maps-agree}
+use Rattle.cache.specs.Current.{place-or, stored-in, Places-kept, current-is, agree-maps, maps-agree}
+use Rattle.cache.specs.Waiting.{mapped, Waits, mapped-same, mapped-elsewhere}
 
 -- The word of the translation page's words, given as the list of words that an entry leads to and as no words where it is nowhere.
 pub stored-word : (g : Geometry) (chip directory : List ℕ) (l : ℕ) (contents : Entry → List ℕ)
@@ -40,20 +41,41 @@ abbrev pub Rests-on-flash : Found → Type 0
 Rests-on-flash (Hit place c) = c ≡ 0
 Rests-on-flash Miss = Unit {0}
 
--- The cache stays, and flash stores the same wherever it matters.
-pub stored-keeps-places : (g : Geometry) (s s′ : State) (m : ℕ → Found) → Holds-in g s m → Unchanged-agree g s
-    → s′ .cache ≡ s .cache → s′ .small .used ≡ s .small .used
-    → ((l : ℕ) → l < g .L → Rests-on-flash (m l) → stored-in g s′ l ≡ stored-in g s l)
-    → Places-kept g s s′
-stored-keeps-places g s s′ m h seven cache used same =
-    record {
-      places = λ l b. current-is g s′ m h′ l ∙ place l b (m l) refl ∙ sym (current-is g s m h l);
-      agree = maps-agree g s′ m h′ (λ l p e. agree-maps g s m h seven l p e ∙ sym (same l (hit-below-L g (s .cache) (s .small .used) m h l p 0 e) (rw e refl)));
-    }
-  where
-    h′ : Holds-in g s′ m
-    h′ = rw (cache, used) h
+-- Every current place is what it was while w waited, and rule 7 holds.
+pub record Settled (g : Geometry) (w : List Mapping) (s s′ : State) : Type 0 where
+  pub places : (l : ℕ) → l < g .L → current g s′ l ≡ mapped w (current g s) l
+  pub agree : Unchanged-agree g s′
 
-    place : (l : ℕ) → l < g .L → (f : Found) → m l ≡ f → place-or (stored-in g s′ l) (m l) ≡ place-or (stored-in g s l) (m l)
-    place l b (Hit p c) e = rw e
-    place l b Miss e = rw e (same l b (rw e tt))
+-- The cache stays, and flash stores what waited, of pages that are not cached, wherever it matters.
+module _ (g : Geometry) (s s′ : State) (m : ℕ → Found) (h : Holds-in g s m) (seven : Unchanged-agree g s)
+    (cache : s′ .cache ≡ s .cache) (used : s′ .small .used ≡ s .small .used) where
+  pub stored-settles : (w : List Mapping) → ((l : ℕ) → Waits w l → m l ≡ Miss)
+      → ((l : ℕ) → l < g .L → Rests-on-flash (m l) → stored-in g s′ l ≡ mapped w (stored-in g s) l)
+      → Settled g w s s′
+  stored-settles w apart stores =
+      record {
+        places = λ l b. current-is g s′ m h′ l ∙ place l b (m l) refl;
+        agree = maps-agree g s′ m h′ (λ l p e.
+            agree-maps g s m h seven l p e
+            ∙ sym (mapped-elsewhere w (stored-in g s) l (not-waiting l p 0 e))
+            ∙ sym (stores l (hit-below-L g (s .cache) (s .small .used) m h l p 0 e) (rw e refl)));
+      }
+    where
+      h′ : Holds-in g s′ m
+      h′ = rw (cache, used) h
+
+      not-waiting : (l p c : ℕ) → m l ≡ Hit p c → Waits w l → ⊥
+      not-waiting l p c e q = hit-is-no-miss (sym e ∙ apart l q)
+
+      place : (l : ℕ) → l < g .L → (f : Found) → m l ≡ f → place-or (stored-in g s′ l) (m l) ≡ mapped w (current g s) l
+      place l b (Hit p c) e =
+          rw e (sym (mapped-elsewhere w (current g s) l (not-waiting l p c e) ∙ current-is g s m h l ∙ ap (place-or (stored-in g s l)) e))
+      place l b Miss e =
+          rw e (stores l b (rw e tt) ∙ mapped-same w (current g s) (stored-in g s) l (sym (current-is g s m h l ∙ ap (place-or (stored-in g s l)) e)))
+
+  -- The same where nothing waited.
+  pub stored-keeps-places : ((l : ℕ) → l < g .L → Rests-on-flash (m l) → stored-in g s′ l ≡ stored-in g s l) → Places-kept g s s′
+  unfolding mapped
+  stored-keeps-places stores =
+      let a = stored-settles [] (λ l q. absurd q) stores in
+      record { places = a .places; agree = a .agree }

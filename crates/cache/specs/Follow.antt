@@ -1,0 +1,109 @@
+-- What follows a moved data page, in the cache: the entry of a cached owner takes the new place, and the others wait.
+-- `mapped w (current g s)` is where each page is while w waits; Stored.antt has what settling makes of it.
+use Prim.Native.Nat.{ℕ, _≤_, _<_}
+use native.Mathlib.Omega.{arith}
+use mathlib.Core.Path.{_≡_, refl, ap, sym, _∙_}
+use mathlib.Core.Logic.{_≢_, ⊎-elim}
+use mathlib.Core.List.{List, [], _∷_, _++_, append-nil}
+use lib.ListN.{length}
+use borrow.Author.Tests.{lt-ltb, le-ltb}
+use Rattle.flash.specs.Cases.{below?}
+use Rattle.scope.specs.Geometry.{Geometry}
+use Rattle.scope.specs.Lent.{State, Mapping, cache-size, logical-at}
+use Rattle.scope.specs.Operations.{Outcome, give, look, _>>=_}
+use Rattle.scope.specs.Steps.{cache-or-wait}
+use Rattle.scope.specs.Cache.{set-entry}
+use Rattle.scope.specs.Sound.{Entries-fit, rank-of, current, Unchanged-agree}
+use Rattle.scope.specs.Laws.Applied.{Same-flash, flash-refl}
+use Rattle.cache.specs.Ranks.{Has-rank, Not-cached, rank-found, rank-missing}
+use Rattle.cache.specs.Holds.{Found, Hit, updated, updated-here, updated-elsewhere, lookup, holds-lookup}
+use Rattle.cache.specs.Steps.{Holds-in, Ranks-kept, set-entry-law}
+use Rattle.cache.specs.Current.{Place-set, set-entry-sets-place}
+use Rattle.cache.specs.Waiting.{mapped, Waits, mapped-same, mapped-elsewhere, mapped-last, waits-append}
+
+-- No page that waits is cached.
+abbrev pub None-cached : List Mapping → List ℕ → ℕ → Type 0
+None-cached w cache used = (l : ℕ) → Waits w l → Not-cached cache used l
+
+-- After page l has moved to a new place while w waited: nothing but the cache may have changed, and there no rank.
+pub record Followed (g : Geometry) (w : List Mapping) (l place : ℕ) (s : State) (o : Outcome (List Mapping)) : Type 0 where
+  pub did : o .did ≡ []
+  pub flash : Same-flash (o .after) s
+  pub directory : o .after .directory ≡ s .directory
+  pub small : o .after .small ≡ s .small
+  pub long : length (o .after .cache) ≡ cache-size g
+  pub fits : Entries-fit g (o .after .cache) (o .after .small .used)
+  pub ranks : (i : ℕ) → logical-at i (o .after .cache) ≡ logical-at i (s .cache)
+  pub agree : Unchanged-agree g (o .after)
+  pub at-most-one : length (o .value) ≤ 1
+  pub none-cached : None-cached (w ++ o .value) (o .after .cache) (o .after .small .used)
+  pub here : mapped (w ++ o .value) (current g (o .after)) l ≡ place
+  pub elsewhere : (k : ℕ) → k < g .L → k ≢ l → mapped (w ++ o .value) (current g (o .after)) k ≡ mapped w (current g s) k
+
+module _ (g : Geometry) (w : List Mapping) (s : State) (long : length (s .cache) ≡ cache-size g)
+    (fits : Entries-fit g (s .cache) (s .small .used)) (seven : Unchanged-agree g s)
+    (apart : None-cached w (s .cache) (s .small .used)) where
+  -- The owner is cached, at rank i.
+  entry-follows : (l i place : ℕ) → Has-rank (s .cache) (s .small .used) l i
+      → Followed g w l place s (record { value = []; after = set-entry i place s .after; did = set-entry i place s .did ++ [] })
+  entry-follows l i place r =
+      record {
+        did = ap (λ x. x ++ []) (set .step .did);
+        flash = set .step .flash;
+        directory = set .step .directory;
+        small = set .step .small;
+        long = set .step .holds .long;
+        fits = set .step .holds .fits;
+        ranks = set .ranks;
+        agree = places .agree;
+        at-most-one = omega arith;
+        none-cached = rw append-nil (λ k q j u e.
+            apart k q j (omega (arith, ap (λ x. x .used) (set .step .small))) (sym (set .ranks j) ∙ e));
+        here = rw append-nil (mapped-elsewhere w (current g after) l (λ q. apart l q i (r .in-use) (r .is-l)) ∙ places .here);
+        elsewhere = λ k b d. rw append-nil (mapped-same w (current g s) (current g after) k (places .elsewhere k b d));
+      }
+    where
+      m : ℕ → Found
+      m = lookup g (s .cache) (s .small .used)
+
+      h : Holds-in g s m
+      h = holds-lookup g (s .cache) (s .small .used) long fits
+
+      after : State
+      after = set-entry i place s .after
+
+      set : Ranks-kept g s (set-entry i place s) (updated m l (Hit place 1))
+      set = set-entry-law g s m h l i place r
+
+      places : Place-set g l place s after
+      places = set-entry-sets-place g s m h seven (set-entry i place s) [] (s .small .used) l place (set .step)
+
+  -- It isn't, and waits.
+  owner-waits : (l place : ℕ) → Not-cached (s .cache) (s .small .used) l
+      → Followed g w l place s (record { value = record { logical = l; physical = place } ∷ []; after = s; did = [] })
+  owner-waits l place n =
+      record {
+        did = refl;
+        flash = flash-refl;
+        directory = refl;
+        small = refl;
+        long = long;
+        fits = fits;
+        ranks = λ i. refl;
+        agree = seven;
+        at-most-one = omega arith;
+        none-cached = λ k q. ⊎-elim (apart k) (⊎-elim (λ e. rw (← e) n) absurd) (waits-append w (x ∷ []) k q);
+        here = mapped-last w x (current g s) l ∙ updated-here (mapped w (current g s)) l place;
+        elsewhere = λ k b d. mapped-last w x (current g s) k ∙ updated-elsewhere (mapped w (current g s)) l place k d;
+      }
+    where
+      x : Mapping
+      x = record { logical = l; physical = place }
+
+  pub cache-or-wait-law : (l place : ℕ) → Followed g w l place s (cache-or-wait g l place s)
+  unfolding cache-or-wait look give _>>=_
+  cache-or-wait-law l place =
+      let i = rank-of g (s .cache) (s .small .used) l in
+      below? i (g .C)
+      (λ k. rw (lt-ltb i (g .C) k) (entry-follows l i place (rank-found g (s .cache) (s .small .used) l k)))
+      (λ k. rw (le-ltb i (g .C) k) (owner-waits l place (rank-missing g (s .cache) (s .small .used) l (fits .at-most) k)))
