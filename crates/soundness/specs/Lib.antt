@@ -5,6 +5,6 @@ pub mod Seen
 pub mod Sizes
 pub mod Counted
 pub mod Named
-pub mod Reads
 pub mod Tally
+pub mod Directory
 pub mod Stored

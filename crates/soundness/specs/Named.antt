@@ -34,12 +34,18 @@ owns first n spare k p = leb first p && ltb p (first + n) && is-valid p spare &&
 abbrev pub names-page : ℕ → Bool
 names-page x = not (eqb x none)
 
--- A region's pages have numbers that are no *none*.
+-- A region's pages have numbers far below *none*, and so have its owners.
 pub region-small : (g : Geometry) (r : Region) → Accepted g → first-page g r + region-pages g r ≤ most-pages
 region-small g Data acc =
     omega (arith, mul-le-mul {n₁ = g .D} {m₁ = g .P} {n₂ = 1024} {m₂ = 64} (omega (arith, acc .D+T-to)) (acc .P-to))
 region-small g Translation acc =
     omega (arith, mul-le-mul {n₁ = g .D + g .T} {m₁ = g .P} {n₂ = 1024} {m₂ = 64} (acc .D+T-to) (acc .P-to), native.Mathlib.Nat.add-mul (g .D) (g .T) (g .P))
+
+pub owners-small : (g : Geometry) (r : Region) → Accepted g → owners g r ≤ most-pages
+owners-small g Data acc =
+    omega (arith, acc .L-to, region-small g Data acc, mul-le-mul-right {m = g .D - 1} {n = g .D} (g .P) (omega arith))
+owners-small g Translation acc =
+    omega (arith, acc .M-to, region-small g Translation acc, mul-le-mul-right {m = g .T - 1} {n = g .T} (g .P) (omega arith))
 
 module _ (g : Geometry) (r : Region) (spare : List ℕ) where
   pub owns-decided : (k p : ℕ) → Decides (owns (first-page g r) (region-pages g r) spare k p) (Names g r spare k (Place p))

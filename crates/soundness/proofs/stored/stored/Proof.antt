@@ -9,7 +9,7 @@ use denote.Ref.{now}
 use Rattle.scope.specs.Lent.{Place, decode}
 use Rattle.lent.specs.Decoded.{of-place}
 use Rattle.lent.specs.Model.{geometry, entry}
-use Rattle.soundness.specs.Reads.{getD-within}
+use Rattle.words.specs.Runs.{getD-any}
 use Rattle.soundness.specs.Stored.{stored-nowhere, stored-unnamed, stored-place}
 use Rattle.soundness.proofs.stored.stored.Statement.{statement}
 use Rattle.soundness.proofs.stored.stored.Tie as tie
@@ -49,7 +49,7 @@ returns-2 c =
     let a = c .before .before .before .before .before .before .before .before .args in
     stored-nowhere (geometry (a .g)) (now (a .chip)) (now (a .directory)) (a .l)
     (ap entry (sym (c .enum-told .given .1)) ∙ c .before .before .decode .ensures
-    ∙ ap decode (getD-within (now (a .directory)) (a .l / a .g .w) 0 4294967295 (c .before .before .before .before .if1 .left)))
+    ∙ ap decode (getD-any (now (a .directory)) (a .l / a .g .w) 0 4294967295 (c .before .before .before .before .if1 .left)))
 
 cast-at : tie.Need-cast-at
 cast-at c = search needs
@@ -84,7 +84,7 @@ returns-3 c =
     sym (List·getD-eq-default (now (a .chip)) 4294967295 (c .if2 .taken))
     ∙ stored-place (geometry (a .g)) (now (a .chip)) (now (a .directory)) (a .l) _
     (ap entry (sym (c .before .before .e .given .1)) ∙ c .before .before .before .before .decode .ensures
-    ∙ ap decode (getD-within (now (a .directory)) (a .l / a .g .w) 0 4294967295 (c .before .before .before .before .before .before .if1 .left)))
+    ∙ ap decode (getD-any (now (a .directory)) (a .l / a .g .w) 0 4294967295 (c .before .before .before .before .before .before .if1 .left)))
 
 mul-result : tie.Need-mul-result
 mul-result c = search needs
@@ -95,10 +95,10 @@ shared-slice-read-result c = search needs
 returns-4 : tie.Need-returns-4
 returns-4 c =
     let a = c .before .before .before .before .before .before .before .before .before .before .before .args in
-    getD-within (now (a .chip)) _ 0 4294967295 (c .before .if2 .left)
+    getD-any (now (a .chip)) _ 0 4294967295 (c .before .if2 .left)
     ∙ stored-place (geometry (a .g)) (now (a .chip)) (now (a .directory)) (a .l) _
     (ap entry (sym (c .before .before .before .e .given .1)) ∙ c .before .before .before .before .before .decode .ensures
-    ∙ ap decode (getD-within (now (a .directory)) (a .l / a .g .w) 0 4294967295 (c .before .before .before .before .before .before .before .if1 .left)))
+    ∙ ap decode (getD-any (now (a .directory)) (a .l / a .g .w) 0 4294967295 (c .before .before .before .before .before .before .before .if1 .left)))
 
 pub stored-spec : {M : Type 1} → statement M
 stored-spec =

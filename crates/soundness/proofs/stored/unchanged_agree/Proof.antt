@@ -12,9 +12,6 @@ use Rattle.soundness.specs.Counted.{all-more, all-stops}
 use Rattle.soundness.specs.Stored.{agrees, unchanged-agree-used}
 use Rattle.soundness.proofs.stored.unchanged_agree.Statement.{statement}
 use Rattle.soundness.proofs.stored.unchanged_agree.Tie as tie
-use Rattle.soundness.proofs.stored.unchanged_agree.Reads as reads
-use Rattle.soundness.proofs.stored.unchanged_agree.Lts as lts
-use Rattle.soundness.proofs.stored.agrees.Reads as agrees-reads
 
 abbrev Inv-loop : tie.InvT-loop
 Inv-loop g chip directory cache used n i₀ i = (i ≤ n) × (all i (agrees (geometry g) chip directory cache) ≡ true)

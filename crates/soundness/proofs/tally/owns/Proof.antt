@@ -9,7 +9,7 @@ use borrow.Author.Tests.{le-leb, lt-leb, le-ltb, lt-ltb, eq-eqb, ne-eqb}
 use denote.Ref.{now}
 use Rattle.scope.specs.Lent.{valid, state-of, owner-of}
 use Rattle.soundness.specs.Named.{owns}
-use Rattle.soundness.specs.Reads.{getD-within}
+use Rattle.words.specs.Runs.{getD-any}
 use Rattle.soundness.proofs.tally.owns.Statement.{statement}
 use Rattle.soundness.proofs.tally.owns.Tie as tie
 
@@ -39,7 +39,7 @@ shared-slice-read-if3 c = search needs
 returns-3 : tie.Need-returns-3
 returns-3 c =
     let a = c .before .before .before .before .args in
-    let same = getD-within (now (a .spare)) (a .p * 2) 4294967295 0 (omega arith) in
+    let same = getD-any (now (a .spare)) (a .p * 2) 4294967295 0 (omega arith) in
     simp (le-leb _ _ (c .before .before .before .if1 .left), lt-ltb _ _ (c .before .before .if2 .left), same, ne-eqb _ _ (c .if3 .taken))
 
 mul-result : tie.Need-mul-result
@@ -57,9 +57,9 @@ shared-slice-read-result c = search needs
 returns-4 : tie.Need-returns-4
 returns-4 c =
     let a = c .before .before .before .before .before .args in
-    ap (λ (x : ℕ). eqb x (a .k)) (getD-within (now (a .spare)) (a .p * 2 + 1) 0 4294967295 (omega arith))
+    ap (λ (x : ℕ). eqb x (a .k)) (getD-any (now (a .spare)) (a .p * 2 + 1) 0 4294967295 (omega arith))
     ∙ sym (owned-by (a .first) (a .n) (now (a .spare)) (a .k) (a .p) (c .before .before .before .before .if1 .left) (c .before .before .before .if2 .left)
-    (getD-within (now (a .spare)) (a .p * 2) 4294967295 0 (omega arith) ∙ c .before .if3 .left))
+    (getD-any (now (a .spare)) (a .p * 2) 4294967295 0 (omega arith) ∙ c .before .if3 .left))
 
 pub owns-spec : {M : Type 1} → statement M
 owns-spec =

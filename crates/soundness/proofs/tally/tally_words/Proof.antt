@@ -6,13 +6,10 @@ use lib.ListN.{length, getD}
 use borrow.Author.Needs.{needs}
 use denote.Ref.{now}
 use Rattle.soundness.specs.Named.{names-page, owns}
-use Rattle.soundness.specs.Reads.{getD-within}
+use Rattle.words.specs.Runs.{getD-any}
 use Rattle.soundness.specs.Tally.{Tallied, Tallied-word, word-named, word-good, tallied-start, tallied-more, tallied-room}
 use Rattle.soundness.proofs.tally.tally_words.Statement.{statement}
 use Rattle.soundness.proofs.tally.tally_words.Tie as tie
-use Rattle.soundness.proofs.tally.tally_words.Reads as reads
-use Rattle.soundness.proofs.tally.tally_words.Lts as lts
-use Rattle.soundness.proofs.tally.tallied.Reads as tallied-reads
 
 abbrev Inv-loop : tie.InvT-loop
 Inv-loop words from spare first n sum₀ i₀ sum i =
@@ -63,7 +60,7 @@ loop-again : tie.Need-loop-again Inv-loop μ-loop
 loop-again c =
     let a = c .before .before .before .before .before .before .args in
     let turn = c .before .before .before .loop in
-    let word = getD-within (now (a .words)) (turn .i) 0 4294967295 (omega arith) in (
+    let word = getD-any (now (a .words)) (turn .i) 0 4294967295 (omega arith) in (
       omega arith,
       tallied-more (a .t) (turn .sum) (c .tallied .result) (turn .i) _ _ (turn .inv .1)
           (subst

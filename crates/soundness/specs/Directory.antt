@@ -1,0 +1,45 @@
+-- Rule 4 is decided by the counts of the directory's words and of the translation region's valid pages.
+use Prim.Native.Nat.{ℕ, _+_, _*_, _≤_}
+use native.Mathlib.Nat.{zero-add, mul-le-mul-right}
+use native.Mathlib.Omega.{arith}
+use mathlib.Core.Path.{_≡_, refl, sym, ap, _∙_, subst}
+use mathlib.Core.Bool.{Bool, _&&_}
+use mathlib.Core.List.{List}
+use lib.Dec.{eqb}
+use lib.ListN.{length, getD}
+use Rattle.scope.specs.Counting.{count}
+use Rattle.scope.specs.Decisions.{directory-names}
+use Rattle.scope.specs.Geometry.{Geometry, Accepted, M}
+use Rattle.scope.specs.Laws.Decided.{directory-names-decided}
+use Rattle.scope.specs.Lent.{none, is-valid, directory-size}
+use Rattle.scope.specs.Regions.{Translation, first-page, region-pages}
+use Rattle.scope.specs.Sound.{Owners-differ}
+use Rattle.flash.specs.Counting.{count-same}
+use Rattle.soundness.specs.Counted.{decided-same}
+use Rattle.soundness.specs.Named.{Owners-fit, region-small, by-counts, owns, names-page}
+use Rattle.soundness.specs.Tally.{Tallied, word-named, word-good}
+use Rattle.soundness.specs.declared.tally.Tally.{Tally}
+
+-- No words counted.
+abbrev pub nothing : Tally
+nothing = record { named = 0; good = 0 }
+
+module _ (g : Geometry) (spare directory : List ℕ) (ok : Accepted g) (fit : Owners-fit g Translation spare)
+    (differ : Owners-differ g Translation spare) (long : length directory ≡ directory-size g) (sum : Tally)
+    (counted : Tallied nothing sum (length directory) (word-named directory) (word-good directory 0 spare (first-page g Translation) (region-pages g Translation))) where
+  named-is : sum .named ≡ count (M g) (λ t. names-page (getD directory t none))
+  named-is = omega (arith, counted .named-more, ap (λ (k : ℕ). count k (word-named directory)) long)
+
+  good-is : sum .good ≡ count (M g) (λ t. owns (first-page g Translation) (region-pages g Translation) spare t (getD directory t none))
+  good-is =
+      counted .good-more ∙ zero-add _
+      ∙ ap (λ (k : ℕ). count k (word-good directory 0 spare (first-page g Translation) (region-pages g Translation))) long
+      ∙ count-same (M g) _ _ (λ t h. ap (λ (k : ℕ). owns (first-page g Translation) (region-pages g Translation) spare k (getD directory t none)) (zero-add t))
+
+  pub directory-counts : (pages : ℕ) → pages ≡ count (region-pages g Translation) (λ i. is-valid (first-page g Translation + i) spare)
+      → eqb (sum .named) (sum .good) && eqb (sum .good) pages ≡ directory-names g spare directory
+  directory-counts pages e =
+      rw (named-is, good-is, e)
+      (decided-same
+      (by-counts g Translation spare (region-small g Translation ok) (λ t. getD directory t none) fit differ)
+      (directory-names-decided g spare directory))

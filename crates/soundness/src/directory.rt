@@ -1,0 +1,34 @@
+// Rule 4: the directory names, for each translation page number, the valid page with that owner, and none where there isn't one.
+ghost use mathlib.Core.Path.{_≡_};
+ghost use lib.ListN.{length};
+ghost use Rattle.lent.specs.Model.{geometry};
+ghost use Rattle.scope.specs.Decisions.{directory-names};
+ghost use Rattle.scope.specs.Geometry.{Accepted};
+ghost use Rattle.scope.specs.Lent.{spare-size, directory-size};
+ghost use Rattle.scope.specs.Regions.{Translation};
+ghost use Rattle.scope.specs.Sound.{Owners-differ};
+ghost use Rattle.soundness.specs.Named.{Owners-fit};
+use crate::tally::Tally;
+use crate::tally::tally_words;
+use lent::Geometry;
+use words::states::count_state;
+
+// By three counts: the words that name a page all name a valid page of their own, and there are as many as valid pages. What rules 1
+// and 2 say of the owners makes that the rule.
+pub fn directory_names(g: Geometry, spare: &[u32], directory: &[u32]) -> bool
+    requires { ⌜ Accepted (geometry g) ⌝ }
+    requires { ⌜ length (now spare) ≡ spare-size (geometry g) ⌝ }
+    requires { ⌜ length (now directory) ≡ directory-size (geometry g) ⌝ }
+    requires { ⌜ Owners-fit (geometry g) Translation (now spare) ⌝ }
+    requires { ⌜ Owners-differ (geometry g) Translation (now spare) ⌝ }
+    ensures { λ r. ⌜ r ≡ directory-names (geometry g) (now (spare .entry)) (now (directory .entry)) ⌝ }
+{
+    let p = g.p as usize;
+    let first = g.d as usize * p;
+    let n = g.t as usize * p;
+    let sum = tally_words(Tally { named: 0, good: 0 }, directory, 0, spare, first, n);
+    if sum.named != sum.good {
+        return false;
+    }
+    sum.good == count_state(spare, first, n, 65535)
+}
