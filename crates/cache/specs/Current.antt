@@ -1,4 +1,4 @@
--- Current places and rule 7, by what the cache holds and what flash stores: what each change of either does to them.
+-- Current places and rule 7, by what the cache holds and what flash stores; and what the steps that change the cache do to them.
 use Prim.Native.Nat.{ℕ, _<_}
 use native.Mathlib.Omega.{arith}
 use mathlib.Core.Path.{_≡_, ap, sym, _∙_}
@@ -11,7 +11,7 @@ use Rattle.scope.specs.Lent.{State, logical-at, physical-at}
 use Rattle.scope.specs.Operations.{Operation, Outcome}
 use Rattle.scope.specs.Sound.{rank-of, stored, current, Unchanged-agree}
 use Rattle.cache.specs.Ranks.{rank-found, rank-missing}
-use Rattle.cache.specs.Holds.{Found, Hit, Miss, updated, updated-here, updated-elsewhere, hit-at, hit-is-no-miss}
+use Rattle.cache.specs.Holds.{Found, Hit, Miss, hit-is-no-miss, updated, updated-here, updated-elsewhere, hit-at}
 use Rattle.cache.specs.Steps.{Holds-in, Cache-step}
 
 -- "The cache's if l is cached, else the translation page's word."
@@ -33,19 +33,23 @@ module _ (g : Geometry) (s : State) (m : ℕ → Found) (h : Holds-in g s m) whe
   current-is l =
       let i = rank-of g (s .cache) (s .small .used) l in
       below? i (g .C)
-      (λ k. let r = rank-found g (s .cache) (s .small .used) l k in
+      (λ k.
+      let r = rank-found g (s .cache) (s .small .used) l k in
       rw (lt-ltb i (g .C) k) (ap (place-or (stored-in g s l)) (sym (h .hits i (r .in-use)) ∙ ap m (r .is-l))))
-      (λ k. rw (le-ltb i (g .C) k) (ap (place-or (stored-in g s l)) (sym (h .misses l (rank-missing g (s .cache) (s .small .used) l (h .fits .at-most) k)))))
+      (λ k.
+      let n = rank-missing g (s .cache) (s .small .used) l (h .fits .at-most) k in
+      rw (le-ltb i (g .C) k) (ap (place-or (stored-in g s l)) (sym (h .misses l n))))
 
   pub agree-maps : Unchanged-agree g s → Agrees m (stored-in g s)
   agree-maps seven l place e =
       let a = hit-at g (s .cache) (s .small .used) m h l place 0 e in
-      sym (a .physical) ∙ seven (a .rank) (omega (arith, a .in-use, h .fits .at-most)) (a .in-use) (a .changed) ∙ ap (stored-in g s) (a .logical)
+      sym (a .physical)
+      ∙ seven (a .rank) (omega (arith, a .in-use, h .fits .at-most)) (a .in-use) (a .changed)
+      ∙ ap (stored-in g s) (a .logical)
 
   pub maps-agree : Agrees m (stored-in g s) → Unchanged-agree g s
-  maps-agree a i c u z = a (logical-at i (s .cache)) (physical-at i (s .cache)) (h .hits i u ∙ ap (Hit (physical-at i (s .cache))) z)
-
--- ---- steps of the cache
+  maps-agree a i c u z =
+      a (logical-at i (s .cache)) (physical-at i (s .cache)) (h .hits i u ∙ ap (Hit (physical-at i (s .cache))) z)
 
 -- Every current place is as it was, and rule 7 holds.
 pub record Places-kept (g : Geometry) (s s′ : State) : Type 0 where
@@ -58,68 +62,70 @@ pub record Place-set (g : Geometry) (l place : ℕ) (s s′ : State) : Type 0 wh
   pub elsewhere : (k : ℕ) → k < g .L → k ≢ l → current g s′ k ≡ current g s k
   pub agree : Unchanged-agree g s′
 
--- Where l already had the place, nothing is set.
-pub set-keeps-places : (g : Geometry) (l place : ℕ) (s s′ : State) → Place-set g l place s s′ → current g s l ≡ place → Places-kept g s s′
-set-keeps-places g l place s s′ a e =
+-- Where l already had the place, all are kept.
+set-keeps-places : {g : Geometry} {l place : ℕ} {s s′ : State} → Place-set g l place s s′ → current g s l ≡ place → Places-kept g s s′
+set-keeps-places {l = l} a e =
     record {
       places = λ k b. same? k l (λ q. rw q (a .here ∙ sym e)) (λ q. a .elsewhere k b q);
       agree = a .agree;
     }
 
-module _ (g : Geometry) {A : Type 0} (s : State) (o : Outcome A) (ops : List Operation) (used : ℕ) (m : ℕ → Found) (step : Cache-step g s o ops used m) where
-  -- A step of the cache alone leaves what flash stores, so that only the map decides.
+-- A step of the cache alone leaves what flash stores, so that only the map decides.
+module _ {g : Geometry} {A : Type 0} {s : State} {o : Outcome A} {ops : List Operation} {used : ℕ} {m : ℕ → Found}
+    (step : Cache-step g s o ops used m) where
   step-stored : (l : ℕ) → stored-in g (o .after) l ≡ stored-in g s l
   step-stored l = rw (step .flash .chip, step .directory)
 
-  pub step-current : (l : ℕ) → current g (o .after) l ≡ place-or (stored-in g s l) (m l)
+  step-current : (l : ℕ) → current g (o .after) l ≡ place-or (stored-in g s l) (m l)
   step-current l = current-is g (o .after) m (step .holds) l ∙ ap (λ w. place-or w (m l)) (step-stored l)
 
-  pub step-agree : Agrees m (stored-in g s) → Unchanged-agree g (o .after)
+  step-agree : Agrees m (stored-in g s) → Unchanged-agree g (o .after)
   step-agree a = maps-agree g (o .after) m (step .holds) (λ l place e. a l place e ∙ sym (step-stored l))
 
 module _ (g : Geometry) (s : State) (m : ℕ → Found) (h : Holds-in g s m) (seven : Unchanged-agree g s) where
-  agrees : Agrees m (stored-in g s)
-  agrees = agree-maps g s m h seven
-
-  pub touch-keeps-places : {A : Type 0} (o : Outcome A) (ops : List Operation) (used : ℕ) → Cache-step g s o ops used m → Places-kept g s (o .after)
-  touch-keeps-places o ops used step =
+  -- The map stays.
+  pub touch-keeps-places : {A : Type 0} {o : Outcome A} {ops : List Operation} {used : ℕ}
+      → Cache-step g s o ops used m → Places-kept g s (o .after)
+  touch-keeps-places step =
       record {
-        places = λ l b. step-current g s o ops used m step l ∙ sym (current-is g s m h l);
-        agree = step-agree g s o ops used m step agrees;
+        places = λ l b. step-current step l ∙ sym (current-is g s m h l);
+        agree = step-agree step (agree-maps g s m h seven);
       }
 
   -- The answer for l changes: rule 7 asks of the new one what it asks of every entry.
-  updated-sets-place : {A : Type 0} (o : Outcome A) (ops : List Operation) (used l : ℕ) (new : Found) → Cache-step g s o ops used (updated m l new)
-      → ((place : ℕ) → new ≡ Hit place 0 → place ≡ stored-in g s l) → Place-set g l (place-or (stored-in g s l) new) s (o .after)
-  updated-sets-place o ops used l new step fits =
+  updated-sets-place : {A : Type 0} {o : Outcome A} {ops : List Operation} {used : ℕ} (l : ℕ) (new : Found)
+      → Cache-step g s o ops used (updated m l new) → ((place : ℕ) → new ≡ Hit place 0 → place ≡ stored-in g s l)
+      → Place-set g l (place-or (stored-in g s l) new) s (o .after)
+  updated-sets-place l new step fits =
       record {
-        here = step-current g s o ops used (updated m l new) step l ∙ ap (place-or (stored-in g s l)) (updated-here m l new);
-        elsewhere = λ k b d. step-current g s o ops used (updated m l new) step k
-            ∙ ap (place-or (stored-in g s k)) (updated-elsewhere m l new k d) ∙ sym (current-is g s m h k);
-        agree = step-agree g s o ops used (updated m l new) step (λ k place e. same? k l
+        here = step-current step l ∙ ap (place-or (stored-in g s l)) (updated-here m l new);
+        elsewhere = λ k b d.
+            step-current step k ∙ ap (place-or (stored-in g s k)) (updated-elsewhere m l new k d) ∙ sym (current-is g s m h k);
+        agree = step-agree step (λ k place e. same? k l
             (λ q. fits place (sym (updated-here m l new) ∙ ap (updated m l new) (sym q) ∙ e) ∙ ap (stored-in g s) (sym q))
-            (λ q. agrees k place (sym (updated-elsewhere m l new k q) ∙ e)));
+            (λ q. agree-maps g s m h seven k place (sym (updated-elsewhere m l new k q) ∙ e)));
       }
 
   -- What flash stores for l enters the cache, unchanged.
-  pub enter-keeps-places : {A : Type 0} (o : Outcome A) (ops : List Operation) (used l place : ℕ) → Cache-step g s o ops used (updated m l (Hit place 0))
-      → m l ≡ Miss → place ≡ stored-in g s l → Places-kept g s (o .after)
-  enter-keeps-places o ops used l place step miss q =
-      set-keeps-places g l place s (o .after)
-      (updated-sets-place o ops used l (Hit place 0) step (λ p e. let z : p ≡ place = cc in z ∙ q))
+  pub enter-keeps-places : {A : Type 0} {o : Outcome A} {ops : List Operation} {used : ℕ} (l place : ℕ)
+      → Cache-step g s o ops used (updated m l (Hit place 0)) → m l ≡ Miss → place ≡ stored-in g s l → Places-kept g s (o .after)
+  enter-keeps-places l place step miss q =
+      set-keeps-places
+      (updated-sets-place l (Hit place 0) step (λ p e. let z : p ≡ place = cc in z ∙ q))
       (current-is g s m h l ∙ ap (place-or (stored-in g s l)) miss ∙ sym q)
 
-  -- What flash stores for the page of an entry leaves the cache.
-  pub forget-keeps-places : {A : Type 0} (o : Outcome A) (ops : List Operation) (used i : ℕ) → Cache-step g s o ops used (updated m (logical-at i (s .cache)) Miss)
+  -- What flash stores for the page of the entry at a rank leaves the cache.
+  pub forget-keeps-places : {A : Type 0} {o : Outcome A} {ops : List Operation} {used : ℕ} (i : ℕ)
+      → Cache-step g s o ops used (updated m (logical-at i (s .cache)) Miss)
       → i < s .small .used → physical-at i (s .cache) ≡ stored-in g s (logical-at i (s .cache)) → Places-kept g s (o .after)
-  forget-keeps-places o ops used i step k q =
+  forget-keeps-places i step k q =
       let l = logical-at i (s .cache) in
-      set-keeps-places g l (stored-in g s l) s (o .after)
-      (updated-sets-place o ops used l Miss step (λ p e. absurd (hit-is-no-miss (sym e))))
+      set-keeps-places
+      (updated-sets-place l Miss step (λ p e. absurd (hit-is-no-miss (sym e))))
       (current-is g s m h l ∙ ap (place-or (stored-in g s l)) (h .hits i k) ∙ q)
 
   -- Another place for l, changed.
-  pub set-entry-sets-place : {A : Type 0} (o : Outcome A) (ops : List Operation) (used l place : ℕ) → Cache-step g s o ops used (updated m l (Hit place 1))
-      → Place-set g l place s (o .after)
-  set-entry-sets-place o ops used l place step =
-      updated-sets-place o ops used l (Hit place 1) step (λ p e. let z : _≡_ {A = ℕ} 1 0 = cc in absurd (omega arith))
+  pub set-entry-sets-place : {A : Type 0} {o : Outcome A} {ops : List Operation} {used : ℕ} (l place : ℕ)
+      → Cache-step g s o ops used (updated m l (Hit place 1)) → Place-set g l place s (o .after)
+  set-entry-sets-place l place step =
+      updated-sets-place l (Hit place 1) step (λ p e. let z : _≡_ {A = ℕ} 1 0 = cc in absurd (omega arith))

@@ -1,5 +1,5 @@
 -- What follows a moved data page, in the cache: the entry of a cached owner takes the new place, and the others wait.
--- `mapped w (current g s)` is where each page is while w waits; Stored.antt has what settling makes of it.
+-- `latest w l (current g s l)` is where page l is while w waits; Stored.antt has what settling makes of it.
 use Prim.Native.Nat.{ℕ, _≤_, _<_}
 use native.Mathlib.Omega.{arith}
 use mathlib.Core.Path.{_≡_, refl, ap, sym, _∙_}
@@ -16,10 +16,10 @@ use Rattle.scope.specs.Cache.{set-entry}
 use Rattle.scope.specs.Sound.{Entries-fit, rank-of, current, Unchanged-agree}
 use Rattle.scope.specs.Laws.Applied.{Same-flash, flash-refl}
 use Rattle.cache.specs.Ranks.{Has-rank, Not-cached, rank-found, rank-missing}
-use Rattle.cache.specs.Holds.{Found, Hit, updated, updated-here, updated-elsewhere, lookup, holds-lookup}
+use Rattle.cache.specs.Holds.{Found, Hit, updated, lookup, holds-lookup}
 use Rattle.cache.specs.Steps.{Holds-in, Ranks-kept, set-entry-law}
 use Rattle.cache.specs.Current.{Place-set, set-entry-sets-place}
-use Rattle.cache.specs.Waiting.{mapped, Waits, mapped-same, mapped-elsewhere, mapped-last, waits-append}
+use Rattle.cache.specs.Waiting.{latest, Waits, latest-none, latest-here, latest-elsewhere, waits-append}
 
 -- No page that waits is cached.
 abbrev pub None-cached : List Mapping → List ℕ → ℕ → Type 0
@@ -37,8 +37,8 @@ pub record Followed (g : Geometry) (w : List Mapping) (l place : ℕ) (s : State
   pub agree : Unchanged-agree g (o .after)
   pub at-most-one : length (o .value) ≤ 1
   pub none-cached : None-cached (w ++ o .value) (o .after .cache) (o .after .small .used)
-  pub here : mapped (w ++ o .value) (current g (o .after)) l ≡ place
-  pub elsewhere : (k : ℕ) → k < g .L → k ≢ l → mapped (w ++ o .value) (current g (o .after)) k ≡ mapped w (current g s) k
+  pub here : latest (w ++ o .value) l (current g (o .after) l) ≡ place
+  pub elsewhere : (k : ℕ) → k < g .L → k ≢ l → latest (w ++ o .value) k (current g (o .after) k) ≡ latest w k (current g s k)
 
 module _ (g : Geometry) (w : List Mapping) (s : State) (long : length (s .cache) ≡ cache-size g)
     (fits : Entries-fit g (s .cache) (s .small .used)) (seven : Unchanged-agree g s)
@@ -59,8 +59,8 @@ module _ (g : Geometry) (w : List Mapping) (s : State) (long : length (s .cache)
         at-most-one = omega arith;
         none-cached = rw append-nil (λ k q j u e.
             apart k q j (omega (arith, ap (λ x. x .used) (set .step .small))) (sym (set .ranks j) ∙ e));
-        here = rw append-nil (mapped-elsewhere w (current g after) l (λ q. apart l q i (r .in-use) (r .is-l)) ∙ places .here);
-        elsewhere = λ k b d. rw append-nil (mapped-same w (current g s) (current g after) k (places .elsewhere k b d));
+        here = rw append-nil (latest-none w l (current g after l) (λ q. apart l q i (r .in-use) (r .is-l)) ∙ places .here);
+        elsewhere = λ k b d. rw append-nil (ap (latest w k) (places .elsewhere k b d));
       }
     where
       m : ℕ → Found
@@ -76,7 +76,7 @@ module _ (g : Geometry) (w : List Mapping) (s : State) (long : length (s .cache)
       set = set-entry-law g s m h l i place r
 
       places : Place-set g l place s after
-      places = set-entry-sets-place g s m h seven (set-entry i place s) [] (s .small .used) l place (set .step)
+      places = set-entry-sets-place g s m h seven l place (set .step)
 
   -- It isn't, and waits.
   owner-waits : (l place : ℕ) → Not-cached (s .cache) (s .small .used) l
@@ -93,8 +93,8 @@ module _ (g : Geometry) (w : List Mapping) (s : State) (long : length (s .cache)
         agree = seven;
         at-most-one = omega arith;
         none-cached = λ k q. ⊎-elim (apart k) (⊎-elim (λ e. rw (← e) n) absurd) (waits-append w (x ∷ []) k q);
-        here = mapped-last w x (current g s) l ∙ updated-here (mapped w (current g s)) l place;
-        elsewhere = λ k b d. mapped-last w x (current g s) k ∙ updated-elsewhere (mapped w (current g s)) l place k d;
+        here = latest-here w l place (current g s l);
+        elsewhere = λ k b d. latest-elsewhere w l place k (current g s k) d;
       }
     where
       x : Mapping

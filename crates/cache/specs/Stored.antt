@@ -1,32 +1,18 @@
 -- What flash stores for a logical page, and what becomes of current places and rule 7 when it changes while the cache stays.
-use Prim.Native.Nat.{ℕ, _≤_, _<_}
-use native.Mathlib.Nat.{mod-lt}
+use Prim.Native.Nat.{ℕ, _<_}
 use native.Mathlib.Omega.{arith}
 use mathlib.Core.Path.{_≡_, refl, ap, sym, _∙_}
 use mathlib.Core.Bool.{false}
 use mathlib.Core.List.{List, []}
-use lib.ListN.{getD}
 use borrow.Author.Tests.{eqb-false}
-use Rattle.flash.specs.Words.{words-at}
 use Rattle.scope.specs.Geometry.{Geometry}
-use Rattle.scope.specs.Lent.{none, Entry, Place, Nowhere, State, Mapping, words-of, named, logical-at, physical-at, changed-at, translation-page, translation-word}
+use Rattle.scope.specs.Lent.{State, Mapping, logical-at, physical-at, changed-at}
 use Rattle.scope.specs.Cache.{is-changed}
-use Rattle.scope.specs.Sound.{Entries-fit, in-page, stored, current, Unchanged-agree}
+use Rattle.scope.specs.Sound.{Entries-fit, current, Unchanged-agree}
 use Rattle.cache.specs.Holds.{Found, Hit, Miss, hit-is-no-miss, hit-below-L}
 use Rattle.cache.specs.Steps.{Holds-in}
 use Rattle.cache.specs.Current.{place-or, stored-in, Places-kept, current-is, agree-maps, maps-agree}
-use Rattle.cache.specs.Waiting.{mapped, Waits, mapped-same, mapped-elsewhere}
-
--- The word of the translation page's words, given as the list of words that an entry leads to and as no words where it is nowhere.
-pub stored-word : (g : Geometry) (chip directory : List ℕ) (l : ℕ) (contents : Entry → List ℕ)
-    → 1 ≤ g .W → ((p : ℕ) → contents (Place p) ≡ words-of g p chip) → contents Nowhere ≡ []
-    → stored g chip directory l ≡ getD (contents (named (translation-page g l) directory)) (translation-word g l) none
-unfolding stored
-stored-word g chip directory l contents wide at-place nowhere = go (named (translation-page g l) directory)
-  where
-    go : (e : Entry) → in-page g chip l e ≡ getD (contents e) (translation-word g l) none
-    go (Place p) = sym (words-at g p (translation-word g l) chip (mod-lt l (omega arith))) ∙ ap (λ x. getD x (translation-word g l) none) (sym (at-place p))
-    go Nowhere = ap (λ x. getD x (translation-word g l) none) (sym nowhere)
+use Rattle.cache.specs.Waiting.{latest, Waits, latest-none}
 
 -- An entry that is not changed equals what flash stores.
 pub unchanged-stored : (g : Geometry) (s : State) → Entries-fit g (s .cache) (s .small .used) → Unchanged-agree g s
@@ -43,21 +29,21 @@ Rests-on-flash Miss = Unit {0}
 
 -- Every current place is what it was while w waited, and rule 7 holds.
 pub record Settled (g : Geometry) (w : List Mapping) (s s′ : State) : Type 0 where
-  pub places : (l : ℕ) → l < g .L → current g s′ l ≡ mapped w (current g s) l
+  pub places : (l : ℕ) → l < g .L → current g s′ l ≡ latest w l (current g s l)
   pub agree : Unchanged-agree g s′
 
 -- The cache stays, and flash stores what waited, of pages that are not cached, wherever it matters.
 module _ (g : Geometry) (s s′ : State) (m : ℕ → Found) (h : Holds-in g s m) (seven : Unchanged-agree g s)
     (cache : s′ .cache ≡ s .cache) (used : s′ .small .used ≡ s .small .used) where
   pub stored-settles : (w : List Mapping) → ((l : ℕ) → Waits w l → m l ≡ Miss)
-      → ((l : ℕ) → l < g .L → Rests-on-flash (m l) → stored-in g s′ l ≡ mapped w (stored-in g s) l)
+      → ((l : ℕ) → l < g .L → Rests-on-flash (m l) → stored-in g s′ l ≡ latest w l (stored-in g s l))
       → Settled g w s s′
   stored-settles w apart stores =
       record {
         places = λ l b. current-is g s′ m h′ l ∙ place l b (m l) refl;
         agree = maps-agree g s′ m h′ (λ l p e.
             agree-maps g s m h seven l p e
-            ∙ sym (mapped-elsewhere w (stored-in g s) l (not-waiting l p 0 e))
+            ∙ sym (latest-none w l (stored-in g s l) (not-waiting l p 0 e))
             ∙ sym (stores l (hit-below-L g (s .cache) (s .small .used) m h l p 0 e) (rw e refl)));
       }
     where
@@ -67,15 +53,14 @@ module _ (g : Geometry) (s s′ : State) (m : ℕ → Found) (h : Holds-in g s m
       not-waiting : (l p c : ℕ) → m l ≡ Hit p c → Waits w l → ⊥
       not-waiting l p c e q = hit-is-no-miss (sym e ∙ apart l q)
 
-      place : (l : ℕ) → l < g .L → (f : Found) → m l ≡ f → place-or (stored-in g s′ l) (m l) ≡ mapped w (current g s) l
+      place : (l : ℕ) → l < g .L → (f : Found) → m l ≡ f → place-or (stored-in g s′ l) (m l) ≡ latest w l (current g s l)
       place l b (Hit p c) e =
-          rw e (sym (mapped-elsewhere w (current g s) l (not-waiting l p c e) ∙ current-is g s m h l ∙ ap (place-or (stored-in g s l)) e))
+          rw e (sym (latest-none w l (current g s l) (not-waiting l p c e) ∙ current-is g s m h l ∙ ap (place-or (stored-in g s l)) e))
       place l b Miss e =
-          rw e (stores l b (rw e tt) ∙ mapped-same w (current g s) (stored-in g s) l (sym (current-is g s m h l ∙ ap (place-or (stored-in g s l)) e)))
+          rw e (stores l b (rw e tt) ∙ ap (latest w l) (sym (current-is g s m h l ∙ ap (place-or (stored-in g s l)) e)))
 
   -- The same where nothing waited.
   pub stored-keeps-places : ((l : ℕ) → l < g .L → Rests-on-flash (m l) → stored-in g s′ l ≡ stored-in g s l) → Places-kept g s s′
-  unfolding mapped
   stored-keeps-places stores =
       let a = stored-settles [] (λ l q. absurd q) stores in
       record { places = a .places; agree = a .agree }
