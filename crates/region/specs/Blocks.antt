@@ -1,16 +1,16 @@
 -- What opening and erasing a block keep of a region.
 use Prim.Native.Nat.{ℕ, _/_, _%_, _≤_, _<_}
 use mathlib.Core.Path.{_≡_, refl, sym, ap, subst, _∙_}
-use mathlib.Core.Logic.{_≢_, _⊎_, ⊎-elim, inl, inr}
+use mathlib.Core.Logic.{_≢_, ⊎-elim, inl, inr}
 use mathlib.Core.List.{List}
 use native.Mathlib.Omega.{arith}
 use Rattle.scope.specs.Geometry.{Geometry}
 use Rattle.scope.specs.Regions.{Region, owners, page-in, Has-block, Has-page}
-use Rattle.scope.specs.Lent.{erased, valid, Entry, Place, Nowhere, decode, State, state-of, owner-of}
-use Rattle.scope.specs.Sound.{Page-fits, Wholly-erased, Full, Names}
+use Rattle.scope.specs.Lent.{erased, valid, Entry, Place, Nowhere, decode, State, state-of}
+use Rattle.scope.specs.Sound.{Page-fits, Wholly-erased, Names}
 use Rattle.flash.specs.Cases.{same?}
 use Rattle.flash.specs.Pages.{Page-same, Page-erased, Outside, Erased}
-use Rattle.flash.specs.Places.{In-block, in-block, page-in-region, outside-block}
+use Rattle.flash.specs.Places.{in-block, outside-block}
 use Rattle.region.specs.Holds.{Region-fits, Besides, Maps, contents}
 use Rattle.region.specs.Carried.{page-fits-same}
 

@@ -1,11 +1,11 @@
 -- What holds of a region goes on to hold where its pages are as before.
 use Prim.Native.Nat.{ℕ, _<_}
 use mathlib.Core.Path.{_≡_, refl, sym, ap, subst, _∙_}
-use mathlib.Core.Logic.{_≢_, ⊎-elim, inl, inr}
+use mathlib.Core.Logic.{⊎-elim, inl, inr}
 use mathlib.Core.List.{List}
 use native.Mathlib.Omega.{arith}
 use Rattle.scope.specs.Geometry.{Geometry}
-use Rattle.scope.specs.Regions.{Region, owners, page-in, Has-block, Has-page}
+use Rattle.scope.specs.Regions.{Region, owners, Has-block}
 use Rattle.scope.specs.Lent.{Entry, Place, Nowhere, decode, State, words-of, state-of, owner-of}
 use Rattle.scope.specs.Sound.{Page-fits, Wholly-erased, Full, Names}
 use Rattle.scope.specs.Laws.Applied.{Same-flash}

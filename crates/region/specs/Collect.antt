@@ -1,6 +1,6 @@
 -- Collect: the victim's valid pages move to the one erased block, what waited is settled, and the victim is erased, so that there is an
 -- erased block besides the open one again, and room in the open one.
-use Prim.Native.Nat.{ℕ, suc, _+_, _*_, _-_, _≤_, _<_}
+use Prim.Native.Nat.{ℕ, _+_, _*_, _-_, _≤_, _<_}
 use mathlib.Core.Path.{_≡_, refl, sym, ap, subst, subst₂, _∙_}
 use mathlib.Core.Logic.{_≢_}
 use mathlib.Core.List.{List, [], _∷_, _++_}
@@ -17,7 +17,7 @@ use Rattle.scope.specs.Operations.{Erase, Outcome, apply, look, perform, set-sm
 use Rattle.scope.specs.Room.{Following, erased-blocks, lowest-erased, victim, move-pages, open-lowest, collect}
 use Rattle.scope.specs.Laws.Applied.{Same-flash}
 use Rattle.flash.specs.Words.{Lengths}
-use Rattle.flash.specs.Pages.{Erased, erase-block}
+use Rattle.flash.specs.Pages.{erase-block}
 use Rattle.flash.specs.Kept.{apply-keeps-lengths, apply-keeps-beside}
 use Rattle.flash.specs.Places.{block-on-chip, page-in-region}
 use Rattle.flash.specs.SamePages.{same-refl, erase-elsewhere}
@@ -27,7 +27,7 @@ use Rattle.region.specs.Carried.{region-fits-same, maps-same, maps-viewe
 use Rattle.region.specs.Room.{Victim-law, Crowded, is-crowded, victim-of-crowded}
 use Rattle.region.specs.Blocks.{open-law, erase-law}
 use Rattle.region.specs.Elsewhere.{Same-elsewhere, elsewhere-with, open-with, offset-with, with-own}
-use Rattle.region.specs.Done.{Done, done-none, done-one, done-then}
+use Rattle.region.specs.Done.{done-none, done-one, done-then}
 use Rattle.region.specs.Follower.{View, Invariant, After-settled, Follower, Room-made}
 use Rattle.region.specs.Moving.{Copying, Keeps}
 use Rattle.region.specs.Copied.{Copied, move-pages-law}

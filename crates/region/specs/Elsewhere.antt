@@ -2,7 +2,6 @@
 -- open block and next offset. What the steps on a region leave as it was.
 use Prim.Native.Nat.{ℕ}
 use mathlib.Core.Path.{_≡_, refl, sym, ap, ap₂, _∙_}
-use mathlib.Core.List.{List}
 use Rattle.scope.specs.Geometry.{Geometry}
 use Rattle.scope.specs.Regions.{Region, Data, Translation}
 use Rattle.scope.specs.SmallRecord.{SmallRecord, open-block, next-offset, with-open}

@@ -1,15 +1,15 @@
 -- What holds of one region, in the parts that a collection keeps and loses: rules 1 to 3 but for the erased block besides the open
 -- one; that block; and a map from owners to places, which for translation pages is the directory (rule 4) and for data pages the
 -- current places (rule 6).
-use Prim.Native.Nat.{ℕ, _+_, _*_, _≤_, _<_}
+use Prim.Native.Nat.{ℕ, _≤_, _<_}
 use mathlib.Core.Path.{_≡_, sym, ap, _∙_}
 use mathlib.Core.Logic.{_≢_, _⊎_}
 use mathlib.Core.List.{List, []}
 use Rattle.scope.specs.Geometry.{Geometry}
 use Rattle.scope.specs.Regions.{Region, owners, page-in, Has-block, Has-page}
 use Rattle.scope.specs.SmallRecord.{open-block, next-offset}
-use Rattle.scope.specs.Lent.{none, erased, valid, Entry, Place, Nowhere, decode, State, words-of, state-of, owner-of}
-use Rattle.scope.specs.Sound.{Page-fits, Pages-fit, Owners-differ, Wholly-erased, Full, Blocks-fit, Names}
+use Rattle.scope.specs.Lent.{erased, valid, Entry, Place, Nowhere, decode, State, words-of, state-of, owner-of}
+use Rattle.scope.specs.Sound.{Pages-fit, Owners-differ, Wholly-erased, Full, Blocks-fit, Names}
 
 -- Rules 1 and 2 of a region, and rule 3 without its last sentence, which a collection breaks until it erases its victim.
 pub record Region-fits (g : Geometry) (r : Region) (chip spare : List ℕ) (opened offset : ℕ) : Type 0 where

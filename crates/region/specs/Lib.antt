@@ -12,3 +12,5 @@ pub mod Moving
 pub mod Copied
 pub mod Collect
 pub mod MakeRoom
+pub mod Stored
+pub mod DirectoryFollows

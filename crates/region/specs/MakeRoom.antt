@@ -1,17 +1,17 @@
 -- Make room: nothing where the open block has room; else the lowest of two or more erased blocks is opened; else a collection.
 -- One law for both regions and for whatever follows a moved page.
 use Prim.Native.Nat.{ℕ, _≤_, _<_}
-use mathlib.Core.Path.{_≡_, refl, sym, subst, _∙_}
-use mathlib.Core.List.{List, []}
+use mathlib.Core.Path.{_≡_, refl, sym, subst}
+use mathlib.Core.List.{[]}
 use native.Mathlib.Omega.{arith}
 use borrow.Author.Tests.{ltb-true, ltb-false, leb-true, leb-false, lt-ltb}
 use lib.Dec.{ltb, leb}
 use Rattle.scope.specs.Geometry.{Geometry, Accepted}
 use Rattle.scope.specs.Regions.{Region}
-use Rattle.scope.specs.SmallRecord.{open-block, next-offset}
+use Rattle.scope.specs.SmallRecord.{next-offset}
 use Rattle.scope.specs.Lent.{State}
 use Rattle.scope.specs.Operations.{Outcome, give, look, set-small, _>>=_}
-use Rattle.scope.specs.Room.{Following, erased-blocks, lowest-erased, open-lowest, collect, open-or-collect, make-room}
+use Rattle.scope.specs.Room.{Following, erased-blocks, lowest-erased, open-lowest, open-or-collect, make-room}
 use Rattle.scope.specs.Laws.Applied.{flash-refl}
 use Rattle.flash.specs.Cases.{on}
 use Rattle.flash.specs.Words.{Lengths}

@@ -1,6 +1,6 @@
 -- The steps that replace an owner's page: `program-next` and then the mark of the page that was the owner's, as update, write and
 -- collect make them, under the replace law.
-use Prim.Native.Nat.{ℕ, suc, _<_}
+use Prim.Native.Nat.{ℕ, _<_}
 use mathlib.Core.Path.{_≡_, refl, sym, ap, subst, _∙_}
 use mathlib.Core.Logic.{_≢_}
 use mathlib.Core.List.{List, [], _∷_}
@@ -18,7 +18,7 @@ use Rattle.scope.specs.Laws.Applied.{flash-refl}
 use Rattle.flash.specs.Words.{Lengths}
 use Rattle.flash.specs.Pages.{page-trans, Programmed, Marked, program-page, mark-page}
 use Rattle.flash.specs.Places.{page-on-chip, page-in-region}
-use Rattle.flash.specs.Kept.{apply-keeps-lengths, apply-keeps-beside}
+use Rattle.flash.specs.Kept.{apply-keeps-lengths}
 use Rattle.flash.specs.Listed.{cost}
 use Rattle.region.specs.Holds.{Region-fits, Maps}
 use Rattle.region.specs.Replace.{Replaced, Replacement, replace-law}

@@ -1,21 +1,18 @@
 -- The heart of every step that writes a page: the open block's next page is programmed for owner k, and the page that held k, if there
 -- is one, is marked. Collections move pages so, update writes translation pages so, and write data pages.
-use Prim.Native.Nat.{ℕ, suc, _+_, _*_, _≤_, _<_}
+use Prim.Native.Nat.{ℕ, suc, _<_}
 use mathlib.Core.Path.{_≡_, refl, sym, ap, subst, _∙_}
 use mathlib.Core.Logic.{_≢_, _⊎_, ⊎-elim, inl, inr}
 use mathlib.Core.List.{List}
 use native.Mathlib.Omega.{arith}
 use native.Mathlib.Nat.{mul-le-mul}
-use lib.ListN.{length}
 use borrow.Author.Tests.{ne-eqb}
 use Rattle.scope.specs.Geometry.{Geometry, pages, Accepted}
-use Rattle.scope.specs.Regions.{Region, owners, page-in, Has-block, Has-page}
-use Rattle.scope.specs.Lent.{none, erased, valid, invalid, Entry, Place, Nowhere, decode, State, words-of, state-of, owner-of}
-use Rattle.scope.specs.Operations.{Program, Mark, apply}
-use Rattle.scope.specs.Sound.{Page-fits, Pages-fit, Owners-differ, Wholly-erased, Full, Names}
-use Rattle.flash.specs.Cases.{same?, below?, last}
-use Rattle.flash.specs.Words.{Lengths}
-use Rattle.flash.specs.Pages.{Page-same, page-refl, page-trans, Programmed, Marked, program-page, mark-page}
+use Rattle.scope.specs.Regions.{Region, owners, page-in, Has-page}
+use Rattle.scope.specs.Lent.{none, erased, valid, invalid, Entry, Place, Nowhere, decode, words-of, state-of, owner-of}
+use Rattle.scope.specs.Sound.{Page-fits, Pages-fit, Owners-differ, Names}
+use Rattle.flash.specs.Cases.{same?, last}
+use Rattle.flash.specs.Pages.{Page-same}
 use Rattle.flash.specs.Places.{other, page-on-chip, page-other, page-in-region, page-in-same}
 use Rattle.flash.specs.SamePages.{Pages-same}
 use Rattle.region.specs.Holds.{Region-fits, Besides, Maps, Renames, contents, valid-page-named}

@@ -3,23 +3,23 @@
 -- law of its own, so that another rule of choice can take its place.
 use Prim.Native.Nat.{ℕ, zero, suc, _+_, _*_, _-_, _≤_, _<_}
 use mathlib.Core.Path.{_≡_, refl, sym, ap, subst, _∙_}
-use mathlib.Core.Logic.{_≢_, _⊎_, inl, inr, ⊎-elim}
-use mathlib.Core.Bool.{Bool, true, false, not, cond, _&&_}
+use mathlib.Core.Logic.{_≢_, ⊎-elim}
+use mathlib.Core.Bool.{Bool, true, false, not, _&&_}
 use mathlib.Core.List.{List}
 use native.Mathlib.Omega.{arith}
 use lib.Dec.{eqb, ltb}
-use borrow.Author.Tests.{eqb-true, eqb-false, eq-eqb, ne-eqb, ltb-true, ltb-false, lt-ltb, not-true, not-false}
-use Rattle.scope.specs.Counting.{count, lowest, fewest, some}
+use borrow.Author.Tests.{eqb-true, eqb-false, eq-eqb, ne-eqb, ltb-true, ltb-false, not-true, not-false}
+use Rattle.scope.specs.Counting.{count, some}
 use Rattle.scope.specs.Geometry.{Geometry, M, Accepted}
 use Rattle.scope.specs.Regions.{Region, Data, Translation, first-block, region-blocks, first-page, region-pages, owners, page-in, Has-block, Has-page}
-use Rattle.scope.specs.Lent.{none, erased, valid, State, state-of, owner-of, is-erased, is-valid}
+use Rattle.scope.specs.Lent.{erased, valid, State, state-of, owner-of, is-valid}
 use Rattle.scope.specs.Blocks.{wholly-erased, no-erased-page, valid-pages}
 use Rattle.scope.specs.Sound.{Pages-fit, Owners-differ, Wholly-erased, Full}
 use Rattle.scope.specs.Room.{erased-blocks, lowest-erased, victim}
 use Rattle.scope.specs.Laws.Decides.{Decides, by-all, by-equal, by-not}
-use Rattle.flash.specs.Cases.{on, same?, below?, last, and-true, true-and, and-cases, clash, not-of-false}
-use Rattle.flash.specs.Counting.{some-found, none-some, sum, count-same, count-le, sum-same, count-blocks, count-one, count-split, pigeonhole, count-at-most-one}
-use Rattle.flash.specs.Searching.{Is-lowest, lowest-found, Is-fewest, fewest-found}
+use Rattle.flash.specs.Cases.{on, same?, and-true, true-and, and-cases, clash, not-of-false}
+use Rattle.flash.specs.Counting.{some-found, none-some, sum, count-same, sum-same, count-blocks, count-one, count-split, pigeonhole, count-at-most-one}
+use Rattle.flash.specs.Searching.{lowest-found, fewest-found}
 use Rattle.region.specs.Holds.{Region-fits, Besides}
 
 -- What holds of each of a region's blocks by its number there holds of each.

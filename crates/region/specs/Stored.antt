@@ -1,0 +1,53 @@
+-- What flash holds for logical pages, by the words of the translation pages: these kept, it is kept, and so are the words past L.
+use Prim.Native.Nat.{ℕ, _+_, _*_, _≤_, _<_}
+use mathlib.Core.Path.{_≡_, refl, sym, ap, _∙_}
+use mathlib.Core.List.{List}
+use native.Mathlib.Omega.{arith}
+use native.Mathlib.Nat.{mod-lt}
+use lib.ListN.{length, getD, List·getD-eq-default}
+use Rattle.scope.specs.Geometry.{Geometry, M}
+use Rattle.scope.specs.Lent.{none, Entry, Place, Nowhere, decode, word-of, named, translation-page, translation-word}
+use Rattle.scope.specs.Sound.{in-page, stored}
+use Rattle.flash.specs.Cases.{below?}
+use Rattle.flash.specs.Words.{words-at}
+use Rattle.region.specs.Holds.{contents}
+
+-- Word i of the page that an entry names; *none* where it names none.
+pub word-in : (g : Geometry) (chip : List ℕ) (l : ℕ) (e : Entry) → 1 ≤ g .W
+    → in-page g chip l e ≡ getD (contents g chip e) (translation-word g l) none
+word-in g chip l (Place q) h = sym (words-at g q (translation-word g l) chip (mod-lt l h))
+word-in g chip l Nowhere h = refl
+
+-- What flash holds for a logical page is kept where the words of each translation page are.
+pub stored-same : (g : Geometry) (chip directory chip′ directory′ : List ℕ) → 1 ≤ g .W
+    → length directory ≡ M g → length directory′ ≡ M g
+    → ((t : ℕ) → t < M g → contents g chip′ (named t directory′) ≡ contents g chip (named t directory))
+    → (l : ℕ) → stored g chip′ directory′ l ≡ stored g chip directory l
+unfolding stored
+stored-same g chip directory chip′ directory′ h len len′ same l =
+    word-in g chip′ l (named (translation-page g l) directory′) h
+    ∙ ap (λ words. getD words (translation-word g l) none) (each (translation-page g l))
+    ∙ sym (word-in g chip l (named (translation-page g l) directory) h)
+  where
+    each : (t : ℕ) → contents g chip′ (named t directory′) ≡ contents g chip (named t directory)
+    each t =
+        below? t (M g) (same t) (λ past.
+        ap (λ x. contents g chip′ (decode x)) (List·getD-eq-default directory′ none (omega arith))
+        ∙ sym (ap (λ x. contents g chip (decode x)) (List·getD-eq-default directory none (omega arith))))
+
+-- "Words past L are *none*": rule 6's second sentence, kept likewise.
+abbrev pub Past-L : Geometry → List ℕ → List ℕ → Type 0
+Past-L g chip directory =
+    (t q i : ℕ) → t < M g → named t directory ≡ Place q → i < g .W → g .L ≤ t * g .W + i → word-of g q i chip ≡ none
+
+pub past-L-same : (g : Geometry) (chip directory chip′ directory′ : List ℕ)
+    → ((t : ℕ) → t < M g → contents g chip′ (named t directory′) ≡ contents g chip (named t directory))
+    → Past-L g chip directory → Past-L g chip′ directory′
+past-L-same g chip directory chip′ directory′ same before t q i h e l past =
+    sym (words-at g q i chip′ l)
+    ∙ ap (λ words. getD words i none) (sym (ap (contents g chip′) e) ∙ same t h)
+    ∙ go (named t directory) refl
+  where
+    go : (old : Entry) → named t directory ≡ old → getD (contents g chip old) i none ≡ none
+    go (Place p) old = words-at g p i chip l ∙ before t p i h old l past
+    go Nowhere old = refl
