@@ -3,6 +3,7 @@ pub mod Bools
 pub mod Bitmap
 pub mod Seen
 pub mod Sizes
+pub mod Erased
 pub mod Counted
 pub mod Named
 pub mod Tally
