@@ -38,3 +38,10 @@ refused {r} e h = sym e ∙ not-true r h
 
 pub passed : {r b : Bool} → r ≡ b → not r ≡ false → b ≡ true
 passed {r} e h = sym e ∙ not-false r h
+
+-- Two tests one after the other: the first refused; the first passed, and the second's result handed on.
+pub first-refused : {r a : Bool} (b : Bool) → r ≡ a → not r ≡ true → false ≡ a && b
+first-refused b e h = rw (refused e h)
+
+pub first-passed : {r a q b : Bool} → r ≡ a → not r ≡ false → q ≡ b → q ≡ a && b
+first-passed e h k = rw (passed e h) k

@@ -4,6 +4,7 @@ pub mod Bitmap
 pub mod Seen
 pub mod Sizes
 pub mod Erased
+pub mod Blocks
 pub mod Counted
 pub mod Named
 pub mod Tally
