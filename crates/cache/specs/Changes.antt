@@ -1,5 +1,5 @@
 -- What the cache holds after each change that scope's Cache.antt makes to its words, and which rank has the page that it is about.
-use Prim.Native.Nat.{ℕ, suc, _+_, _*_, _<_}
+use Prim.Native.Nat.{ℕ, suc, _*_, _<_}
 use native.Mathlib.Omega.{arith}
 use mathlib.Core.Path.{_≡_, refl, ap, sym, _∙_}
 use mathlib.Core.List.{List, [], _∷_}
@@ -8,7 +8,7 @@ use Rattle.flash.specs.Cases.{same?}
 use Rattle.scope.specs.Geometry.{Geometry}
 use Rattle.scope.specs.Lent.{none, entry-words, logical-at}
 use Rattle.scope.specs.Cache.{without}
-use Rattle.cache.specs.Entries.{CacheEntry, put, to-front, Stores, put-stores, to-front-entry, new-in-front, place-stores}
+use Rattle.cache.specs.Entries.{CacheEntry, put, placed, to-front, Stores, put-stores, placed-stores, to-front-entry, new-in-front}
 use Rattle.cache.specs.Ranks.{Has-rank}
 use Rattle.cache.specs.Holds.{Found, Hit, Miss, updated, Cache-holds, miss-not-cached, changed-holds, added-holds, dropped-holds}
 use Rattle.cache.specs.Order.{front-holds}
@@ -27,9 +27,12 @@ touched-holds g cache used m h l i r =
       rank =
           record {
             in-use = omega (arith, r .in-use);
-            is-l = ap (λ e. e .logical) (to-front-entry (g .C) cache (h .long) i (omega (arith, r .in-use, h .fits .at-most)) 0) ∙ r .is-l;
+            is-l = ap (λ e. e .logical) (to-front-entry (g .C) cache (h .long) i below 0) ∙ r .is-l;
           };
     }
+  where
+    below : i < g .C
+    below = omega (arith, r .in-use, h .fits .at-most)
 
 module _ (g : Geometry) (cache : List ℕ) (used : ℕ) (m : ℕ → Found) (h : Cache-holds g cache used m) where
   -- "Put the entry in front, unchanged": it is stored behind those in use, and comes to the front.
@@ -59,14 +62,18 @@ module _ (g : Geometry) (cache : List ℕ) (used : ℕ) (m : ℕ → Found) (h :
 
   -- "Its entry takes the new place and is changed, with its rank kept": each rank has the logical page that it had.
   module _ (l i place : ℕ) (r : Has-rank cache used l i) where
-    placed-stores : Stores (g .C) i (record { logical = l; physical = place; changed = 1 }) cache (sets cache (i * entry-words + 1) (place ∷ 1 ∷ []))
-    placed-stores = place-stores (g .C) cache (h .long) i (omega (arith, r .in-use, h .fits .at-most)) l place (r .is-l)
+    abbrev e : CacheEntry
+    e = record { logical = l; physical = place; changed = 1 }
 
-    pub placed-holds : Cache-holds g (sets cache (i * entry-words + 1) (place ∷ 1 ∷ [])) used (updated m l (Hit place 1))
+    stores : Stores (g .C) i e cache (placed i place cache)
+    stores = placed-stores (g .C) cache (h .long) i (omega (arith, r .in-use, h .fits .at-most)) l place (r .is-l)
+
+    pub placed-holds : Cache-holds g (placed i place cache) used (updated m l (Hit place 1))
     placed-holds =
-        changed-holds g cache used m h i (record { logical = l; physical = place; changed = 1 })
-        (sets cache (i * entry-words + 1) (place ∷ 1 ∷ [])) placed-stores (r .in-use) (sym (r .is-l)) (omega arith)
+        changed-holds g cache used m h i e (placed i place cache) stores (r .in-use) (sym (r .is-l)) (omega arith)
 
-    pub placed-ranks : (j : ℕ) → logical-at j (sets cache (i * entry-words + 1) (place ∷ 1 ∷ [])) ≡ logical-at j cache
+    pub placed-ranks : (j : ℕ) → logical-at j (placed i place cache) ≡ logical-at j cache
     placed-ranks j =
-        same? j i (λ q. rw q (ap (λ x. x .logical) (placed-stores .here) ∙ sym (r .is-l))) (λ q. ap (λ x. x .logical) (placed-stores .elsewhere j q))
+        same? j i
+        (λ q. rw q (ap (λ x. x .logical) (stores .here) ∙ sym (r .is-l)))
+        (λ q. ap (λ x. x .logical) (stores .elsewhere j q))

@@ -63,7 +63,8 @@ pub record Place-set (g : Geometry) (l place : ℕ) (s s′ : State) : Type 0 wh
   pub agree : Unchanged-agree g s′
 
 -- Where l already had the place, all are kept.
-set-keeps-places : {g : Geometry} {l place : ℕ} {s s′ : State} → Place-set g l place s s′ → current g s l ≡ place → Places-kept g s s′
+set-keeps-places : {g : Geometry} {l place : ℕ} {s s′ : State}
+    → Place-set g l place s s′ → current g s l ≡ place → Places-kept g s s′
 set-keeps-places {l = l} a e =
     record {
       places = λ k b. same? k l (λ q. rw q (a .here ∙ sym e)) (λ q. a .elsewhere k b q);

@@ -28,9 +28,12 @@ entry i cache = record { logical = logical-at i cache; physical = physical-at i 
 abbrev pub words-of-entry : CacheEntry → List ℕ
 words-of-entry e = e .logical ∷ e .physical ∷ e .changed ∷ []
 
--- An entry stored at a rank; the entry at a rank brought to the front.
+-- An entry stored at a rank; another place, changed, for the entry at a rank; the entry at a rank brought to the front.
 abbrev pub put : ℕ → CacheEntry → List ℕ → List ℕ
 put i e cache = sets cache (i * entry-words) (words-of-entry e)
+
+abbrev pub placed : ℕ → ℕ → List ℕ → List ℕ
+placed i place cache = sets cache (i * entry-words + 1) (place ∷ 1 ∷ [])
 
 abbrev pub to-front : ℕ → List ℕ → List ℕ
 to-front i cache = entry-at i cache ++ without i cache
@@ -86,7 +89,8 @@ after i cache = drop (i * entry-words + entry-words) cache
 entry-of-after : (i m j : ℕ) (cache : List ℕ) → suc i + m ≡ j → entry-at m (after i cache) ≡ entry-at j cache
 entry-of-after i m j cache h =
     let e : i * entry-words + entry-words + m * entry-words ≡ j * entry-words = omega arith in
-    ap (take entry-words) (drop-drop (m * entry-words) (i * entry-words + entry-words) cache) ∙ ap (λ k. take entry-words (drop k cache)) e
+    ap (take entry-words) (drop-drop (m * entry-words) (i * entry-words + entry-words) cache)
+    ∙ ap (λ k. take entry-words (drop k cache)) e
 
 -- ---- the two changes, at a rank below the number n of entries
 
@@ -107,7 +111,8 @@ module _ (n : ℕ) (cache : List ℕ) (long : length cache ≡ n * entry-words) 
 
   entry-after : (k j m : ℕ) (p : List ℕ) → length p ≡ k * entry-words → k ≤ j → j + suc i ≡ m + k
       → entry-at j (p ++ after i cache) ≡ entry-at m cache
-  entry-after k j m p e le q = entry-behind k (j - k) j p (after i cache) e (omega arith) ∙ entry-of-after i (j - k) m cache (omega arith)
+  entry-after k j m p e le q =
+      entry-behind k (j - k) j p (after i cache) e (omega arith) ∙ entry-of-after i (j - k) m cache (omega arith)
 
   -- An entry stored at rank i stands there; the others stay.
   module _ (e : CacheEntry) where
@@ -126,20 +131,26 @@ module _ (n : ℕ) (cache : List ℕ) (long : length cache ≡ n * entry-words) 
         ∙ ap (take entry-words) (drop-at (before i cache) (words-of-entry e ++ after i cache) (i * entry-words) length-before)
 
     without-put : without i (put i e cache) ≡ without i cache
-    without-put =
-        let front : before i (put i e cache) ≡ before i cache =
-        ap (before i) put-splits-behind ∙ take-at (before i cache) (words-of-entry e ++ after i cache) (i * entry-words) length-before in
-        let rest : after i (put i e cache) ≡ after i cache =
-        ap (after i) put-splits
-        ∙ drop-at (before i cache ++ words-of-entry e) (after i cache) (i * entry-words + entry-words) (omega (arith, length-through)) in
-        cc
+    without-put = cc (front, rest)
+      where
+        front : before i (put i e cache) ≡ before i cache
+        front =
+            ap (before i) put-splits-behind
+            ∙ take-at (before i cache) (words-of-entry e ++ after i cache) (i * entry-words) length-before
+
+        rest : after i (put i e cache) ≡ after i cache
+        rest =
+            ap (after i) put-splits
+            ∙ drop-at (before i cache ++ words-of-entry e) (after i cache) (i * entry-words + entry-words)
+            (omega (arith, length-through))
 
     put-elsewhere : (j : ℕ) → j ≢ i → entry j (put i e cache) ≡ entry j cache
     put-elsewhere j k =
         same-entry j (put i e cache) j cache
         (below? j i
         (λ b. ap (entry-at j) put-splits-behind ∙ entry-before j (words-of-entry e ++ after i cache) b)
-        (λ b. ap (entry-at j) put-splits ∙ entry-after (suc i) j j (before i cache ++ words-of-entry e) length-through (omega arith) refl))
+        (λ b. ap (entry-at j) put-splits
+        ∙ entry-after (suc i) j j (before i cache ++ words-of-entry e) length-through (omega arith) refl))
 
     pub put-stores : Stores n i e cache (put i e cache)
     put-stores =
@@ -149,12 +160,12 @@ module _ (n : ℕ) (cache : List ℕ) (long : length cache ≡ n * entry-words) 
           elsewhere = put-elsewhere;
         }
 
-  -- A new place for the entry at rank i, and changed: its logical page is stored anew as it was.
-  pub place-stores : (l place : ℕ) → logical-at i cache ≡ l
-      → Stores n i (record { logical = l; physical = place; changed = 1 }) cache (sets cache (i * entry-words + 1) (place ∷ 1 ∷ []))
-  place-stores l place q =
-      rw (add-one, ← q)
-      (rw (set-getD cache (i * entry-words) none) at (put-stores (record { logical = logical-at i cache; physical = place; changed = 1 })))
+  -- Another place for the entry at rank i: it is as if its logical page were stored anew.
+  pub placed-stores : (l place : ℕ) → logical-at i cache ≡ l
+      → Stores n i (record { logical = l; physical = place; changed = 1 }) cache (placed i place cache)
+  placed-stores l place q =
+      let again = put-stores (record { logical = logical-at i cache; physical = place; changed = 1 }) in
+      rw (add-one, ← q) (rw (set-getD cache (i * entry-words) none) at again)
 
   -- The entry at rank i comes to the front, and those before it are one rank further back.
   length-entry : length (entry-at i cache) ≡ entry-words

@@ -1,5 +1,5 @@
--- Translate where l isn't cached and an entry is free: "if l's translation page exists, read it and take the word; else *none*, with
--- no read. Put the entry in front, unchanged." The word is what flash stores for l.
+-- Translate where l isn't cached and an entry is free: "if l's translation page exists, read it and take the word; else *none*,
+-- with no read. Put the entry in front, unchanged." The word is what flash stores for l.
 use Prim.Native.Nat.{ℕ, suc, _≤_, _<_}
 use native.Mathlib.Nat.{mod-lt}
 use native.Mathlib.Omega.{arith}
@@ -31,7 +31,8 @@ unfolding fetch stored word-for read-page perform apply look give _>>=_ listed e
 fetch-is g l s wide = go (named (translation-page g l) (s .directory))
   where
     go : (e : Entry) → (word-for g l e >>= enter l) s ≡ listed (page-read e) (enter l (in-page g (s .chip) l e) s)
-    go (Place p) = ap (λ w. listed (Read p ∷ []) (enter l w s)) (words-at g p (translation-word g l) (s .chip) (mod-lt l (omega arith)))
+    go (Place p) =
+        ap (λ w. listed (Read p ∷ []) (enter l w s)) (words-at g p (translation-word g l) (s .chip) (mod-lt l (omega arith)))
     go Nowhere = refl
 
 pub fetch-law : (g : Geometry) (s : State) (m : ℕ → Found) → Holds-in g s m → 1 ≤ g .W

@@ -21,9 +21,10 @@ use Rattle.cache.specs.Steps.{Holds-in, Ranks-kept, set-entry-law}
 use Rattle.cache.specs.Current.{Place-set, set-entry-sets-place}
 use Rattle.cache.specs.Waiting.{latest, Waits, latest-none, latest-here, latest-elsewhere, waits-append}
 
--- No page that waits is cached.
-abbrev pub None-cached : List Mapping → List ℕ → ℕ → Type 0
-None-cached w cache used = (l : ℕ) → Waits w l → Not-cached cache used l
+-- The pages that wait are logical pages that are not cached.
+pub record Waiting-fits (g : Geometry) (w : List Mapping) (cache : List ℕ) (used : ℕ) : Type 0 where
+  pub below-L : (l : ℕ) → Waits w l → l < g .L
+  pub not-cached : (l : ℕ) → Waits w l → Not-cached cache used l
 
 -- After page l has moved to a new place while w waited: nothing but the cache may have changed, and there no rank.
 pub record Followed (g : Geometry) (w : List Mapping) (l place : ℕ) (s : State) (o : Outcome (List Mapping)) : Type 0 where
@@ -36,13 +37,13 @@ pub record Followed (g : Geometry) (w : List Mapping) (l place : ℕ) (s : State
   pub ranks : (i : ℕ) → logical-at i (o .after .cache) ≡ logical-at i (s .cache)
   pub agree : Unchanged-agree g (o .after)
   pub at-most-one : length (o .value) ≤ 1
-  pub none-cached : None-cached (w ++ o .value) (o .after .cache) (o .after .small .used)
+  pub waiting : Waiting-fits g (w ++ o .value) (o .after .cache) (o .after .small .used)
   pub here : latest (w ++ o .value) l (current g (o .after) l) ≡ place
   pub elsewhere : (k : ℕ) → k < g .L → k ≢ l → latest (w ++ o .value) k (current g (o .after) k) ≡ latest w k (current g s k)
 
 module _ (g : Geometry) (w : List Mapping) (s : State) (long : length (s .cache) ≡ cache-size g)
     (fits : Entries-fit g (s .cache) (s .small .used)) (seven : Unchanged-agree g s)
-    (apart : None-cached w (s .cache) (s .small .used)) where
+    (waiting : Waiting-fits g w (s .cache) (s .small .used)) where
   -- The owner is cached, at rank i.
   entry-follows : (l i place : ℕ) → Has-rank (s .cache) (s .small .used) l i
       → Followed g w l place s (record { value = []; after = set-entry i place s .after; did = set-entry i place s .did ++ [] })
@@ -57,9 +58,14 @@ module _ (g : Geometry) (w : List Mapping) (s : State) (long : length (s .cache)
         ranks = set .ranks;
         agree = places .agree;
         at-most-one = omega arith;
-        none-cached = rw append-nil (λ k q j u e.
-            apart k q j (omega (arith, ap (λ x. x .used) (set .step .small))) (sym (set .ranks j) ∙ e));
-        here = rw append-nil (latest-none w l (current g after l) (λ q. apart l q i (r .in-use) (r .is-l)) ∙ places .here);
+        waiting = rw append-nil
+            (record {
+              below-L = waiting .below-L;
+              not-cached = λ k q j u e.
+                  waiting .not-cached k q j (omega (arith, ap (λ x. x .used) (set .step .small))) (sym (set .ranks j) ∙ e);
+            });
+        here = rw append-nil
+            (latest-none w l (current g after l) (λ q. waiting .not-cached l q i (r .in-use) (r .is-l)) ∙ places .here);
         elsewhere = λ k b d. rw append-nil (ap (latest w k) (places .elsewhere k b d));
       }
     where
@@ -79,9 +85,9 @@ module _ (g : Geometry) (w : List Mapping) (s : State) (long : length (s .cache)
       places = set-entry-sets-place g s m h seven l place (set .step)
 
   -- It isn't, and waits.
-  owner-waits : (l place : ℕ) → Not-cached (s .cache) (s .small .used) l
+  owner-waits : (l place : ℕ) → l < g .L → Not-cached (s .cache) (s .small .used) l
       → Followed g w l place s (record { value = record { logical = l; physical = place } ∷ []; after = s; did = [] })
-  owner-waits l place n =
+  owner-waits l place b n =
       record {
         did = refl;
         flash = flash-refl;
@@ -92,18 +98,22 @@ module _ (g : Geometry) (w : List Mapping) (s : State) (long : length (s .cache)
         ranks = λ i. refl;
         agree = seven;
         at-most-one = omega arith;
-        none-cached = λ k q. ⊎-elim (apart k) (⊎-elim (λ e. rw (← e) n) absurd) (waits-append w (x ∷ []) k q);
+        waiting =
+            record {
+              below-L = λ k q. ⊎-elim (waiting .below-L k) (⊎-elim (λ e. rw (← e) b) absurd) (waits-append w (x ∷ []) k q);
+              not-cached = λ k q. ⊎-elim (waiting .not-cached k) (⊎-elim (λ e. rw (← e) n) absurd) (waits-append w (x ∷ []) k q);
+            };
         here = latest-here w l place (current g s l);
-        elsewhere = λ k b d. latest-elsewhere w l place k (current g s k) d;
+        elsewhere = λ k _ d. latest-elsewhere w l place k (current g s k) d;
       }
     where
       x : Mapping
       x = record { logical = l; physical = place }
 
-  pub cache-or-wait-law : (l place : ℕ) → Followed g w l place s (cache-or-wait g l place s)
+  pub cache-or-wait-law : (l place : ℕ) → l < g .L → Followed g w l place s (cache-or-wait g l place s)
   unfolding cache-or-wait look give _>>=_
-  cache-or-wait-law l place =
+  cache-or-wait-law l place b =
       let i = rank-of g (s .cache) (s .small .used) l in
       below? i (g .C)
       (λ k. rw (lt-ltb i (g .C) k) (entry-follows l i place (rank-found g (s .cache) (s .small .used) l k)))
-      (λ k. rw (le-ltb i (g .C) k) (owner-waits l place (rank-missing g (s .cache) (s .small .used) l (fits .at-most) k)))
+      (λ k. rw (le-ltb i (g .C) k) (owner-waits l place b (rank-missing g (s .cache) (s .small .used) l (fits .at-most) k)))

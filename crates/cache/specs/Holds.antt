@@ -14,7 +14,7 @@ use Rattle.scope.specs.Geometry.{Geometry}
 use Rattle.scope.specs.Lent.{none, cache-size, logical-at, physical-at, changed-at}
 use Rattle.scope.specs.Sound.{Entries-fit, rank-of}
 use Rattle.cache.specs.Entries.{CacheEntry, entry, Stores}
-use Rattle.cache.specs.Ranks.{Not-cached, rank-found, rank-missing, rank-is, cached?}
+use Rattle.cache.specs.Ranks.{Not-cached, rank-found, rank-is, cached?}
 
 -- What the cache says of a logical page: its place and whether that is changed, or nothing.
 pub data Found : Type 0 where
@@ -62,16 +62,6 @@ holds-lookup g cache used long fits =
           (λ k. rw (le-ltb (rank-of g cache used l) (g .C) k));
     }
 
--- The map that a cache holds is the one that is looked up in it.
-pub holds-found : (g : Geometry) (cache : List ℕ) (used : ℕ) (m : ℕ → Found) → Cache-holds g cache used m → (l : ℕ) → lookup g cache used l ≡ m l
-unfolding lookup
-holds-found g cache used m h l =
-    let i = rank-of g cache used l in
-    below? i (g .C)
-    (λ k. let r = rank-found g cache used l k in
-    rw (lt-ltb i (g .C) k) (sym (h .hits i (r .in-use)) ∙ ap m (r .is-l)))
-    (λ k. rw (le-ltb i (g .C) k) (sym (h .misses l (rank-missing g cache used l (h .fits .at-most) k))))
-
 module _ (g : Geometry) (cache : List ℕ) (used : ℕ) (m : ℕ → Found) (h : Cache-holds g cache used m) where
   -- A page that the map misses has no entry; one that it hits has one, and is a logical page.
   pub miss-not-cached : (l : ℕ) → m l ≡ Miss → Not-cached cache used l
@@ -88,6 +78,16 @@ module _ (g : Geometry) (cache : List ℕ) (used : ℕ) (m : ℕ → Found) (h :
 
   pub hit-below-L : (l place c : ℕ) → m l ≡ Hit place c → l < g .L
   hit-below-L l place c e = let a = hit-at l place c e in rw (a .logical) at (h .fits .below-L (a .rank) (a .in-use))
+
+  -- The map is the one that is looked up.
+  pub holds-found : (l : ℕ) → lookup g cache used l ≡ m l
+  holds-found l =
+      let looked = holds-lookup g cache used (h .long) (h .fits) in
+      cached? g cache used l (h .fits .at-most)
+      (λ r.
+      let i = rank-of g cache used l in
+      ap (lookup g cache used) (sym (r .is-l)) ∙ looked .hits i (r .in-use) ∙ sym (h .hits i (r .in-use)) ∙ ap m (r .is-l))
+      (λ n. looked .misses l n ∙ sym (h .misses l n))
 
 -- What is said of an entry in use, and of an unused one.
 abbrev pub Says : (ℕ → Found) → CacheEntry → Type 0
@@ -122,7 +122,8 @@ module _ (g : Geometry) (cache : List ℕ) (used : ℕ) (m : ℕ → Found) (h :
               different = λ a b ua ub q. same? a i
                   (λ p. same? b i (λ r. p ∙ sym r) (λ r. absurd (only b r ub a p (sym q))))
                   (λ p. same? b i (λ r. absurd (only a p ua b r q))
-                  (λ r. h .fits .different a b (others a ua p) (others b ub r) (sym (logical-elsewhere a p) ∙ q ∙ logical-elsewhere b r)));
+                  (λ r. h .fits .different a b (others a ua p) (others b ub r)
+                  (sym (logical-elsewhere a p) ∙ q ∙ logical-elsewhere b r)));
               changed-fits = λ j u. each (λ x. x .changed ≤ 1) j u small (λ q v. h .fits .changed-fits j v);
               unused = λ j c u. subst Unused (sym (st .elsewhere j (omega arith))) (h .fits .unused j c (omega arith));
             };
@@ -140,7 +141,9 @@ module _ (g : Geometry) (cache : List ℕ) (used : ℕ) (m : ℕ → Found) (h :
 
       each : (F : CacheEntry → Type 0) (j : ℕ) → j < used′ → F e → (j ≢ i → j < used → F (entry j cache)) → F (entry j cache′)
       each F j u here elsewhere =
-          same? j i (λ q. rw q (subst F (sym (st .here)) here)) (λ q. subst F (sym (st .elsewhere j q)) (elsewhere q (others j u q)))
+          same? j i
+          (λ q. rw q (subst F (sym (st .here)) here))
+          (λ q. subst F (sym (st .elsewhere j q)) (elsewhere q (others j u q)))
 
       logical-here : logical-at i cache′ ≡ e .logical
       logical-here = ap (λ x. x .logical) (st .here)

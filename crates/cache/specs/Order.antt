@@ -36,9 +36,11 @@ reordered-holds g cache cache′ used m h long r =
             below-L = λ j k. subst (λ e. e .logical < g .L) (sym (r .moved j k)) (h .fits .below-L (r .from j) (r .from-used j k));
             different = λ i j ki kj e.
                 sym (r .to-from i ki)
-                ∙ ap (r .to) (h .fits .different (r .from i) (r .from j) (r .from-used i ki) (r .from-used j kj) (sym (logical i ki) ∙ e ∙ logical j kj))
+                ∙ ap (r .to) (h .fits .different (r .from i) (r .from j) (r .from-used i ki) (r .from-used j kj)
+                (sym (logical i ki) ∙ e ∙ logical j kj))
                 ∙ r .to-from j kj;
-            changed-fits = λ j k. subst (λ e. e .changed ≤ 1) (sym (r .moved j k)) (h .fits .changed-fits (r .from j) (r .from-used j k));
+            changed-fits = λ j k.
+                subst (λ e. e .changed ≤ 1) (sym (r .moved j k)) (h .fits .changed-fits (r .from j) (r .from-used j k));
             unused = λ j k u. subst Unused (sym (r .stayed j k u)) (h .fits .unused j k u);
           };
       hits = λ j k. subst (Says m) (sym (r .moved j k)) (h .hits (r .from j) (r .from-used j k));
@@ -90,7 +92,9 @@ rank-after-before i (suc j) =
 rank-before-after : (i k : ℕ) → rank-before i (rank-after i k) ≡ k
 rank-before-after i k =
     below? k i (λ b. rw (rank-after-below i k b) (rank-before-below i k b))
-    (λ b. same? k i (λ e. rw (e, rank-after-here i)) (λ e. rw (rank-after-above i k (omega arith)) (rank-before-above i k (omega arith))))
+    (λ b. same? k i
+    (λ e. rw (e, rank-after-here i))
+    (λ e. rw (rank-after-above i k (omega arith)) (rank-before-above i k (omega arith))))
 
 front-reorders : (g : Geometry) (cache : List ℕ) (used i : ℕ) → length cache ≡ cache-size g → used ≤ g .C → i < used
     → Reordered g used cache (to-front i cache)
@@ -103,7 +107,8 @@ front-reorders g cache used i long most h =
       to-from = λ j k. rank-after-before i j;
       from-to = λ k u. rank-before-after i k;
       moved = λ j k. to-front-entry (g .C) cache long i (omega arith) j;
-      stayed = λ j k u. to-front-entry (g .C) cache long i (omega arith) j ∙ ap (λ x. entry x cache) (rank-before-above i j (omega arith));
+      stayed = λ j k u.
+          to-front-entry (g .C) cache long i (omega arith) j ∙ ap (λ x. entry x cache) (rank-before-above i j (omega arith));
     }
 
 pub front-holds : (g : Geometry) (cache : List ℕ) (used : ℕ) (m : ℕ → Found) (i : ℕ) → Cache-holds g cache used m → i < used

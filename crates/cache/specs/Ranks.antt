@@ -39,7 +39,8 @@ module _ (g : Geometry) (cache : List ℕ) (used l : ℕ) where
 
   pub rank-missing : used ≤ g .C → g .C ≤ rank-of g cache used l → Not-cached cache used l
   unfolding rank-of
-  rank-missing most h i k e = clash (rank-passes cache used l i k e) (lowest-none (g .C) (is-it cache used l) h .fails i (omega arith))
+  rank-missing most h i k e =
+      clash (rank-passes cache used l i k e) (lowest-none (g .C) (is-it cache used l) h .fails i (omega arith))
 
   -- The page's entry is the only one.
   pub rank-is : Entries-fit g cache used → (i : ℕ) → i < used → logical-at i cache ≡ l → rank-of g cache used l ≡ i
@@ -50,5 +51,6 @@ module _ (g : Geometry) (cache : List ℕ) (used l : ℕ) where
       fits .different (rank-of g cache used l) i (r .in-use) k (r .is-l ∙ sym e)
 
   -- A logical page is cached, at its rank, or not.
-  pub cached? {ℓ} : {X : Type ℓ} → used ≤ g .C → (Has-rank cache used l (rank-of g cache used l) → X) → (Not-cached cache used l → X) → X
+  pub cached? {ℓ} : {X : Type ℓ} → used ≤ g .C
+      → (Has-rank cache used l (rank-of g cache used l) → X) → (Not-cached cache used l → X) → X
   cached? most f h = below? (rank-of g cache used l) (g .C) (λ k. f (rank-found k)) (λ k. h (rank-missing most k))

@@ -1,5 +1,5 @@
 -- The steps that change the cache: what each hands back, what the cache holds after it, and that all else stays.
-use Prim.Native.Nat.{ℕ, suc, _-_, _<_}
+use Prim.Native.Nat.{ℕ, suc, _-_, _≤_, _<_}
 use native.Mathlib.Omega.{arith}
 use mathlib.Core.Path.{_≡_, refl}
 use mathlib.Core.List.{List, []}
@@ -7,7 +7,7 @@ use Rattle.scope.specs.Geometry.{Geometry}
 use Rattle.scope.specs.SmallRecord.{with-used}
 use Rattle.scope.specs.Lent.{State, logical-at, with-cache, with-small}
 use Rattle.scope.specs.Operations.{Operation, Outcome, give, set-cache, set-small, _>>=_}
-use Rattle.scope.specs.Cache.{touch, enter, forget, set-entry}
+use Rattle.scope.specs.Cache.{touch, enter, dropped, forget, set-entry}
 use Rattle.scope.specs.Laws.Applied.{Same-flash}
 use Rattle.cache.specs.Ranks.{Has-rank}
 use Rattle.cache.specs.Holds.{Found, Hit, Miss, updated, Cache-holds}
@@ -18,7 +18,8 @@ Holds-in g s m = Cache-holds g (s .cache) (s .small .used) m
 
 -- A step that changes the cache alone: chip, spare and directory stay, and the small record but for the number of used entries. The
 -- operations are listed, if any: reads.
-pub record Cache-step (g : Geometry) {A : Type 0} (s : State) (o : Outcome A) (ops : List Operation) (used : ℕ) (m : ℕ → Found) : Type 0 where
+pub record Cache-step (g : Geometry) {A : Type 0} (s : State) (o : Outcome A) (ops : List Operation) (used : ℕ) (m : ℕ → Found)
+    : Type 0 where
   pub did : o .did ≡ ops
   pub flash : Same-flash (o .after) s
   pub directory : o .after .directory ≡ s .directory
@@ -26,7 +27,8 @@ pub record Cache-step (g : Geometry) {A : Type 0} (s : State) (o : Outcome A) (o
   pub holds : Holds-in g (o .after) m
 
 -- One that hands back the rank of logical page l.
-pub record Rank-handed (g : Geometry) (s : State) (o : Outcome ℕ) (ops : List Operation) (used : ℕ) (m : ℕ → Found) (l : ℕ) : Type 0 where
+pub record Rank-handed (g : Geometry) (s : State) (o : Outcome ℕ) (ops : List Operation) (used : ℕ) (m : ℕ → Found) (l : ℕ)
+    : Type 0 where
   pub step : Cache-step g s o ops used m
   pub rank : Has-rank (o .after .cache) (o .after .small .used) l (o .value)
 
@@ -38,14 +40,21 @@ pub record Ranks-kept (g : Geometry) {A : Type 0} (s : State) (o : Outcome A) (m
 abbrev with-entries : List ℕ → ℕ → State → State
 with-entries cache used s = with-small (with-used used (s .small)) (with-cache cache s)
 
-cache-alone : {A : Type 0} (x : A) {g : Geometry} (s : State) {cache : List ℕ} {ops : List Operation} {used : ℕ} {m : ℕ → Found} → Cache-holds g cache used m
-    → Cache-step g s (record { value = x; after = with-entries cache used s; did = ops }) ops used m
-cache-alone x s h =
+abbrev outcome : {A : Type 0} → A → List ℕ → ℕ → State → Outcome A
+outcome x cache used s = record { value = x; after = with-entries cache used s; did = [] }
+
+cache-alone : {A : Type 0} {x : A} {g : Geometry} (s : State) {cache : List ℕ} {used : ℕ} {m : ℕ → Found}
+    → Cache-holds g cache used m → Cache-step g s (outcome x cache used s) [] used m
+cache-alone s h =
     record { did = refl; flash = record { chip = refl; spare = refl }; directory = refl; small = refl; holds = h }
 
-rank-handed : {g : Geometry} (s : State) {cache : List ℕ} {ops : List Operation} {used : ℕ} {m : ℕ → Found} {l : ℕ} → Holds-at g cache used m l 0
-    → Rank-handed g s (record { value = 0; after = with-entries cache used s; did = ops }) ops used m l
-rank-handed s h = record { step = cache-alone 0 s (h .holds); rank = h .rank }
+rank-handed : {g : Geometry} (s : State) {cache : List ℕ} {used : ℕ} {m : ℕ → Found} {l : ℕ}
+    → Holds-at g cache used m l 0 → Rank-handed g s (outcome 0 cache used s) [] used m l
+rank-handed s h = record { step = cache-alone s (h .holds); rank = h .rank }
+
+pub dropped-is-last : (s : State) → 1 ≤ s .small .used → suc (dropped s) ≡ s .small .used
+unfolding dropped
+dropped-is-last s some = omega arith
 
 module _ (g : Geometry) (s : State) (m : ℕ → Found) (h : Holds-in g s m) where
   pub touch-law : (l i : ℕ) → Has-rank (s .cache) (s .small .used) l i → Rank-handed g s (touch i s) [] (s .small .used) m l
@@ -62,13 +71,13 @@ module _ (g : Geometry) (s : State) (m : ℕ → Found) (h : Holds-in g s m) whe
   unfolding forget _>>=_ set-cache set-small
   forget-law i last =
       let q : s .small .used - 1 ≡ i = omega arith in
-      rw q (cache-alone tt s (forgotten-holds g (s .cache) (s .small .used) m h i last))
+      rw q (cache-alone s (forgotten-holds g (s .cache) (s .small .used) m h i last))
 
   pub set-entry-law : (l i place : ℕ) → Has-rank (s .cache) (s .small .used) l i
       → Ranks-kept g s (set-entry i place s) (updated m l (Hit place 1))
   unfolding set-entry set-cache
   set-entry-law l i place r =
       record {
-        step = cache-alone tt s (placed-holds g (s .cache) (s .small .used) m h l i place r);
+        step = cache-alone s (placed-holds g (s .cache) (s .small .used) m h l i place r);
         ranks = placed-ranks g (s .cache) (s .small .used) m h l i place r;
       }

@@ -1,4 +1,4 @@
--- What flash stores for a logical page, and what becomes of current places and rule 7 when it changes while the cache stays.
+-- What becomes of current places and rule 7 when flash changes while the cache stays.
 use Prim.Native.Nat.{ℕ, _<_}
 use native.Mathlib.Omega.{arith}
 use mathlib.Core.Path.{_≡_, refl, ap, sym, _∙_}
@@ -21,6 +21,12 @@ pub unchanged-stored : (g : Geometry) (s : State) → Entries-fit g (s .cache) (
 unchanged-stored g s fits seven i k e =
     seven i (omega (arith, fits .at-most)) k
     (omega (arith, fits .changed-fits i k, eqb-false (changed-at i (s .cache)) 1 e))
+
+-- Current places rest on the cache and on what flash stores, and on nothing else.
+pub current-same : (g : Geometry) (s s′ : State) → s′ .cache ≡ s .cache → s′ .small .used ≡ s .small .used
+    → (l : ℕ) → stored-in g s′ l ≡ stored-in g s l → current g s′ l ≡ current g s l
+unfolding current
+current-same g s s′ cache used l e = rw (cache, used, e)
 
 -- Where flash matters: for a page that is not cached, and by rule 7 for one that is cached and unchanged.
 abbrev pub Rests-on-flash : Found → Type 0
@@ -53,14 +59,17 @@ module _ (g : Geometry) (s s′ : State) (m : ℕ → Found) (h : Holds-in g s m
       not-waiting : (l p c : ℕ) → m l ≡ Hit p c → Waits w l → ⊥
       not-waiting l p c e q = hit-is-no-miss (sym e ∙ apart l q)
 
+      was : (l : ℕ) (f : Found) → m l ≡ f → current g s l ≡ place-or (stored-in g s l) f
+      was l f e = current-is g s m h l ∙ ap (place-or (stored-in g s l)) e
+
       place : (l : ℕ) → l < g .L → (f : Found) → m l ≡ f → place-or (stored-in g s′ l) (m l) ≡ latest w l (current g s l)
       place l b (Hit p c) e =
-          rw e (sym (latest-none w l (current g s l) (not-waiting l p c e) ∙ current-is g s m h l ∙ ap (place-or (stored-in g s l)) e))
-      place l b Miss e =
-          rw e (stores l b (rw e tt) ∙ ap (latest w l) (sym (current-is g s m h l ∙ ap (place-or (stored-in g s l)) e)))
+          rw e (sym (latest-none w l (current g s l) (not-waiting l p c e) ∙ was l (Hit p c) e))
+      place l b Miss e = rw e (stores l b (rw e tt) ∙ ap (latest w l) (sym (was l Miss e)))
 
   -- The same where nothing waited.
-  pub stored-keeps-places : ((l : ℕ) → l < g .L → Rests-on-flash (m l) → stored-in g s′ l ≡ stored-in g s l) → Places-kept g s s′
+  pub stored-keeps-places : ((l : ℕ) → l < g .L → Rests-on-flash (m l) → stored-in g s′ l ≡ stored-in g s l)
+      → Places-kept g s s′
   stored-keeps-places stores =
       let a = stored-settles [] (λ l q. absurd q) stores in
       record { places = a .places; agree = a .agree }

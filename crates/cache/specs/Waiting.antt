@@ -48,7 +48,8 @@ waits-append (x ∷ w) v l (inr q) = ⊎-elim (λ k. inl (inr k)) inr (waits-app
 
 -- ---- the mappings of one translation page
 
-pub of-page-waits : (g : Geometry) (t : ℕ) (w : List Mapping) (l : ℕ) → Waits (of-page g t w) l → (translation-page g l ≡ t) × Waits w l
+pub of-page-waits : (g : Geometry) (t : ℕ) (w : List Mapping) (l : ℕ)
+    → Waits (of-page g t w) l → (translation-page g l ≡ t) × Waits w l
 unfolding of-page
 of-page-waits g t [] l q = absurd q
 of-page-waits g t (x ∷ w) l q =
@@ -62,15 +63,17 @@ of-page-waits g t (x ∷ w) l q =
     later r = (r .0, inr (r .1))
 
 -- They decide for the page's own as all do.
-pub of-page-latest : (g : Geometry) (w : List Mapping) (l place : ℕ) → latest (of-page g (translation-page g l) w) l place ≡ latest w l place
+pub of-page-latest : (g : Geometry) (w : List Mapping) (l place : ℕ)
+    → latest (of-page g (translation-page g l) w) l place ≡ latest w l place
 unfolding of-page
 of-page-latest g [] l place = refl
 of-page-latest g (x ∷ w) l place =
     same? (translation-page g (x .logical)) (translation-page g l)
     (λ e. rw (eq-eqb (translation-page g (x .logical)) (translation-page g l) e)
     (of-page-latest g w l (cond (eqb (x .logical) l) (x .physical) place)))
-    (λ e. rw (ne-eqb (translation-page g (x .logical)) (translation-page g l) e, ne-eqb (x .logical) l (λ k. e (ap (translation-page g) k)))
-    (of-page-latest g w l place))
+    (λ e.
+    let other : x .logical ≢ l = λ k. e (ap (translation-page g) k) in
+    rw (ne-eqb (translation-page g (x .logical)) (translation-page g l) e, ne-eqb (x .logical) l other) (of-page-latest g w l place))
 
 -- ---- how many wait
 
