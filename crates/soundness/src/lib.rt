@@ -6,3 +6,4 @@ pub mod erased;
 pub mod geometry;
 pub mod stored;
 pub mod tally;
+pub mod window;
