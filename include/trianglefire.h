@@ -1,0 +1,335 @@
+/*
+ * Trianglefire: a flash translation layer for C and C++ firmware.
+ *
+ * The caller reads and writes logical pages.  The library finds a place on flash for each, keeps
+ * the map of these places on flash too, holds the entries in use in a small cache, and collects
+ * blocks when room runs out.  Its code is proved to give the answers that this header states.
+ *
+ * How it is used:
+ *
+ *   1. Choose a geometry, and lend five slices of memory as the state of a node: chip, spare,
+ *      directory, cache, record.  Their sizes are below.
+ *   2. Call tf_format once.
+ *   3. From then on call tf_read, tf_write and tf_run with the same geometry and the same slices.
+ *
+ * What every call has in common:
+ *
+ * - A slice is a pointer to 32-bit words, aligned as uint32_t, and then its count of words.  Behind
+ *   the pointer there must be that many words.  An empty slice may be given as NULL, 0.  The slices
+ *   of one call must not overlap.
+ * - Beyond that a caller can do nothing wrong: every geometry, page number, count of words and
+ *   content of the slices has its one answer.  A refusal writes nothing but the counts.
+ * - Nothing is kept between calls but what is in the slices, and no memory is allocated.  Calls on
+ *   different states may run at the same time; calls on one state may not, and nobody else may
+ *   change it in between.
+ * - The reply is returned (enum tf_reply).  The last slice, counts, takes three words: how many
+ *   pages were read, how many were programmed, and how many blocks were erased.  If it has three
+ *   words every answer writes them, a refusal 0, 0, 0; if not, the call is refused and writes
+ *   nothing there.
+ */
+#ifndef TRIANGLEFIRE_H
+#define TRIANGLEFIRE_H
+
+#include <stddef.h>
+#include <stdint.h>
+
+#if SIZE_MAX != UINT64_MAX
+#error "libtrianglefire.a is built for a size_t of 64 bits"
+#endif
+
+/*
+ * ---- Geometry: six numbers, the first arguments of every call --------------------------------
+ *
+ *   p   pages in a block            1 to 64
+ *   w   32-bit words in a page      1 to 512
+ *   d   data blocks                 2 or more, d + t at most 1,024
+ *   t   translation blocks          2 or more
+ *   l   logical pages               1 to (d-1)*p - 1
+ *   c   cache entries               1 to 4,096
+ *
+ * m, the number of translation pages, is l/w rounded up, and is at most (t-1)*p - 1.  These
+ * numbers are accepted, and no others.
+ */
+#define TF_MOST_PAGES_IN_BLOCK 64
+#define TF_MOST_WORDS_IN_PAGE 512
+#define TF_MOST_BLOCKS 1024
+#define TF_MOST_ENTRIES 4096
+
+/* The most requests in one run. */
+#define TF_MOST_REQUESTS 1024
+
+/*
+ * ---- Replies ----------------------------------------------------------------------------------
+ *
+ * The tests are made in the order of these numbers, and the first that applies gives the answer.
+ * From TF_GEOMETRY on the reply is a refusal: nothing is changed, and the counts are 0, 0, 0.  A
+ * request of a run has its own reply, in answers.
+ */
+enum tf_reply {
+    TF_DONE = 0,      /* done */
+    TF_UNWRITTEN = 1, /* a read of a page that was never written; the buffer is left as it was */
+    TF_GEOMETRY = 2,  /* the geometry is not accepted; answered whatever the counts of words are */
+    TF_LENGTH = 3,    /* a slice has another size than below, or a run over TF_MOST_REQUESTS */
+    TF_DAMAGED = 4,   /* the state breaks one of the rules below */
+    TF_KIND = 5,      /* a request of a run is neither TF_KIND_READ nor TF_KIND_WRITE */
+    TF_PAGE = 6       /* the logical page is l or more */
+};
+
+/*
+ * ---- What the words mean ----------------------------------------------------------------------
+ *
+ * Pages are numbered through the chip: block b has pages b*p to b*p + p-1.  Blocks 0 to d-1 hold
+ * data, blocks d to d+t-1 the map, in translation pages.
+ */
+
+/* "No page" in the directory, the cache and the map; and the word of an erased page. */
+#define TF_NONE UINT32_C(4294967295)
+#define TF_ERASED UINT32_C(4294967295)
+
+/* chip: page n has words n*w to n*w + w-1.  Logical page k is entered in word k%w of translation
+ * page k/w: the number of the page that holds it, or TF_NONE. */
+
+/* spare: two words a page.  The owner is the logical page (data) or the number of the translation
+ * page (map) that the page holds, TF_NONE while it is erased.  Only an erase sets bits. */
+enum { TF_SPARE_STATE = 0, TF_SPARE_OWNER = 1, TF_WORDS_IN_SPARE = 2 };
+#define TF_STATE_ERASED UINT32_C(4294967295)
+#define TF_STATE_VALID UINT32_C(65535)
+#define TF_STATE_INVALID UINT32_C(0)
+
+/* directory: for each translation page number the page that holds it, or TF_NONE. */
+
+/* cache: c entries of three words.  Those in use come first, the most recently used foremost; the
+ * words of the others are TF_NONE.  Changed is 1 where the map on flash does not have it yet. */
+enum { TF_ENTRY_LOGICAL = 0, TF_ENTRY_PHYSICAL = 1, TF_ENTRY_CHANGED = 2, TF_WORDS_IN_ENTRY = 3 };
+
+/* record: the open block of each region with the offset of its next page, 0 to p, and the number
+ * of cache entries in use. */
+enum {
+    TF_RECORD_OPEN_DATA = 0,
+    TF_RECORD_DATA_OFFSET = 1,
+    TF_RECORD_OPEN_TRANSLATION = 2,
+    TF_RECORD_TRANSLATION_OFFSET = 3,
+    TF_RECORD_USED = 4,
+    TF_RECORD_WORDS = 5
+};
+
+/* counts: what the call did to the flash.  Marking a page invalid is not counted. */
+enum { TF_COUNTS_READS = 0, TF_COUNTS_PROGRAMS = 1, TF_COUNTS_ERASES = 2, TF_COUNTS_WORDS = 3 };
+
+/* requests: two words each. */
+enum { TF_REQUEST_KIND = 0, TF_REQUEST_PAGE = 1, TF_WORDS_IN_REQUEST = 2 };
+enum { TF_KIND_READ = 0, TF_KIND_WRITE = 1 };
+
+/*
+ * ---- Sizes of the slices, in words ------------------------------------------------------------
+ *
+ *   chip        (d+t)*p*w       record      TF_RECORD_WORDS     requests    2*n
+ *   spare       (d+t)*p*2       counts      TF_COUNTS_WORDS     data        n*w
+ *   directory   m               buffer      w                   answers     n
+ *   cache       c*3
+ *
+ * n is the number of requests of a run.  Each size comes in two forms, both computed in 64 bits:
+ * as a macro, a constant expression where the geometry is constant, and as a function of numbers
+ * that are known only at run time.  The geometry may be one name:
+ *
+ *     #define NODE 64, 512, 1000, 24, 60000, 1024
+ *     static uint32_t chip[TF_CHIP_WORDS(NODE)];
+ *
+ * No product wraps: a factor past its limit above counts as 0, and the call is refused.
+ */
+#define TF_CHIP_WORDS(...) TF_CHIP_WORDS_OF(__VA_ARGS__)
+#define TF_SPARE_WORDS(...) TF_SPARE_WORDS_OF(__VA_ARGS__)
+#define TF_DIRECTORY_WORDS(...) TF_DIRECTORY_WORDS_OF(__VA_ARGS__)
+#define TF_CACHE_WORDS(...) TF_CACHE_WORDS_OF(__VA_ARGS__)
+#define TF_DATA_WORDS(...) TF_DATA_WORDS_OF(__VA_ARGS__) /* the geometry, then n */
+
+/* The formulas, which the names above and the functions below stand for. */
+#define TF_WITHIN(x, most) (UINT64_C(0) + (x) <= (most) ? UINT64_C(0) + (x) : UINT64_C(0))
+#define TF_BLOCKS_OF(d, t) TF_WITHIN(UINT64_C(0) + (d) + (t), TF_MOST_BLOCKS)
+#define TF_PAGES_OF(p, d, t) (TF_BLOCKS_OF(d, t) * TF_WITHIN(p, TF_MOST_PAGES_IN_BLOCK))
+#define TF_CHIP_WORDS_OF(p, w, d, t, l, c) \
+    (TF_PAGES_OF(p, d, t) * TF_WITHIN(w, TF_MOST_WORDS_IN_PAGE))
+#define TF_SPARE_WORDS_OF(p, w, d, t, l, c) (TF_PAGES_OF(p, d, t) * TF_WORDS_IN_SPARE)
+#define TF_DIRECTORY_WORDS_OF(p, w, d, t, l, c) \
+    ((w) == 0 ? UINT64_C(0) : (UINT64_C(0) + (l) + (w) - 1) / (w))
+#define TF_CACHE_WORDS_OF(p, w, d, t, l, c) (TF_WITHIN(c, TF_MOST_ENTRIES) * TF_WORDS_IN_ENTRY)
+#define TF_DATA_WORDS_OF(p, w, d, t, l, c, n) \
+    (TF_WITHIN(n, TF_MOST_REQUESTS) * TF_WITHIN(w, TF_MOST_WORDS_IN_PAGE))
+
+static inline uint64_t tf_chip_words(uint32_t p, uint32_t w, uint32_t d, uint32_t t, uint32_t l,
+                                     uint32_t c)
+{
+    (void)l, (void)c;
+    return TF_CHIP_WORDS_OF(p, w, d, t, l, c);
+}
+
+static inline uint64_t tf_spare_words(uint32_t p, uint32_t w, uint32_t d, uint32_t t, uint32_t l,
+                                      uint32_t c)
+{
+    (void)w, (void)l, (void)c;
+    return TF_SPARE_WORDS_OF(p, w, d, t, l, c);
+}
+
+static inline uint64_t tf_directory_words(uint32_t p, uint32_t w, uint32_t d, uint32_t t,
+                                          uint32_t l, uint32_t c)
+{
+    (void)p, (void)d, (void)t, (void)c;
+    return TF_DIRECTORY_WORDS_OF(p, w, d, t, l, c);
+}
+
+static inline uint64_t tf_cache_words(uint32_t p, uint32_t w, uint32_t d, uint32_t t, uint32_t l,
+                                      uint32_t c)
+{
+    (void)p, (void)w, (void)d, (void)t, (void)l;
+    return TF_CACHE_WORDS_OF(p, w, d, t, l, c);
+}
+
+static inline uint64_t tf_data_words(uint32_t p, uint32_t w, uint32_t d, uint32_t t, uint32_t l,
+                                     uint32_t c, size_t n)
+{
+    (void)p, (void)d, (void)t, (void)l, (void)c;
+    return TF_DATA_WORDS_OF(p, w, d, t, l, c, n);
+}
+
+/*
+ * ---- What TF_DAMAGED tests --------------------------------------------------------------------
+ *
+ * Every call but tf_format first sees that the state is sound, and touches nothing otherwise.  A
+ * state is sound exactly when:
+ *
+ *   1. Every state word is one of the three.  Erased pages have owner TF_NONE and only erased
+ *      words; the others have an owner below l (data) or m (map).
+ *   2. No two valid pages of a region have the same owner.
+ *   3. The open blocks lie in their regions, the offsets in 0 to p.  In an open block the pages
+ *      before the offset are programmed and the others erased; every other block is wholly erased
+ *      or has no erased page; and each region has a wholly erased block besides its open one.
+ *   4. The directory names, for each translation page number, the valid page with that owner, or
+ *      TF_NONE where there is none.
+ *   5. At most c entries are in use, of different logical pages below l, with changed 0 or 1; the
+ *      words of the others are TF_NONE.
+ *   6. The place of each logical page (its cache entry's, else the map's word, else TF_NONE) is
+ *      the valid data page that it owns, or TF_NONE where there is none; words of the map past l
+ *      are TF_NONE.
+ *   7. An unchanged cache entry equals the map's word, or TF_NONE where its translation page does
+ *      not exist.
+ *
+ * tf_format leaves a sound state, and every call leaves a sound state sound.
+ */
+
+#ifdef __cplusplus
+extern "C" {
+#endif
+
+/*
+ * ---- The five calls ---------------------------------------------------------------------------
+ *
+ * p, w, d, t, l, c are the geometry; counts takes the three counts.
+ */
+
+/*
+ * Formats a node: erases every block, empties directory and cache, and opens blocks 0 and d.  What
+ * the slices held before is not looked at.
+ *
+ *   TF_DONE       chip, spare, directory, cache and record are those of an empty node; the counts
+ *                 are 0, 0, d+t
+ *   TF_GEOMETRY   refused, nothing changed
+ *   TF_LENGTH     refused, nothing changed
+ */
+uint32_t tf_format(uint32_t p, uint32_t w, uint32_t d, uint32_t t, uint32_t l, uint32_t c,
+                   uint32_t *chip, size_t chip_words,
+                   uint32_t *spare, size_t spare_words,
+                   uint32_t *directory, size_t directory_words,
+                   uint32_t *cache, size_t cache_words,
+                   uint32_t *record, size_t record_words,
+                   uint32_t *counts, size_t counts_words);
+
+/*
+ * Says whether a state is sound, and changes nothing but the counts, which are 0, 0, 0.
+ *
+ *   TF_DONE       the state is sound
+ *   TF_GEOMETRY   refused
+ *   TF_LENGTH     refused
+ *   TF_DAMAGED    the state is not sound
+ */
+uint32_t tf_check(uint32_t p, uint32_t w, uint32_t d, uint32_t t, uint32_t l, uint32_t c,
+                  const uint32_t *chip, size_t chip_words,
+                  const uint32_t *spare, size_t spare_words,
+                  const uint32_t *directory, size_t directory_words,
+                  const uint32_t *cache, size_t cache_words,
+                  const uint32_t *record, size_t record_words,
+                  uint32_t *counts, size_t counts_words);
+
+/*
+ * Reads logical page `page` into buffer, w words.  The page's place is looked up in the cache, and
+ * on a miss in the map: its entry moves to the front of the cache, and the entry that is dropped
+ * for it is first written to the map if it was changed.  So a read, too, may change every slice of
+ * the state.  It takes at most 2p+3 reads, programs and erases.
+ *
+ *   TF_DONE       buffer holds the words that were last written to the page
+ *   TF_UNWRITTEN  the page was never written; buffer is untouched, and the state and the counts are
+ *                 those of the look-up
+ *   TF_GEOMETRY   refused, nothing changed
+ *   TF_LENGTH     refused, nothing changed
+ *   TF_DAMAGED    refused, nothing changed
+ *   TF_PAGE       refused, nothing changed
+ */
+uint32_t tf_read(uint32_t p, uint32_t w, uint32_t d, uint32_t t, uint32_t l, uint32_t c,
+                 uint32_t page,
+                 uint32_t *chip, size_t chip_words,
+                 uint32_t *spare, size_t spare_words,
+                 uint32_t *directory, size_t directory_words,
+                 uint32_t *cache, size_t cache_words,
+                 uint32_t *record, size_t record_words,
+                 uint32_t *buffer, size_t buffer_words,
+                 uint32_t *counts, size_t counts_words);
+
+/*
+ * Writes the w words of buffer as logical page `page`.  There is always room: in a sound state no
+ * write of a page below l is refused.  It takes at most (2p+1)*(p+1) reads, programs and erases.
+ *
+ *   TF_DONE       the page reads as the words of buffer from now on, and every other page as before
+ *   TF_GEOMETRY   refused, nothing changed
+ *   TF_LENGTH     refused, nothing changed
+ *   TF_DAMAGED    refused, nothing changed
+ *   TF_PAGE       refused, nothing changed
+ */
+uint32_t tf_write(uint32_t p, uint32_t w, uint32_t d, uint32_t t, uint32_t l, uint32_t c,
+                  uint32_t page,
+                  uint32_t *chip, size_t chip_words,
+                  uint32_t *spare, size_t spare_words,
+                  uint32_t *directory, size_t directory_words,
+                  uint32_t *cache, size_t cache_words,
+                  uint32_t *record, size_t record_words,
+                  const uint32_t *buffer, size_t buffer_words,
+                  uint32_t *counts, size_t counts_words);
+
+/*
+ * Serves n = requests_words/2 requests in their order, n at most TF_MOST_REQUESTS, each as tf_read
+ * or tf_write would, for one test of the state.  Request i reads into, or writes from, words i*w to
+ * i*w + w-1 of data, and its own reply goes to answers[i]: TF_DONE, TF_UNWRITTEN, TF_KIND or
+ * TF_PAGE.  A request that is refused changes nothing but its answer, and the run goes on; a read
+ * that is not TF_DONE leaves its words of data as they were, and so does every write.
+ *
+ *   TF_DONE       every request has its answer; the counts are the sums of theirs.  With no
+ *                 request nothing is changed
+ *   TF_GEOMETRY   refused, nothing changed, no answer given
+ *   TF_LENGTH     refused, nothing changed, no answer given; also for an odd number of request
+ *                 words, and for more than TF_MOST_REQUESTS
+ *   TF_DAMAGED    refused, nothing changed, no answer given
+ */
+uint32_t tf_run(uint32_t p, uint32_t w, uint32_t d, uint32_t t, uint32_t l, uint32_t c,
+                uint32_t *chip, size_t chip_words,
+                uint32_t *spare, size_t spare_words,
+                uint32_t *directory, size_t directory_words,
+                uint32_t *cache, size_t cache_words,
+                uint32_t *record, size_t record_words,
+                const uint32_t *requests, size_t requests_words,
+                uint32_t *data, size_t data_words,
+                uint32_t *answers, size_t answers_words,
+                uint32_t *counts, size_t counts_words);
+
+#ifdef __cplusplus
+}
+#endif
+
+#endif
