@@ -56,6 +56,9 @@ pub record Places-kept (g : Geometry) (s s′ : State) : Type 0 where
   pub places : (l : ℕ) → l < g .L → current g s′ l ≡ current g s l
   pub agree : Unchanged-agree g s′
 
+pub places-then : {g : Geometry} {s s′ s″ : State} → Places-kept g s s′ → Places-kept g s′ s″ → Places-kept g s s″
+places-then a b = record { places = λ l k. b .places l k ∙ a .places l k; agree = b .agree }
+
 -- The current place of l is now `place`; the others are as they were, and rule 7 holds.
 pub record Place-set (g : Geometry) (l place : ℕ) (s s′ : State) : Type 0 where
   pub here : current g s′ l ≡ place

@@ -8,5 +8,6 @@ pub mod Steps
 pub mod Current
 pub mod Waiting
 pub mod Stored
+pub mod Drop
 pub mod Fetch
 pub mod Follow
