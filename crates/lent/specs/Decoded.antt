@@ -6,7 +6,7 @@ use mathlib.Core.Logic.{_≢_}
 use mathlib.Core.Bool.{Bool, true, false, cond}
 use lib.Dec.{eqb}
 use borrow.Author.Tests.{eqb-true, eqb-false}
-use Rattle.scope.specs.Lent.{none, Entry, Place, Nowhere, decode}
+use Rattle.scope.specs.Lent.{none, Place, Nowhere, decode}
 
 -- The word of a place is the page's number and no *none*.
 pub record Is-place (x p : ℕ) : Type 0 where

@@ -1,7 +1,6 @@
 -- The shape of every step's contract: the lent lists and numbers after are the definition's, and so is what is handed back; the counts
 -- have grown by those of its operations. Laws put contracts together as the definition puts steps together.
 use mathlib.Core.Path.{_≡_}
-use mathlib.Core.List.{List, _++_}
 use Rattle.scope.specs.Lent.{State}
 use Rattle.scope.specs.Operations.{Step, Counts, counts-add, counted}
 

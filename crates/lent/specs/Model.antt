@@ -1,7 +1,6 @@
 -- What the structs of src/lib.rt mean in document 01's definitions.
 use Prim.Native.Nat.{ℕ}
 use mathlib.Core.List.{List}
-use denote.Ref.{RefT, now}
 use Rattle.lent.specs.declared.Geometry.{Geometry as Numbers}
 use Rattle.lent.specs.declared.Record.{Record}
 use Rattle.lent.specs.declared.Counts.{Counts as Counted}

@@ -1,7 +1,6 @@
 -- Entries of three words: the first n words moved back by three, from the last one down, and what stands in front of them then.
-use Prim.Native.Nat.{ℕ, zero, suc, _+_, _-_, _*_, _≤_, _<_}
+use Prim.Native.Nat.{ℕ, suc, _+_, _-_, _*_, _≤_, _<_}
 use mathlib.Core.Path.{_≡_, refl, sym, ap, _∙_}
-use mathlib.Core.Logic.{⊎-elim}
 use mathlib.Core.Bool.{Bool, true, false, _&&_, and-false}
 use mathlib.Core.List.{List, [], _∷_, _++_, append-assoc}
 use native.Mathlib.Nat.{sub-zero}
@@ -13,10 +12,10 @@ use lib.Dec.{eqb, ltb}
 use borrow.Author.Tests.{lt-ltb, le-ltb, eq-eqb, ne-eqb}
 use Rattle.scope.specs.Counting.{lowest}
 use Rattle.scope.specs.Lent.{none, logical-at}
-use Rattle.flash.specs.Cases.{below?, clash, true-and}
-use Rattle.flash.specs.Searching.{lowest-cases}
+use Rattle.flash.specs.Cases.{below?, true-and}
 use Rattle.flash.specs.Stores.{getD-sets-outside}
 use Rattle.words.specs.Runs.{set-before, getD-any}
+use Rattle.words.specs.Searches.{lowest-fails}
 
 -- Words i to n - 1 of l₀ have moved three words back.
 pub record Shifted (l₀ : List ℕ) (n : ℕ) (l : List ℕ) (i : ℕ) : Type 0 where
@@ -54,21 +53,24 @@ module _ {l₀ : List ℕ} {n : ℕ} (fits : n + 3 ≤ length l₀) where
   pub all-shifted : {l : List ℕ} {i : ℕ} → Shifted l₀ n l i → i ≡ 0 → l ≡ sets l₀ 3 (take n l₀)
   all-shifted {l} {i} h e = h .words ∙ (rw (e, sub-zero) refl)
 
--- Three words stored in front of the moved ones: what was there before, without the three words behind the first n.
-pub put-in-front : (l : List ℕ) (n a b c : ℕ) → n + 3 ≤ length l
-    → sets (sets l 3 (take n l)) 0 (a ∷ b ∷ c ∷ []) ≡ a ∷ b ∷ c ∷ (take n l ++ drop (n + 3) l)
-put-in-front l n a b c h =
+-- Three words stored in front of the moved ones: all that was there, without the three words behind the first n.
+pub put-in-front : (l l₁ l₂ : List ℕ) (n a b c : ℕ) → n + 3 ≤ length l → l₁ ≡ sets l 3 (take n l) → l₂ ≡ sets l₁ 0 (a ∷ b ∷ c ∷ [])
+    → l₂ ≡ a ∷ b ∷ c ∷ (take n l ++ drop (n + 3) l)
+put-in-front l l₁ l₂ n a b c h shifted stored =
     let end : 3 + length (take n l) ≡ n + 3 = omega (arith, length-take-le n l (omega arith)) in
     let moved : sets l 3 (take n l) ≡ take 3 l ++ (take n l ++ drop (n + 3) l) =
     sets-eq (take n l) l 3 (omega arith) ∙ (rw end (append-assoc (take 3 l) (take n l) (drop (n + 3) l))) in
-    sets-eq (a ∷ b ∷ c ∷ []) (sets l 3 (take n l)) 0 (simp length-sets (omega arith))
+    stored
+    ∙ ap (λ (x : List ℕ). sets x 0 (a ∷ b ∷ c ∷ [])) shifted
+    ∙ sets-eq (a ∷ b ∷ c ∷ []) (sets l 3 (take n l)) 0 (simp length-sets (omega arith))
     ∙ ap (λ (x : List ℕ). a ∷ b ∷ c ∷ drop 3 x) moved
     ∙ ap (λ (x : List ℕ). a ∷ b ∷ c ∷ x) (drop-at (take 3 l) (take n l ++ drop (n + 3) l) 3 (length-take-le 3 l (omega arith)))
 
--- The three words at a place.
-pub three-at : (l : List ℕ) (i : ℕ) → i + 3 ≤ length l → take 3 (drop i l) ≡ getD l i 0 ∷ getD l (i + 1) 0 ∷ getD l (i + 2) 0 ∷ []
-three-at l i h =
-    rw (add-one, add-two, drop-cons l i 0 (omega arith), drop-cons l (suc i) 0 (omega arith), drop-cons l (suc (suc i)) 0 (omega arith)) refl
+-- The three words at a place, read one by one, in front of others.
+pub three-read : (l l₁ rest : List ℕ) (i : ℕ) → i + 3 ≤ length l → l₁ ≡ getD l i 0 ∷ getD l (i + 1) 0 ∷ getD l (i + 2) 0 ∷ rest
+    → l₁ ≡ take 3 (drop i l) ++ rest
+three-read l l₁ rest i h e =
+    e ∙ (rw (add-one, add-two, drop-cons l i 0 (omega arith), drop-cons l (suc i) 0 (omega arith), drop-cons l (suc (suc i)) 0 (omega arith)) refl)
 
 -- ---- a search by logical page
 
@@ -91,10 +93,4 @@ module _ (cache : List ℕ) (used l i : ℕ) where
 -- None matches below n where none does among those in use.
 pub no-match : (cache : List ℕ) (used l n : ℕ) → ((i : ℕ) → i < used → matches cache used l i ≡ false)
     → lowest n (matches cache used l) ≡ n
-no-match cache used l n h =
-    ⊎-elim
-    (λ found. clash (found .passes)
-    (below? (lowest n (matches cache used l)) used (h (lowest n (matches cache used l)))
-    (match-unused cache used l (lowest n (matches cache used l)))))
-    (λ missed. missed .is-n)
-    (lowest-cases n (matches cache used l))
+no-match cache used l n h = lowest-fails n (matches cache used l) (λ i _. below? i used (h i) (match-unused cache used l i))

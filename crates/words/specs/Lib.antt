@@ -2,3 +2,4 @@
 pub mod Runs
 pub mod Entries
 pub mod States
+pub mod Searches

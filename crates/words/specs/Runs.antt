@@ -7,7 +7,7 @@ use native.Mathlib.Nat.{add-zero}
 use native.Mathlib.Numerals.{add-one}
 use native.Mathlib.Omega.{arith}
 use lib.ListN.{length, getD, set, take, drop, length-set, length-take, length-drop}
-use lib.Seq.{sets, sets-eq, take-suc, take-all, drop-length, set-comm, length-take-le, length-sets, getD-take, getD-drop}
+use lib.Seq.{sets, sets-eq, take-suc, take-all, drop-length, set-comm, length-take-le, getD-take, getD-drop}
 use Rattle.flash.specs.Stores.{getD-sets-outside}
 
 -- Within the list it does not matter what a place past its end would read as.

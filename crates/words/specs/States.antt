@@ -1,8 +1,8 @@
 -- Counts of states, one page more; and "all" told by a count.
 use Prim.Native.Nat.{ℕ, _+_, _*_, _<_}
 use mathlib.Core.Path.{_≡_, refl}
-use mathlib.Core.Bool.{Bool, true, false, cond}
-use mathlib.Core.List.{List, [], _∷_}
+use mathlib.Core.Bool.{Bool, cond}
+use mathlib.Core.List.{List}
 use native.Mathlib.Numerals.{add-one}
 use lib.Dec.{eqb}
 use lib.ListN.{length, getD}
@@ -20,9 +20,8 @@ all-counted n f =
     (λ p. rw p (eq-eqb (count n f) n (count-each n f (all-each n f p))))
     (λ p. rw p (ne-eqb (count n f) n (λ e. clash (each-all n f (each-counted n f e)) p)))
 
--- One more page counted.
-pub count-more : (spare : List ℕ) (first state i k b : ℕ) → (first + i) * 2 < length spare
-    → k ≡ count i (λ j. eqb (state-of (first + j) spare) state) → b ≡ cond (eqb (getD spare ((first + i) * 2) 0) state) 1 0
-    → k + b ≡ count (i + 1) (λ j. eqb (state-of (first + j) spare) state)
-count-more spare first state i k b h e q =
-    rw (add-one, e, q, getD-any spare ((first + i) * 2) 0 none h) refl
+-- One more page counted, where turn i looks at a page of its own.
+pub count-more : (spare : List ℕ) (page : ℕ → ℕ) (state i k b : ℕ) → page i * 2 < length spare
+    → k ≡ count i (λ j. eqb (state-of (page j) spare) state) → b ≡ cond (eqb (getD spare (page i * 2) 0) state) 1 0
+    → k + b ≡ count (i + 1) (λ j. eqb (state-of (page j) spare) state)
+count-more spare page state i k b h e q = rw (add-one, e, q, getD-any spare (page i * 2) 0 none h) refl

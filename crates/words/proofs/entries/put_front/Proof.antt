@@ -1,8 +1,5 @@
 -- `words::entries::put_front` meets its contract: the words that moved back, and the entry stored in front of them.
-use Prim.Native.Nat.{ℕ, _*_}
-use mathlib.Core.Path.{ap, _∙_}
-use mathlib.Core.List.{List, [], _∷_}
-use lib.Seq.{sets}
+use Prim.Native.Nat.{_*_}
 use borrow.Author.Needs.{needs}
 use Rattle.words.specs.Entries.{put-in-front}
 use Rattle.words.proofs.entries.put_front.Statement.{statement}
@@ -25,9 +22,8 @@ returns c =
     let after-shift = c .before .before .before .before .before .before in
     let start = after-shift .before .before .before in
     let a = start .args in
-    c .before .before .store-three .ensures
-    ∙ ap (λ (l : List ℕ). sets l 0 (a .logical ∷ a .physical ∷ a .changed ∷ [])) (after-shift .shift-back .ensures)
-    ∙ put-in-front (a .cache .now) (a .i * 3) (a .logical) (a .physical) (a .changed) (start .pre)
+    put-in-front (a .cache .now) _ _ (a .i * 3) (a .logical) (a .physical) (a .changed) (start .pre)
+    (after-shift .shift-back .ensures) (c .before .before .store-three .ensures)
 
 pub put-front-spec : {M : Type 1} → statement M
 put-front-spec =

@@ -1,9 +1,7 @@
 -- `words::entries::to_front` meets its contract: the entry's own words are put in front.
-use Prim.Native.Nat.{ℕ, _*_}
-use mathlib.Core.Path.{sym, ap, _∙_}
-use mathlib.Core.List.{List, _++_}
+use Prim.Native.Nat.{_*_}
 use borrow.Author.Needs.{needs}
-use Rattle.words.specs.Entries.{three-at}
+use Rattle.words.specs.Entries.{three-read}
 use Rattle.scope.specs.Cache.{without}
 use Rattle.words.proofs.entries.to_front.Statement.{statement}
 use Rattle.words.proofs.entries.to_front.Tie as tie
@@ -52,7 +50,7 @@ returns c =
     let start = c .before .before .before .before .before .before .before .before in
     let cache = start .args .cache .now in
     let i = start .args .i in
-    c .before .before .put-front .ensures ∙ ap (λ (l : List ℕ). l ++ without i cache) (sym (three-at cache (i * 3) (start .pre)))
+    three-read cache _ (without i cache) (i * 3) (start .pre) (c .before .before .put-front .ensures)
 
 pub to-front-spec : {M : Type 1} → statement M
 to-front-spec =

@@ -42,7 +42,7 @@ add-k c =
     let i = at-loop .loop .i in
     omega (
       arith,
-      count-more (a .spare .now) (a .first) (a .state) i (at-loop .loop .k) (c .bit .result) (omega arith) (at-loop .loop .inv .1) (c .bit .ensures),
+      count-more (a .spare .now) (λ j. a .first + j) (a .state) i (at-loop .loop .k) (c .bit .result) (omega arith) (at-loop .loop .inv .1) (c .bit .ensures),
       count-le (i + 1) (λ j. eqb (state-of (a .first + j) (a .spare .now)) (a .state)),
     )
 
@@ -57,7 +57,7 @@ loop-again c =
     let at-loop = c .before .before .before in
     let a = at-loop .before .before .args in
     let i = at-loop .loop .i in
-    (omega arith, count-more (a .spare .now) (a .first) (a .state) i (at-loop .loop .k) (c .bit .result) (omega arith) (at-loop .loop .inv .1) (c .bit .ensures))
+    (omega arith, count-more (a .spare .now) (λ j. a .first + j) (a .state) i (at-loop .loop .k) (c .bit .result) (omega arith) (at-loop .loop .inv .1) (c .bit .ensures))
 
 returns : tie.Need-returns Inv-loop μ-loop
 returns c =
