@@ -1,18 +1,18 @@
 -- What opening and erasing a block keep of a region.
 use Prim.Native.Nat.{ℕ, _/_, _%_, _≤_, _<_}
-use mathlib.Core.Path.{_≡_, refl, sym, ap, subst, _∙_}
+use mathlib.Core.Path.{_≡_, sym, ap, subst, _∙_}
 use mathlib.Core.Logic.{_≢_, ⊎-elim, inl, inr}
 use mathlib.Core.List.{List}
 use native.Mathlib.Omega.{arith}
 use Rattle.scope.specs.Geometry.{Geometry}
 use Rattle.scope.specs.Regions.{Region, owners, page-in, Has-block, Has-page}
-use Rattle.scope.specs.Lent.{erased, valid, Entry, Place, Nowhere, decode, State, state-of}
-use Rattle.scope.specs.Sound.{Page-fits, Wholly-erased, Names}
+use Rattle.scope.specs.Lent.{erased, valid, decode, State, state-of}
+use Rattle.scope.specs.Sound.{Page-fits, Wholly-erased}
 use Rattle.flash.specs.Cases.{same?}
 use Rattle.flash.specs.Pages.{Page-same, Page-erased, Outside, Erased}
 use Rattle.flash.specs.Places.{in-block, outside-block}
 use Rattle.region.specs.Holds.{Region-fits, Besides, Maps, contents}
-use Rattle.region.specs.Carried.{page-fits-same}
+use Rattle.region.specs.Carried.{page-fits-same, owners-differ-kept, Owner-same, contents-kept, maps-kept}
 
 -- A wholly erased block is opened where the open one is full.
 pub open-law : {g : Geometry} {r : Region} {chip spare : List ℕ} {opened offset : ℕ} (e : ℕ)
@@ -82,11 +82,7 @@ module _ (g : Geometry) (r : Region) (s s′ : State) (opened offset v : ℕ)
               owned = λ ne. absurd (ne (e .state));
             })
             (λ p same. page-fits-same same) p in-region (fits .pages-fit p in-region);
-        owners-differ = λ p q in-p in-q valid-p valid-q e.
-            let same-p = was-valid p in-p valid-p in
-            let same-q = was-valid q in-q valid-q in
-            fits .owners-differ p q in-p in-q (sym (same-p .state) ∙ valid-p) (sym (same-q .state) ∙ valid-q)
-            (sym (same-p .owner) ∙ e ∙ same-q .owner);
+        owners-differ = owners-differ-kept r was-valid (fits .owners-differ);
         in-region = fits .in-region;
         offset-fits = fits .offset-fits;
         before-offset = λ i h e. fits .before-offset i h
@@ -100,24 +96,15 @@ module _ (g : Geometry) (r : Region) (s s′ : State) (opened offset v : ℕ)
             (fits .others b in-b apart));
       }
 
-  erase-names : (k : ℕ) (e : Entry) → Names g r (s .spare) k e → Names g r (s′ .spare) k e
-  erase-names k (Place p) (in-region, is-valid, is-owner) =
-      let same = stays-valid p in-region is-valid in
-      (in-region, same .state ∙ is-valid, same .owner ∙ is-owner)
-  erase-names k Nowhere nobody =
-      λ p in-region is-valid is-owner.
-      let same = was-valid p in-region is-valid in
-      nobody p in-region (sym (same .state) ∙ is-valid) (sym (same .owner) ∙ is-owner)
-
-  erase-contents : (k : ℕ) (e : Entry) → Names g r (s .spare) k e → contents g (s′ .chip) e ≡ contents g (s .chip) e
-  erase-contents k (Place p) names = stays-valid p (names .0) (names .1) .words
-  erase-contents k Nowhere names = refl
+  owner-same : (k : ℕ) → Owner-same g r (s .chip) (s .spare) (s′ .chip) (s′ .spare) k
+  owner-same k =
+      record { was = λ p in-region h _. stays-valid p in-region h; now = λ p in-region h _. was-valid p in-region h }
 
   pub erase-law : Erasure g r s s′ opened offset
   erase-law =
       record {
         fits = erase-fits;
         besides = (v, here, closed, λ i h. did .pages i h .state);
-        maps = λ view maps. record { names = λ k owned. erase-names k (decode (view k)) (maps .names k owned) };
-        keeps = λ view maps k owned. erase-contents k (decode (view k)) (maps .names k owned);
+        maps = λ view. maps-kept (λ k _. owner-same k);
+        keeps = λ view maps k owned. contents-kept (owner-same k) (decode (view k)) (maps .names k owned);
       }

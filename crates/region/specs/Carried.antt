@@ -1,35 +1,18 @@
--- What holds of a region goes on to hold where its pages are as before.
+-- What holds of a region, or of one owner in it, goes on to hold where its pages are as before.
 use Prim.Native.Nat.{ℕ, _<_}
 use mathlib.Core.Path.{_≡_, refl, sym, ap, subst, _∙_}
 use mathlib.Core.Logic.{⊎-elim, inl, inr}
 use mathlib.Core.List.{List}
 use native.Mathlib.Omega.{arith}
 use Rattle.scope.specs.Geometry.{Geometry}
-use Rattle.scope.specs.Regions.{Region, owners, Has-block}
-use Rattle.scope.specs.Lent.{Entry, Place, Nowhere, decode, State, words-of, state-of, owner-of}
-use Rattle.scope.specs.Sound.{Page-fits, Wholly-erased, Full, Names}
+use Rattle.scope.specs.Regions.{Region, owners, Has-block, Has-page}
+use Rattle.scope.specs.Lent.{valid, Entry, Place, Nowhere, decode, State, words-of, state-of, owner-of}
+use Rattle.scope.specs.Sound.{Page-fits, Owners-differ, Wholly-erased, Full, Names}
 use Rattle.scope.specs.Laws.Applied.{Same-flash}
 use Rattle.flash.specs.Pages.{Page-same, page-word}
 use Rattle.flash.specs.Places.{page-in-region}
 use Rattle.flash.specs.SamePages.{Pages-same, Same-pages}
 use Rattle.region.specs.Holds.{Region-fits, Besides, Maps, Region-holds, contents}
-
--- A map that names the same for every owner.
-pub maps-viewed : {g : Geometry} {r : Region} {spare : List ℕ} {view view′ : ℕ → ℕ}
-    → ((k : ℕ) → k < owners g r → view′ k ≡ view k) → Maps g r spare view → Maps g r spare view′
-maps-viewed {g} {r} {spare} same maps =
-    record { names = λ k h. subst (λ x. Names g r spare k (decode x)) (sym (same k h)) (maps .names k h) }
-
--- Pages are as before where chip and spare are.
-pub flash-pages : {g : Geometry} {r : Region} {s s′ : State} → Same-flash s′ s → Same-pages g r s s′
-flash-pages {g} h =
-    record {
-      page = λ p _. record {
-        state = ap (state-of p) (h .spare);
-        owner = ap (owner-of p) (h .spare);
-        words = ap (words-of g p) (h .chip);
-      };
-    }
 
 -- Rule 1 of one page.
 pub page-fits-same : {g : Geometry} {r : Region} {p : ℕ} {chip spare chip′ spare′ : List ℕ}
@@ -40,6 +23,60 @@ page-fits-same same fits =
       no-owner = λ e. same .owner ∙ fits .no-owner (sym (same .state) ∙ e);
       no-words = λ e i h. page-word same i h ∙ fits .no-words (sym (same .state) ∙ e) i h;
       owned = λ e. rw (same .owner) (fits .owned (λ q. e (same .state ∙ q)));
+    }
+
+-- Rule 2, where each valid page is as before.
+pub owners-differ-kept : {g : Geometry} (r : Region) {chip spare chip′ spare′ : List ℕ}
+    → ((p : ℕ) → Has-page g r p → state-of p spare′ ≡ valid → Page-same g p chip spare chip′ spare′)
+    → Owners-differ g r spare → Owners-differ g r spare′
+owners-differ-kept r now differ p q in-p in-q valid-p valid-q e =
+    let same-p = now p in-p valid-p in
+    let same-q = now q in-q valid-q in
+    differ p q in-p in-q (sym (same-p .state) ∙ valid-p) (sym (same-q .state) ∙ valid-q)
+    (sym (same-p .owner) ∙ e ∙ same-q .owner)
+
+-- The valid page of one owner, before or after, is as before.
+pub record Owner-same (g : Geometry) (r : Region) (chip spare chip′ spare′ : List ℕ) (k : ℕ) : Type 0 where
+  pub was : (p : ℕ) → Has-page g r p → state-of p spare ≡ valid → owner-of p spare ≡ k → Page-same g p chip spare chip′ spare′
+  pub now : (p : ℕ) → Has-page g r p → state-of p spare′ ≡ valid → owner-of p spare′ ≡ k → Page-same g p chip spare chip′ spare′
+
+-- What names it still does, and leads to the same words.
+module _ {g : Geometry} {r : Region} {chip spare chip′ spare′ : List ℕ} {k : ℕ} (same : Owner-same g r chip spare chip′ spare′ k) where
+  pub names-kept : (e : Entry) → Names g r spare k e → Names g r spare′ k e
+  names-kept (Place p) (here, is-valid, is-owner) =
+      let as-before = same .was p here is-valid is-owner in
+      (here, as-before .state ∙ is-valid, as-before .owner ∙ is-owner)
+  names-kept Nowhere nobody =
+      λ p here is-valid is-owner.
+      let as-before = same .now p here is-valid is-owner in
+      nobody p here (sym (as-before .state) ∙ is-valid) (sym (as-before .owner) ∙ is-owner)
+
+  pub contents-kept : (e : Entry) → Names g r spare k e → contents g chip′ e ≡ contents g chip e
+  contents-kept (Place p) (here, is-valid, is-owner) = same .was p here is-valid is-owner .words
+  contents-kept Nowhere nobody = refl
+
+pub maps-kept : {g : Geometry} {r : Region} {chip spare chip′ spare′ : List ℕ} {view : ℕ → ℕ}
+    → ((k : ℕ) → k < owners g r → Owner-same g r chip spare chip′ spare′ k) → Maps g r spare view → Maps g r spare′ view
+maps-kept {view = view} same maps =
+    record { names = λ k owned. names-kept (same k owned) (decode (view k)) (maps .names k owned) }
+
+-- A map that names the same for every owner.
+pub maps-viewed : {g : Geometry} {r : Region} {spare : List ℕ} {view view′ : ℕ → ℕ}
+    → ((k : ℕ) → k < owners g r → view′ k ≡ view k) → Maps g r spare view → Maps g r spare view′
+maps-viewed {g} {r} {spare} same maps =
+    record { names = λ k h. subst (λ x. Names g r spare k (decode x)) (sym (same k h)) (maps .names k h) }
+
+-- ---- all pages of the region
+
+-- Pages are as before where chip and spare are.
+pub flash-pages : {g : Geometry} {r : Region} {s s′ : State} → Same-flash s′ s → Same-pages g r s s′
+flash-pages {g} h =
+    record {
+      page = λ p _. record {
+        state = ap (state-of p) (h .spare);
+        owner = ap (owner-of p) (h .spare);
+        words = ap (words-of g p) (h .chip);
+      };
     }
 
 module _ {g : Geometry} {r : Region} {chip spare chip′ spare′ : List ℕ} (same : Pages-same g r chip spare chip′ spare′) where
@@ -53,10 +90,7 @@ module _ {g : Geometry} {r : Region} {chip spare chip′ spare′ : List ℕ} (s
   region-fits-same {opened} {offset} fits =
       record {
         pages-fit = λ p here. page-fits-same (same .page p here) (fits .pages-fit p here);
-        owners-differ = λ p q here there p-valid q-valid e.
-            fits .owners-differ p q here there
-            (sym (same .page p here .state) ∙ p-valid) (sym (same .page q there .state) ∙ q-valid)
-            (sym (same .page p here .owner) ∙ e ∙ same .page q there .owner);
+        owners-differ = owners-differ-kept r (λ p here _. same .page p here) (fits .owners-differ);
         in-region = fits .in-region;
         offset-fits = fits .offset-fits;
         before-offset = λ i k e.
@@ -71,19 +105,14 @@ module _ {g : Geometry} {r : Region} {chip spare chip′ spare′ : List ℕ} (s
   pub besides-same : {opened : ℕ} → Besides g r spare opened → Besides g r spare′ opened
   besides-same (b, here, apart, empty) = (b, here, apart, wholly-erased-same b here empty)
 
-  pub names-same : (k : ℕ) (e : Entry) → Names g r spare k e → Names g r spare′ k e
-  names-same k (Place p) (here, is-valid, is-owner) =
-      (here, same .page p here .state ∙ is-valid, same .page p here .owner ∙ is-owner)
-  names-same k Nowhere nobody =
-      λ p here is-valid is-owner.
-      nobody p here (sym (same .page p here .state) ∙ is-valid) (sym (same .page p here .owner) ∙ is-owner)
+  owner-same : (k : ℕ) → Owner-same g r chip spare chip′ spare′ k
+  owner-same k = record { was = λ p here _ _. same .page p here; now = λ p here _ _. same .page p here }
 
   pub contents-same : (k : ℕ) (e : Entry) → Names g r spare k e → contents g chip′ e ≡ contents g chip e
-  contents-same k (Place p) h = same .page p (h .0) .words
-  contents-same k Nowhere h = refl
+  contents-same k = contents-kept (owner-same k)
 
   pub maps-same : {view : ℕ → ℕ} → Maps g r spare view → Maps g r spare′ view
-  maps-same {view} maps = record { names = λ k owned. names-same k (decode (view k)) (maps .names k owned) }
+  maps-same = maps-kept (λ k _. owner-same k)
 
   pub holds-same : {opened offset : ℕ} {view : ℕ → ℕ}
       → Region-holds g r chip spare opened offset view → Region-holds g r chip′ spare′ opened offset view

@@ -7,7 +7,7 @@ use Rattle.scope.specs.Regions.{Region, Data, Translation}
 use Rattle.scope.specs.SmallRecord.{SmallRecord, open-block, next-offset, with-open}
 use Rattle.scope.specs.Lent.{State}
 use Rattle.flash.specs.Places.{other}
-use Rattle.flash.specs.SamePages.{Same-pages, same-refl, same-trans}
+use Rattle.flash.specs.SamePages.{Same-pages}
 
 -- ---- the small record's open blocks
 
@@ -18,11 +18,6 @@ open-with Translation b offset x = refl
 pub offset-with : (r : Region) (b offset : ℕ) (x : SmallRecord) → next-offset r (with-open r b offset x) ≡ offset
 offset-with Data b offset x = refl
 offset-with Translation b offset x = refl
-
-pub with-with : (r : Region) (b offset c offset′ : ℕ) (x : SmallRecord)
-    → with-open r b offset (with-open r c offset′ x) ≡ with-open r b offset x
-with-with Data b offset c offset′ x = refl
-with-with Translation b offset c offset′ x = refl
 
 pub with-own : (r : Region) (x : SmallRecord) → with-open r (open-block r x) (next-offset r x) x ≡ x
 with-own Data x = refl
@@ -49,14 +44,3 @@ module _ {g : Geometry} {r : Region} where
             (sym (ap (open-block r) small ∙ open-with r b offset (s .small)))
             (sym (ap (next-offset r) small ∙ offset-with r b offset (s .small)));
       }
-
-  pub elsewhere-refl : {s : State} → Same-elsewhere g r s s
-  elsewhere-refl {s} =
-      record { pages = same-refl; directory = refl; cache = refl; small = sym (with-own r (s .small)) }
-
-  pub elsewhere-trans : {s s′ s″ : State} → Same-elsewhere g r s s′ → Same-elsewhere g r s′ s″ → Same-elsewhere g r s s″
-  elsewhere-trans {s} {s′} {s″} a b =
-      elsewhere-with (open-block r (s″ .small)) (next-offset r (s″ .small))
-      (same-trans (a .pages) (b .pages)) (b .directory ∙ a .directory) (b .cache ∙ a .cache)
-      (b .small ∙ ap (with-open r (open-block r (s″ .small)) (next-offset r (s″ .small))) (a .small)
-      ∙ with-with r (open-block r (s″ .small)) (next-offset r (s″ .small)) (open-block r (s′ .small)) (next-offset r (s′ .small)) (s .small))

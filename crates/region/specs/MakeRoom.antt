@@ -4,8 +4,8 @@ use Prim.Native.Nat.{ℕ, _≤_, _<_}
 use mathlib.Core.Path.{_≡_, refl, sym, subst}
 use mathlib.Core.List.{[]}
 use native.Mathlib.Omega.{arith}
-use borrow.Author.Tests.{ltb-true, ltb-false, leb-true, leb-false, lt-ltb}
-use lib.Dec.{ltb, leb}
+use borrow.Author.Tests.{leb-true, leb-false, lt-ltb, le-ltb}
+use lib.Dec.{leb}
 use Rattle.scope.specs.Geometry.{Geometry, Accepted}
 use Rattle.scope.specs.Regions.{Region}
 use Rattle.scope.specs.SmallRecord.{next-offset}
@@ -13,7 +13,7 @@ use Rattle.scope.specs.Lent.{State}
 use Rattle.scope.specs.Operations.{Outcome, give, look, set-small, _>>=_}
 use Rattle.scope.specs.Room.{Following, erased-blocks, lowest-erased, open-lowest, open-or-collect, make-room}
 use Rattle.scope.specs.Laws.Applied.{flash-refl}
-use Rattle.flash.specs.Cases.{on}
+use Rattle.flash.specs.Cases.{on, below?}
 use Rattle.flash.specs.Words.{Lengths}
 use Rattle.flash.specs.Listed.{cost-none}
 use Rattle.region.specs.Holds.{Besides, Holds}
@@ -28,6 +28,11 @@ pub make-room-idle : (g : Geometry) (r : Region) (follow : Following) (s : State
     → _≡_ {A = Outcome (Unit {0})} (make-room g r follow s) (record { value = tt; after = s; did = [] })
 unfolding make-room _>>=_ look give
 make-room-idle g r follow s h = rw (lt-ltb (next-offset r (s .small)) (g .P) h)
+
+make-room-full : (g : Geometry) (r : Region) (follow : Following) (s : State) → g .P ≤ next-offset r (s .small)
+    → make-room g r follow s ≡ open-or-collect g r follow s
+unfolding make-room _>>=_ look
+make-room-full g r follow s h = rw (le-ltb (next-offset r (s .small)) (g .P) h)
 
 open-lowest-is : (g : Geometry) (r : Region) (s : State)
     → _≡_ {A = Outcome (Unit {0})} (open-lowest g r s) (record { value = tt; after = opened-lowest g r s; did = [] })
@@ -79,8 +84,7 @@ module _ {g : Geometry} {r : Region} {follow : Following} {settling : ℕ} {view
       (λ e. rw e (collect-law F s accepted lengths holds inv full (leb-false 2 _ e)))
 
   pub make-room-law : Room-made g r settling view Inv s (make-room g r follow s)
-  unfolding make-room _>>=_ look give
   make-room-law =
-      on (ltb (next-offset r (s .small)) (g .P))
-      (λ e. rw e (idle-law (ltb-true _ _ e)))
-      (λ e. rw e (open-or-collect-law (ltb-false _ _ e)))
+      below? (next-offset r (s .small)) (g .P)
+      (λ room. rw (make-room-idle g r follow s room) (idle-law room))
+      (λ full. rw (make-room-full g r follow s full) (open-or-collect-law full))

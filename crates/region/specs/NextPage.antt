@@ -28,16 +28,6 @@ use Rattle.region.specs.Done.{Done, done-none, done-one}
 abbrev pub next-page : Geometry → Region → State → ℕ
 next-page g r s = page-in g (open-block r (s .small)) (next-offset r (s .small))
 
--- What program-next does.
-pub program-next-is : (g : Geometry) (r : Region) (k : ℕ) (words : List ℕ) (s : State)
-    → _≡_ {A = Outcome ℕ} (program-next g r k words s) (record {
-      value = next-page g r s;
-      after = with-small (advanced r (s .small)) (apply g (Program (next-page g r s) k words) s);
-      did = Program (next-page g r s) k words ∷ [];
-    })
-unfolding program-next _>>=_ look perform set-small give apply
-program-next-is g r k words s = refl
-
 -- The old page was valid and the new one erased, so they differ.
 old-apart : (g : Geometry) (r : Region) (chip spare : List ℕ) (opened offset : ℕ) (k p : ℕ)
     → Region-fits g r chip spare opened offset → offset < g .P → Names g r spare k (Place p) → p ≢ page-in g opened offset
@@ -82,6 +72,8 @@ program-alone g q k words s s₁ programmed =
 pub record Page-written (g : Geometry) (r : Region) (k : ℕ) (words : List ℕ) (view : ℕ → ℕ) (s : State)
     (o : Outcome ℕ) (o′ : Outcome (Unit {0})) : Type 0 where
   pub value : o .value ≡ next-page g r s
+  -- The cache between the two, which write looks at there.
+  pub cache-between : o .after .cache ≡ s .cache
   pub replacement : Replacement g r k words (s .chip) (s .spare) (o′ .after .chip) (o′ .after .spare)
       (open-block r (s .small)) (next-offset r (s .small)) view
   pub directory : o′ .after .directory ≡ s .directory
@@ -139,6 +131,7 @@ module _ (g : Geometry) (r : Region) (k : ℕ) (words : List ℕ) (view : ℕ �
       let marked = mark-page g p s₁ lengths₁ (page-on-chip g r p (names .0)) in
       record {
         value = refl;
+        cache-between = refl;
         replacement = replaced (Place p) e (program-and-mark g q k p words s _ _ apart programmed marked);
         directory = refl;
         cache = refl;
@@ -152,6 +145,7 @@ module _ (g : Geometry) (r : Region) (k : ℕ) (words : List ℕ) (view : ℕ �
   page-written Nowhere e =
       record {
         value = refl;
+        cache-between = refl;
         replacement = replaced Nowhere e (program-alone g q k words s s₁ programmed);
         directory = refl;
         cache = refl;

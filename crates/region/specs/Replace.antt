@@ -7,7 +7,7 @@ use mathlib.Core.List.{List}
 use native.Mathlib.Omega.{arith}
 use native.Mathlib.Nat.{mul-le-mul}
 use borrow.Author.Tests.{ne-eqb}
-use Rattle.scope.specs.Geometry.{Geometry, pages, Accepted}
+use Rattle.scope.specs.Geometry.{Geometry, Accepted}
 use Rattle.scope.specs.Regions.{Region, owners, page-in, Has-page}
 use Rattle.scope.specs.Lent.{none, erased, valid, invalid, Entry, Place, Nowhere, decode, words-of, state-of, owner-of}
 use Rattle.scope.specs.Sound.{Page-fits, Pages-fit, Owners-differ, Names}
@@ -16,7 +16,7 @@ use Rattle.flash.specs.Pages.{Page-same}
 use Rattle.flash.specs.Places.{other, page-on-chip, page-other, page-in-region, page-in-same}
 use Rattle.flash.specs.SamePages.{Pages-same}
 use Rattle.region.specs.Holds.{Region-fits, Besides, Maps, Renames, contents, valid-page-named}
-use Rattle.region.specs.Carried.{page-fits-same}
+use Rattle.region.specs.Carried.{page-fits-same, Owner-same, names-kept, contents-kept}
 
 -- Page q has been programmed for k, the old entry's page marked, and no other page has changed.
 pub record Replaced (g : Geometry) (q k : ℕ) (words : List ℕ) (old : Entry) (chip spare chip′ spare′ : List ℕ) : Type 0 where
@@ -168,26 +168,15 @@ module _ (g : Geometry) (r : Region) (k : ℕ) (words chip spare chip′ spare�
       }
 
   -- The other owners' pages are neither the new one nor the old one.
-  other-same : (j : ℕ) → j ≢ k → (p : ℕ) → Names g r spare j (Place p) → Page-same g p chip spare chip′ spare′
-  other-same j apart p (in-region, is-valid, is-owner) =
-      did .rest p
-      (λ e. omega (arith, ap (λ x. state-of x spare) e, fits .from-offset offset room (omega arith)))
-      (λ old. apart (sym is-owner ∙ old-names p old .2))
-
-  names′ : (j : ℕ) → j ≢ k → (e : Entry) → Names g r spare j e → Names g r spare′ j e
-  names′ j apart (Place p) names =
-      let same = other-same j apart p names in
-      (names .0, same .state ∙ names .1, same .owner ∙ names .2)
-  names′ j apart Nowhere nobody =
-      λ p in-region is-valid is-owner. same? p q
-      (λ e. apart (sym is-owner ∙ ap (λ x. owner-of x spare′) e ∙ did .new-owner))
-      (λ ne.
-      let same = was-valid p ne is-valid in
-      nobody p in-region (sym (same .state) ∙ is-valid) (sym (same .owner) ∙ is-owner))
-
-  contents′ : (j : ℕ) → j ≢ k → (e : Entry) → Names g r spare j e → contents g chip′ e ≡ contents g chip e
-  contents′ j apart (Place p) names = other-same j apart p names .words
-  contents′ j apart Nowhere names = refl
+  other-same : (j : ℕ) → j ≢ k → Owner-same g r chip spare chip′ spare′ j
+  other-same j apart =
+      record {
+        was = λ p _ is-valid is-owner. did .rest p
+            (λ e. omega (arith, ap (λ x. state-of x spare) e, fits .from-offset offset room (omega arith)))
+            (λ old. apart (sym is-owner ∙ old-names p old .2));
+        now = λ p _ is-valid is-owner. was-valid p
+            (λ e. apart (sym is-owner ∙ ap (λ x. owner-of x spare′) e ∙ did .new-owner)) is-valid;
+      }
 
   new-place : (view′ : ℕ → ℕ) → Renames (owners g r) k q view view′ → decode (view′ k) ≡ Place q
   new-place view′ renames = ap decode (renames .there) ∙ place-of-page g r q accepted here
@@ -202,9 +191,9 @@ module _ (g : Geometry) (r : Region) (k : ℕ) (words chip spare chip′ spare�
         maps = λ view′ renames. record {
           names = λ j h. same? j k
               (λ e. rw (e, new-place view′ renames) (here, did .new-state, did .new-owner))
-              (λ apart. rw (renames .elsewhere j h apart) (names′ j apart (decode (view j)) (maps .names j h)));
+              (λ apart. rw (renames .elsewhere j h apart) (names-kept (other-same j apart) (decode (view j)) (maps .names j h)));
         };
         written = λ view′ renames. rw (new-place view′ renames) (did .new-words);
         keeps = λ view′ renames j h apart. ap (λ x. contents g chip′ (decode x)) (renames .elsewhere j h apart)
-            ∙ contents′ j apart (decode (view j)) (maps .names j h);
+            ∙ contents-kept (other-same j apart) (decode (view j)) (maps .names j h);
       }
