@@ -9,3 +9,10 @@ pub mod Records
 pub mod Demand1
 pub mod Stored
 pub mod Parts
+pub mod Update
+pub mod Settle
+pub mod Follow
+pub mod Keeping
+pub mod Translate
+pub mod HeldWords
+pub mod Read

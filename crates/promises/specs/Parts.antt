@@ -1,16 +1,19 @@
 -- A sound state in the parts that the steps keep, each by a law of its own: the index (the translation region, the directory and the
 -- words past L), the data region under the current places, and the cache.
-use Prim.Native.Nat.{ℕ, _≤_, _<_}
-use mathlib.Core.Path.{_≡_, refl, sym, _∙_, ap}
+use Prim.Native.Nat.{ℕ}
+use mathlib.Core.Path.{_≡_}
 use mathlib.Core.List.{List}
 use lib.ListN.{getD}
-use Rattle.scope.specs.Geometry.{Geometry, Accepted, M}
+use Rattle.scope.specs.Geometry.{Geometry}
 use Rattle.scope.specs.Lent.{none, State}
 use Rattle.scope.specs.Regions.{Region, Data, Translation}
-use Rattle.scope.specs.SmallRecord.{SmallRecord, open-block, next-offset, with-open}
+use Rattle.scope.specs.SmallRecord.{open-block, next-offset}
 use Rattle.scope.specs.Sound.{Pages-fit, Owners-differ, Blocks-fit, Entries-fit, Unchanged-agree, current, Sound}
-use Rattle.flash.specs.SamePages.{Same-pages, same-refl, same-trans}
-use Rattle.region.specs.Holds.{Region-fits, Holds, rules-fit, fits-blocks}
+use Rattle.region.specs.Holds.{Region-fits, Region-holds, Holds, rules-fit, fits-blocks}
+use Rattle.flash.specs.Words.{Lengths}
+use Rattle.scope.specs.Laws.Applied.{Same-flash}
+use Rattle.cache.specs.Holds.{Found, lookup, holds-lookup}
+use Rattle.cache.specs.Steps.{Holds-in}
 use Rattle.promises.specs.Stored.{None-past-L, past-none, none-past}
 
 -- The directory as a map from translation page numbers.
@@ -18,9 +21,13 @@ abbrev pub directory-view : State → ℕ → ℕ
 directory-view s t = getD (s .directory) t none
 
 -- Rules 1 to 4 of the translation region, and rule 6's last sentence.
-pub record Index-fits (g : Geometry) (s : State) : Type 0 where
-  pub pages : Holds g Translation s (directory-view s)
-  pub past-L : None-past-L g (s .chip) (s .directory)
+pub record Index-holds (g : Geometry) (chip spare directory : List ℕ) (opened offset : ℕ) : Type 0 where
+  pub pages : Region-holds g Translation chip spare opened offset (λ t. getD directory t none)
+  pub past-L : None-past-L g chip directory
+
+abbrev pub Index-fits : Geometry → State → Type 0
+Index-fits g s =
+    Index-holds g (s .chip) (s .spare) (s .directory) (open-block Translation (s .small)) (next-offset Translation (s .small))
 
 -- Rules 5 and 7.
 pub record Cache-fits (g : Geometry) (s : State) : Type 0 where
@@ -34,14 +41,14 @@ module _ {g : Geometry} {s : State} where
   pub index-of : Sound g s → Index-fits g s
   index-of sound =
       record {
-        pages = record { fits = region-of Translation sound; besides = sound .rule-3 Translation .besides; maps = sound .rule-4 };
+        pages = record { fits = region-of Translation sound; besides = sound .rule-3 Translation .besides; maps = record { names = sound .rule-4 } };
         past-L = past-none g (s .chip) (s .directory) (sound .rule-6 .past-L);
       }
 
   -- Rules 1 to 3 of the data region, and rule 6's first sentence.
   pub data-of : Sound g s → Holds g Data s (current g s)
   data-of sound =
-      record { fits = region-of Data sound; besides = sound .rule-3 Data .besides; maps = sound .rule-6 .current-place }
+      record { fits = region-of Data sound; besides = sound .rule-3 Data .besides; maps = record { names = sound .rule-6 .current-place } }
 
   pub cache-of : Sound g s → Cache-fits g s
   cache-of sound = record { entries = sound .rule-5; agree = sound .rule-7 }
@@ -53,9 +60,9 @@ module _ {g : Geometry} {s : State} where
         rule-1 = one;
         rule-2 = two;
         rule-3 = three;
-        rule-4 = index .pages .maps;
+        rule-4 = index .pages .maps .names;
         rule-5 = cache .entries;
-        rule-6 = record { current-place = pages .maps; past-L = none-past g (s .chip) (s .directory) (index .past-L) };
+        rule-6 = record { current-place = pages .maps .names; past-L = none-past g (s .chip) (s .directory) (index .past-L) };
         rule-7 = cache .agree;
       }
     where
@@ -70,3 +77,16 @@ module _ {g : Geometry} {s : State} where
       three : (r : Region) → Blocks-fit g r (s .spare) (open-block r (s .small)) (next-offset r (s .small))
       three Data = fits-blocks g Data (s .chip) (s .spare) _ _ (pages .fits) (pages .besides)
       three Translation = fits-blocks g Translation (s .chip) (s .spare) _ _ (index .pages .fits) (index .pages .besides)
+
+-- What a state's cache holds.
+abbrev pub cached : Geometry → State → ℕ → Found
+cached g s = lookup g (s .cache) (s .small .used)
+
+pub cache-holds : (g : Geometry) (s : State) → Lengths g s → Cache-fits g s → Holds-in g s (cached g s)
+cache-holds g s len fits = holds-lookup g (s .cache) (s .small .used) (len .cache-fits) (fits .entries)
+
+-- The index holds of any state with the same flash, directory and open translation block.
+pub index-same : {g : Geometry} {s s′ : State} → Same-flash s′ s → s′ .directory ≡ s .directory
+    → open-block Translation (s′ .small) ≡ open-block Translation (s .small) → next-offset Translation (s′ .small) ≡ next-offset Translation (s .small)
+    → Index-fits g s → Index-fits g s′
+index-same flash directory opened offset index = rw (flash .chip, flash .spare, directory, opened, offset) index

@@ -1,46 +1,37 @@
 -- What flash stores for each logical page, by the words of its translation page: one list of words for each translation page number,
--- empty where there is no page. Steps on the translation region are laws about these lists; what they say of `stored` is here.
-use Prim.Native.Nat.{ℕ, suc, _+_, _*_, _≤_, _<_}
+-- empty where there is no page. Update's law is about these lists; what it says of `stored` is here.
+use Prim.Native.Nat.{ℕ, _+_, _*_, _≤_, _<_}
 use mathlib.Core.Path.{_≡_, refl, sym, _∙_, ap}
-use mathlib.Core.Logic.{_≢_}
-use mathlib.Core.Bool.{cond}
-use mathlib.Core.List.{List, [], _∷_, _++_}
+use mathlib.Core.Logic.{inl, inr}
+use mathlib.Core.List.{List, [], _∷_}
 use native.Mathlib.Omega.{arith}
-use lib.Dec.{eqb}
-use lib.ListN.{length, getD, set, replicate, length-set, length-replicate, getD-replicate}
+use lib.ListN.{length, getD, set, length-set}
 use lib.Seq.{getD-set-same, getD-set-other}
 use borrow.Author.Tests.{eq-eqb, ne-eqb}
 use Rattle.scope.specs.Geometry.{Geometry, Accepted, M}
-use Rattle.scope.specs.Lent.{none, Entry, Place, Nowhere, State, Mapping, named, word-of, translation-page, translation-word}
-use Rattle.scope.specs.Sound.{in-page, stored}
+use Rattle.scope.specs.Lent.{none, Entry, Place, Nowhere, Mapping, named, translation-page, translation-word}
+use Rattle.scope.specs.Sound.{stored}
 use Rattle.scope.specs.Steps.{set-words}
 use Rattle.flash.specs.Cases.{same?}
 use Rattle.flash.specs.Words.{words-at}
 use Rattle.region.specs.Holds.{contents}
+use Rattle.region.specs.Stored.{word-in, Past-L}
+use Rattle.cache.specs.Waiting.{latest, Waits}
 use Rattle.promises.specs.Index.{word-below, page-and-word, word-tells}
 
 -- The words of translation page t, as the directory names it.
 abbrev pub table : Geometry → List ℕ → List ℕ → ℕ → List ℕ
 table g chip directory t = contents g chip (named t directory)
 
-in-contents : {g : Geometry} → Accepted g → (chip : List ℕ) (l : ℕ) (e : Entry)
-    → in-page g chip l e ≡ getD (contents g chip e) (translation-word g l) none
-in-contents {g} ok chip l (Place q) = sym (words-at g q (translation-word g l) chip (word-below ok l))
-in-contents ok chip l Nowhere = refl
-
 pub stored-is : {g : Geometry} → Accepted g → (chip directory : List ℕ) (l : ℕ)
     → stored g chip directory l ≡ getD (table g chip directory (translation-page g l)) (translation-word g l) none
 unfolding stored
-stored-is {g} ok chip directory l = in-contents ok chip l (named (translation-page g l) directory)
+stored-is {g} ok chip directory l = word-in g chip l (named (translation-page g l) directory) (ok .W-from)
 
 -- Rule 6's "Words past L are *none*", by the lists.
 abbrev pub None-past-L : Geometry → List ℕ → List ℕ → Type 0
 None-past-L g chip directory =
     (t i : ℕ) → t < M g → i < g .W → g .L ≤ t * g .W + i → getD (table g chip directory t) i none ≡ none
-
-abbrev Past-L : Geometry → List ℕ → List ℕ → Type 0
-Past-L g chip directory =
-    (t q i : ℕ) → t < M g → named t directory ≡ Place q → i < g .W → g .L ≤ t * g .W + i → word-of g q i chip ≡ none
 
 pub past-none : (g : Geometry) (chip directory : List ℕ) → Past-L g chip directory → None-past-L g chip directory
 past-none g chip directory past t i h k l = go (named t directory) refl
@@ -55,19 +46,9 @@ none-past g chip directory none-there t q i h e k l =
 
 -- ---- words set for mappings
 
--- The place that the last mapping of l names; `place` where there is none.
-abbrev pub latest : List Mapping → ℕ → ℕ → ℕ
-latest [] l place = place
-latest (m ∷ ms) l place = latest ms l (cond (eqb (m .logical) l) (m .physical) place)
-
-pub latest-++ : (a b : List Mapping) (l place : ℕ) → latest (a ++ b) l place ≡ latest b l (latest a l place)
-latest-++ [] b l place = refl
-latest-++ (m ∷ a) b l place = latest-++ a b l (cond (eqb (m .logical) l) (m .physical) place)
-
--- Each mapping is of a logical page below L, and of translation page t.
+-- The mappings are of logical pages of translation page t.
 abbrev pub Mappings-of : Geometry → ℕ → List Mapping → Type 0
-Mappings-of g t [] = Unit {0}
-Mappings-of g t (m ∷ ms) = (m .logical < g .L) × (translation-page g (m .logical) ≡ t) × Mappings-of g t ms
+Mappings-of g t ms = (l : ℕ) → Waits ms l → (l < g .L) × (translation-page g l ≡ t)
 
 module _ {g : Geometry} (ok : Accepted g) where
   pub length-set-words : (ms : List Mapping) (words : List ℕ) → length (set-words g ms words) ≡ length words
@@ -85,12 +66,12 @@ module _ {g : Geometry} (ok : Accepted g) where
   set-words-at t (m ∷ ms) words h w l e =
       let k = m .logical in
       let i = translation-word g k in
-      set-words-at t ms (set words i (m .physical)) (h .2) (length-set words i (m .physical) ∙ w) l e
+      set-words-at t ms (set words i (m .physical)) (λ j q. h j (inr q)) (length-set words i (m .physical) ∙ w) l e
       ∙ ap (latest ms l)
       (same? k l
       (λ q. rw (eq-eqb k l q, q) (getD-set-same words (translation-word g l) (m .physical) none (omega (arith, word-below ok l))))
       (λ q. rw (ne-eqb k l q) (getD-set-other words i (translation-word g l) (m .physical) none
-      (λ z. q (word-tells ok k l (h .1 ∙ sym e) (sym z))))))
+      (λ z. q (word-tells ok k l (h k (inl refl) .1 ∙ sym e) (sym z))))))
 
   -- Words past L stay as they are.
   pub set-words-past : (t : ℕ) (ms : List Mapping) (words : List ℕ) → Mappings-of g t ms
@@ -99,6 +80,7 @@ module _ {g : Geometry} (ok : Accepted g) where
   set-words-past t [] words h i k l = refl
   set-words-past t (m ∷ ms) words h i k l =
       let j = translation-word g (m .logical) in
-      set-words-past t ms (set words j (m .physical)) (h .2) i k l
+      let (below, of-t) = h (m .logical) (inl refl) in
+      set-words-past t ms (set words j (m .physical)) (λ n q. h n (inr q)) i k l
       ∙ getD-set-other words j i (m .physical) none
-      (λ z. omega (arith, h .0, page-and-word ok (m .logical), ap (λ (x : ℕ). x * g .W) (h .1)))
+      (λ z. omega (arith, below, page-and-word ok (m .logical), ap (λ (x : ℕ). x * g .W) of-t))
