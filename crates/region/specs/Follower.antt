@@ -62,7 +62,8 @@ pub record Follower (g : Geometry) (r : Region) (follow : Following) (settling :
       → (k : ℕ) → k < owners g r → view w s′ k ≡ view w s k
 
 -- What make room promises (MakeRoom.antt): rules 1 to 3 and the map of the region hold again, its open block has room, each owner's
--- words are as they were, and the follower's own invariant holds. At most P - 1 pages are moved.
+-- words are as they were, and the follower's own invariant holds: all that is known of what is elsewhere, for make room itself leaves
+-- that alone. At most P - 1 pages are moved.
 pub record Room-made (g : Geometry) (r : Region) (settling : ℕ) (view : View) (Inv : Invariant) (s : State)
     (o : Outcome (Unit {0})) : Type 0 where
   pub holds : Holds g r (o .after) (view [] (o .after))

@@ -81,13 +81,13 @@ move-page-is g r follow p s = refl
 
 module _ {g : Geometry} {r : Region} {follow : Following} {settling : ℕ} {view : View} {Inv : Invariant}
     (F : Follower g r follow settling view Inv) (accepted : Accepted g) where
+  -- The parts as variables: page p was k's, and what follows has been told.
   moved-so : (p k : ℕ) (w : List Mapping) (s : State) (o : Outcome ℕ) (o′ : Outcome (Unit {0})) (m : Outcome (List Mapping))
-      → k < owners g r → decode (view w s k) ≡ Place p → Has-page g r p
-      → Page-written g r k (words-of g p (s .chip)) (view w s) s o o′
+      → decode (view w s k) ≡ Place p → Page-written g r k (words-of g p (s .chip)) (view w s) s o o′
       → After-moved g r view Inv w k (next-page g r s) (o′ .after) m
       → ((j : ℕ) → j < owners g r → view w (o′ .after) j ≡ view w s j)
       → Page-moved g r view Inv p w s 1 (moves p o o′ m)
-  moved-so p k w s o o′ m owned is-place here wrote moved sees =
+  moved-so p k w s o o′ m is-place wrote moved sees =
       record {
         copying = record {
           fits = region-fits-same (flash-pages (moved .flash))
@@ -138,7 +138,7 @@ module _ {g : Geometry} {r : Region} {follow : Following} {settling : ℕ} {view
   move-page-law : (p : ℕ) (w : List Mapping) (s : State) → Copying g r view Inv w s → next-offset r (s .small) < g .P
       → Has-page g r p → state-of p (s .spare) ≡ valid → Page-moved g r view Inv p w s 1 (move-page g r follow p s)
   move-page-law p w s copying room here is-valid =
-      rw move-page-is (moved-so p k w s o o′ (follow .moved k (o .value) (o′ .after)) owned is-place here wrote after-moved
+      rw move-page-is (moved-so p k w s o o′ (follow .moved k (o .value) (o′ .after)) is-place wrote after-moved
       (F .seen w s (o′ .after) (copying .lengths) (wrote .lengths) beside (copying .inv)))
     where
       k : ℕ
