@@ -19,7 +19,7 @@ use Rattle.flash.specs.Words.{Lengths}
 use Rattle.flash.specs.SamePages.{Same-pages, same-refl, same-trans}
 use Rattle.flash.specs.Listed.{cost, cost-none}
 use Rattle.region.specs.Holds.{Holds, contents}
-use Rattle.region.specs.Stored.{Past-L, stored-same, past-L-same}
+use Rattle.region.specs.Stored.{stored-same}
 use Rattle.region.specs.Done.{Done, done-none}
 use Rattle.region.specs.Follower.{View, Invariant, Follower}
 use Rattle.region.specs.MakeRoom.{make-room-law}
@@ -88,7 +88,6 @@ pub record Translation-room (g : Geometry) (s : State) (o : Outcome (Unit {0})) 
   pub keeps : (t : ℕ) → t < M g
       → contents g (o .after .chip) (named t (o .after .directory)) ≡ contents g (s .chip) (named t (s .directory))
   pub stores : (l : ℕ) → stored g (o .after .chip) (o .after .directory) l ≡ stored g (s .chip) (s .directory) l
-  pub past-L : Past-L g (s .chip) (s .directory) → Past-L g (o .after .chip) (o .after .directory)
   pub lengths : Lengths g (o .after)
   pub done : Done g s (o .did) (o .after)
   pub costs : cost (o .did) ≤ 2 * (g .P - 1) + 1
@@ -104,7 +103,6 @@ translation-room-law g s accepted lengths holds =
       only = made .inv;
       keeps = made .keeps;
       stores = stored-same g (s .chip) (s .directory) (s′ .chip) (s′ .directory) (accepted .W-from) (lengths .directory-fits) (made .lengths .directory-fits) (made .keeps);
-      past-L = past-L-same g (s .chip) (s .directory) (s′ .chip) (s′ .directory) (made .keeps);
       lengths = made .lengths;
       done = made .done;
       costs = omega (arith, made .costs);

@@ -1,4 +1,4 @@
--- What flash holds for logical pages, by the words of the translation pages: these kept, it is kept, and so are the words past L.
+-- What flash holds for logical pages, by the words of the translation pages: these kept, it is kept.
 use Prim.Native.Nat.{ℕ, _+_, _*_, _≤_, _<_}
 use mathlib.Core.Path.{_≡_, refl, sym, ap, _∙_}
 use mathlib.Core.List.{List}
@@ -35,19 +35,7 @@ stored-same g chip directory chip′ directory′ h len len′ same l =
         ap (λ x. contents g chip′ (decode x)) (List·getD-eq-default directory′ none (omega arith))
         ∙ sym (ap (λ x. contents g chip (decode x)) (List·getD-eq-default directory none (omega arith))))
 
--- "Words past L are *none*": rule 6's second sentence, kept likewise.
+-- "Words past L are *none*": rule 6's second sentence.
 abbrev pub Past-L : Geometry → List ℕ → List ℕ → Type 0
 Past-L g chip directory =
     (t q i : ℕ) → t < M g → named t directory ≡ Place q → i < g .W → g .L ≤ t * g .W + i → word-of g q i chip ≡ none
-
-pub past-L-same : (g : Geometry) (chip directory chip′ directory′ : List ℕ)
-    → ((t : ℕ) → t < M g → contents g chip′ (named t directory′) ≡ contents g chip (named t directory))
-    → Past-L g chip directory → Past-L g chip′ directory′
-past-L-same g chip directory chip′ directory′ same before t q i h e l past =
-    sym (words-at g q i chip′ l)
-    ∙ ap (λ words. getD words i none) (sym (ap (contents g chip′) e) ∙ same t h)
-    ∙ go (named t directory) refl
-  where
-    go : (old : Entry) → named t directory ≡ old → getD (contents g chip old) i none ≡ none
-    go (Place p) old = words-at g p i chip l ∙ before t p i h old l past
-    go Nowhere old = refl
