@@ -4,7 +4,7 @@
 use Prim.Native.Nat.{ℕ, _<_}
 use mathlib.Core.Path.{_≡_, _∙_, ap}
 use mathlib.Core.Logic.{⊎-elim}
-use mathlib.Core.List.{List}
+use mathlib.Core.List.{List, []}
 use lib.Dec.{ltb}
 use lib.ListN.{getD}
 use Rattle.scope.specs.Geometry.{Geometry, Accepted, M}
@@ -23,8 +23,8 @@ use Rattle.region.specs.Stored.{stored-same}
 use Rattle.cache.specs.Ranks.{Has-rank}
 use Rattle.cache.specs.Current.{Places-kept}
 use Rattle.cache.specs.Stored.{Settled, stored-settles, stored-keeps-places}
-use Rattle.cache.specs.Waiting.{latest, Waits, waits-append}
-use Rattle.cache.specs.Follow.{None-cached, cache-or-wait-law}
+use Rattle.cache.specs.Waiting.{latest}
+use Rattle.cache.specs.Follow.{Waiting-fits, cache-or-wait-law}
 use Rattle.promises.specs.Stored.{table}
 use Rattle.promises.specs.Parts.{Index-fits, Cache-fits, index-same, cached, cache-holds}
 use Rattle.promises.specs.Update.{update-bound}
@@ -38,23 +38,18 @@ place-while g w s l = latest w l (current g s l)
 pub record Follows (g : Geometry) (l i : ℕ) (w : List Mapping) (s : State) : Type 0 where
   pub index : Index-fits g s
   pub cache : Cache-fits g s
-  pub below-L : (k : ℕ) → Waits w k → k < g .L
-  pub apart : None-cached w (s .cache) (s .small .used)
+  pub waiting : Waiting-fits g w (s .cache) (s .small .used)
   pub rank : Has-rank (s .cache) (s .small .used) l i
 
--- Only the owner comes to wait.
-only-owner : (g : Geometry) (k q : ℕ) (s : State) (j : ℕ) → Waits (cache-or-wait g k q s .value) j → k ≡ j
-unfolding cache-or-wait look give _>>=_
-only-owner g k q s j =
-    on (ltb (rank-of g (s .cache) (s .small .used) k) (g .C))
-    (λ e. rw e (λ waits. absurd waits))
-    (λ e. rw e (⊎-elim (λ is. is) (λ z. absurd z)))
+-- Nothing waits.
+pub none-waits : {g : Geometry} {cache : List ℕ} {used : ℕ} → Waiting-fits g [] cache used
+none-waits = record { below-L = λ k z. absurd z; not-cached = λ k z. absurd z }
 
 module _ {g : Geometry} (ok : Accepted g) (l i : ℕ) where
   moved-law : (w : List Mapping) (k q : ℕ) (s : State) → Lengths g s → Follows g l i w s → k < g .L → Has-page g Data q
       → After-moved g Data (place-while g) (Follows g l i) w k q s (cache-or-wait g k q s)
   moved-law w k q s len inv below here =
-      let f = cache-or-wait-law g w s (len .cache-fits) (inv .cache .entries) (inv .cache .agree) (inv .apart) k q in
+      let f = cache-or-wait-law g w s (len .cache-fits) (inv .cache .entries) (inv .cache .agree) (inv .waiting) k q below in
       record {
         no-operation = f .did;
         flash = f .flash;
@@ -71,8 +66,7 @@ module _ {g : Geometry} (ok : Accepted g) (l i : ℕ) where
             record {
               index = index-same (f .flash) (f .directory) (ap (open-block Translation) (f .small)) (ap (next-offset Translation) (f .small)) (inv .index);
               cache = record { entries = f .fits; agree = f .agree };
-              below-L = λ j waits. ⊎-elim (inv .below-L j) (λ new. rw (only-owner g k q s j new) at below) (waits-append w _ j waits);
-              apart = f .none-cached;
+              waiting = f .waiting;
               rank = record { in-use = rw (f .small) (inv .rank .in-use); is-l = f .ranks i ∙ inv .rank .is-l };
             };
         renames = record { there = f .here; elsewhere = f .elsewhere };
@@ -90,8 +84,7 @@ module _ {g : Geometry} (ok : Accepted g) (l i : ℕ) where
           inv = record {
             index = did .index;
             cache = record { entries = rw (did .only .cache, used) (inv .cache .entries); agree = settled .agree };
-            below-L = λ k z. absurd z;
-            apart = λ k z. absurd z;
+            waiting = none-waits;
             rank = rw (did .only .cache, used) (inv .rank);
           };
           views = settled .places;
@@ -106,7 +99,7 @@ module _ {g : Geometry} (ok : Accepted g) (l i : ℕ) where
         settled =
             let holds = cache-holds g s len (inv .cache) in
             stored-settles g s (o .after) (cached g s) holds (inv .cache .agree) (did .only .cache) used w
-            (λ k waits. holds .misses k (inv .apart k waits)) (λ k h _. did .stores k h)
+            (λ k waits. holds .misses k (inv .waiting .not-cached k waits)) (λ k h _. did .stores k h)
 
   -- Nothing of this rests on the data region.
   module _ (w : List Mapping) (s s′ : State) (len : Lengths g s) (len′ : Lengths g s′) (same : Same-elsewhere g Data s s′) (inv : Follows g l i w s) where
@@ -132,8 +125,7 @@ module _ {g : Geometry} (ok : Accepted g) (l i : ℕ) where
             past-L = λ t n h k m. ap (λ (words : List ℕ). getD words n none) (same-table t h) ∙ inv .index .past-L t n h k m;
           };
           cache = record { entries = rw (same .cache, same-used) (inv .cache .entries); agree = same-places .agree };
-          below-L = inv .below-L;
-          apart = rw (same .cache, same-used) (inv .apart);
+          waiting = rw (same .cache, same-used) (inv .waiting);
           rank = rw (same .cache, same-used) (inv .rank);
         }
 
@@ -141,7 +133,7 @@ module _ {g : Geometry} (ok : Accepted g) (l i : ℕ) where
   cache-follower =
       record {
         moved = moved-law;
-        settled = λ w s len inv. after-settled w s len inv (update-all g w s) (settle-law ok w (inv .below-L) s len (inv .index));
+        settled = λ w s len inv. after-settled w s len inv (update-all g w s) (settle-law ok w (inv .waiting .below-L) s len (inv .index));
         kept = λ w s s′ len len′ same inv. follows-kept w s s′ len len′ same inv;
         seen = λ w s s′ len len′ same inv k h. ap (latest w k) (same-places w s s′ len len′ same inv .places k h);
       }
