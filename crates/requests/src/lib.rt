@@ -1,0 +1,1 @@
+// Translate, room in the data region, read, write and format in code: each does its definition.

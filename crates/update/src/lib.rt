@@ -1,0 +1,1 @@
+// Update of a translation page, and room in the translation region, in code: each does its definition.
