@@ -3,7 +3,7 @@ use Prim.Native.Nat.{ℕ, _+_, _-_, _*_, _≤_, _<_}
 use mathlib.Core.Path.{_≡_, refl, sym, ap, ap₂, subst, _∙_}
 use mathlib.Core.Bool.{Bool, true, false, not, cond, _&&_, _||_}
 use mathlib.Core.List.{List}
-use native.Mathlib.Nat.{add-assoc, add-zero, mul-one, suc-mul, mul-le-mul-left, mul-le-mul-right}
+use native.Mathlib.Nat.{add-assoc, add-zero, mul-one, suc-mul, mul-le-mul-left}
 use native.Mathlib.Numerals.{add-one}
 use native.Mathlib.Omega.{arith}
 use lib.Dec.{eqb, ltb, leb}
@@ -16,6 +16,7 @@ use Rattle.scope.specs.Lent.{is-erased}
 use Rattle.scope.specs.Decisions.{blocks-fit}
 use Rattle.flash.specs.Cases.{on, below?, clash, and-true, true-and, or-cases, or-right, is-false, not-of-false}
 use Rattle.flash.specs.Counting.{all-each, each-all, count-none, count-each, none-counted, each-counted, count-le}
+use Rattle.soundness.specs.Sizes.{piece-inside}
 use Rattle.soundness.specs.Bools.{same-test, or-none}
 
 module _ (P : ℕ) where
@@ -66,7 +67,7 @@ pub blocks-inside : (P first n len : ℕ) → 1 ≤ P → (first + n) * P * 2 �
 blocks-inside P first n len h k = omega (arith, mul-le-mul-left (first + n) h, mul-one (first + n))
 
 pub block-inside : (P first n b len : ℕ) → b < first + n → (first + n) * P * 2 ≤ len → (b * P + P) * 2 ≤ len
-block-inside P first n b len h k = omega (arith, mul-le-mul-right P h, suc-mul b P)
+block-inside P first n b len h k = omega (arith, piece-inside P (first + n) b h)
 
 -- ---- counts that decide
 

@@ -1,9 +1,10 @@
 -- The lengths that the lent slices have, beside the sizes that a geometry gives them.
-use Prim.Native.Nat.{ℕ, _+_, _≤_}
+use Prim.Native.Nat.{ℕ, _+_, _*_, _≤_, _<_}
 use mathlib.Core.Path.{_≡_}
 use mathlib.Core.Bool.{true, _&&_}
 use mathlib.Core.List.{List, [], _∷_}
-use native.Mathlib.Nat.{mul-le-mul}
+use native.Mathlib.Nat.{suc-mul, mul-le-mul-right, mul-le-mul}
+use native.Mathlib.Omega.{arith}
 use lib.Dec.{leb}
 use borrow.Author.Tests.{leb-true}
 use Rattle.scope.specs.Geometry.{Geometry, Accepted, within, blocks, pages, most-blocks, most-pages-in-block, most-pages}
@@ -35,3 +36,7 @@ blocks-bounds d t h =
 -- A chip has at most 65,536 pages.
 pub pages-most : (g : Geometry) → Accepted g → pages g ≤ most-pages
 pages-most g ok = mul-le-mul {n₁ = blocks g} {m₁ = g .P} {n₂ = most-blocks} {m₂ = most-pages-in-block} (ok .D+T-to) (ok .P-to)
+
+-- Of m pieces of w words one after the other, piece p lies within.
+pub piece-inside : (w m p : ℕ) → p < m → p * w + w ≤ m * w
+piece-inside w m p h = omega (arith, mul-le-mul-right w h, suc-mul p w)

@@ -4,6 +4,7 @@ pub mod blocks;
 pub mod directory;
 pub mod erased;
 pub mod geometry;
+pub mod pages;
 pub mod stored;
 pub mod tally;
 pub mod window;

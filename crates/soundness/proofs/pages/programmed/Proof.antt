@@ -1,0 +1,13 @@
+-- `pages::programmed` meets its contract.
+use borrow.Author.Tests.{eq-eqb, ne-eqb}
+use Rattle.soundness.proofs.pages.programmed.Statement.{statement}
+use Rattle.soundness.proofs.pages.programmed.Tie as tie
+
+returns : tie.Need-returns
+returns c = simp (eq-eqb _ _ (c .if1 .taken))
+
+returns-2 : tie.Need-returns-2
+returns-2 c = simp (ne-eqb _ _ (c .if1 .left))
+
+pub programmed-spec : {M : Type 1} → statement M
+programmed-spec = tie.close (tie.spec returns returns-2)
