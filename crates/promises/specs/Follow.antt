@@ -3,18 +3,15 @@
 -- page .. is updated once". An owner that waits is where its last waiting entry says.
 use Prim.Native.Nat.{ℕ, _<_}
 use mathlib.Core.Path.{_≡_, _∙_, ap}
-use mathlib.Core.Logic.{⊎-elim}
 use mathlib.Core.List.{List, []}
-use lib.Dec.{ltb}
 use lib.ListN.{getD}
 use Rattle.scope.specs.Geometry.{Geometry, Accepted, M}
 use Rattle.scope.specs.Lent.{none, State, Mapping, named}
 use Rattle.scope.specs.Regions.{Data, Translation, Has-page}
 use Rattle.scope.specs.SmallRecord.{open-block, next-offset}
-use Rattle.scope.specs.Operations.{Outcome, give, look, _>>=_}
+use Rattle.scope.specs.Operations.{Outcome}
 use Rattle.scope.specs.Steps.{cache-or-wait, update-all, cache-follows}
-use Rattle.scope.specs.Sound.{rank-of, current}
-use Rattle.flash.specs.Cases.{on}
+use Rattle.scope.specs.Sound.{current}
 use Rattle.flash.specs.Words.{Lengths}
 use Rattle.region.specs.Carried.{holds-same, contents-same}
 use Rattle.region.specs.Elsewhere.{Same-elsewhere}

@@ -16,3 +16,4 @@ pub mod Keeping
 pub mod Translate
 pub mod HeldWords
 pub mod Read
+pub mod Write
