@@ -1,13 +1,13 @@
 -- Laws of tests and counts that the rules of a sound state are decided by: a count told by a map without repeats, tests that count
 -- the same, and a walk that tests each number.
 use Prim.Native.Nat.{ℕ, zero, suc, _+_, _≤_, _<_}
-use mathlib.Core.Path.{_≡_, refl, sym, _∙_}
+use mathlib.Core.Path.{_≡_, refl, sym, _∙_, subst}
 use mathlib.Core.Logic.{_≢_}
 use mathlib.Core.Bool.{Bool, true, false, not, cond, _&&_}
 use native.Mathlib.Numerals.{add-one}
 use native.Mathlib.Omega.{arith}
 use lib.Dec.{eqb}
-use borrow.Author.Tests.{eqb-true, eqb-false, eq-eqb, ne-eqb, not-true}
+use borrow.Author.Tests.{eqb-true, eqb-false, eq-eqb, ne-eqb, not-true, not-false}
 use Rattle.scope.specs.Counting.{all, count}
 use Rattle.scope.specs.Laws.Decides.{Decides}
 use Rattle.flash.specs.Cases.{on, same?, last, clash, and-true, true-and, not-of-false, is-true, is-false}
@@ -67,9 +67,22 @@ pub count-tight : (n : ℕ) (f h : ℕ → Bool) → ((i : ℕ) → i < n → f 
     → (i : ℕ) → i < n → h i ≡ true → f i ≡ true
 count-tight n f h sub same i k q = is-true (f i) (λ p. omega (arith, count-less n f h sub i k p q))
 
--- A walk that tests each number: it goes on while the tests pass, and stops at the first that fails.
-pub all-more : (i : ℕ) (f : ℕ → Bool) → all i f ≡ true → f i ≡ true → all (i + 1) f ≡ true
-all-more i f h p = rw (add-one i) (true-and h p)
+-- A walk over the numbers below n that goes on while their tests pass, at i. In the code the test's result is r, and `if !r` stops.
+pub record Walked (n : ℕ) (f : ℕ → Bool) (i : ℕ) : Type 0 where
+  pub within : i ≤ n
+  pub passed : all i f ≡ true
 
-pub all-stops : (n i : ℕ) (f : ℕ → Bool) → i < n → f i ≡ false → all n f ≡ false
-all-stops n i f k p = is-false (all n f) (λ h. clash (all-each n f h i k) p)
+pub walk-starts : (n : ℕ) (f : ℕ → Bool) → Walked n f 0
+walk-starts n f = record { within = omega arith; passed = refl }
+
+pub walk-on : {f : ℕ → Bool} (n i : ℕ) (r : Bool) → Walked n f i → i < n → r ≡ f i → not r ≡ false → Walked n f (i + 1)
+walk-on n i r walked h e p =
+    record { within = omega arith; passed = rw (add-one i) (true-and (walked .passed) (sym e ∙ not-false r p)) }
+
+pub walk-stops : {f : ℕ → Bool} (n i : ℕ) (r : Bool) → Walked n f i → i < n → r ≡ f i → not r ≡ true → false ≡ all n f
+walk-stops {f} n i r walked h e p = sym (is-false (all n f) (λ q. clash (all-each n f q i h) (sym e ∙ not-true r p)))
+
+pub walk-ends : {f : ℕ → Bool} (n i : ℕ) → Walked n f i → n ≤ i → true ≡ all n f
+walk-ends {f} n i walked h =
+    let done : i ≡ n = omega (arith, walked .within) in
+    sym (subst (λ (k : ℕ). all k f ≡ true) done (walked .passed))

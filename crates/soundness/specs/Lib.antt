@@ -11,3 +11,4 @@ pub mod Named
 pub mod Tally
 pub mod Directory
 pub mod Stored
+pub mod Entries

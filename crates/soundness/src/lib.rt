@@ -2,6 +2,7 @@
 pub mod bitmap;
 pub mod blocks;
 pub mod directory;
+pub mod entries;
 pub mod erased;
 pub mod geometry;
 pub mod pages;

@@ -8,7 +8,7 @@ ghost use Rattle.soundness.specs.Bitmap.{has, put};
 ghost use Rattle.soundness.specs.Seen.{window};
 use crate::bitmap;
 
-const WINDOW: usize = 65536;
+pub const WINDOW: usize = 65536;
 
 // A key goes into the set where window w has it. False where the set had it already.
 pub fn note(map: &mut [u64; 1024], key: usize, w: usize) -> bool
