@@ -1,1 +1,2 @@
--- The modules of this crate.
+-- What the leaves of this crate ask for, and laws that turn what they do to lists into 01's steps.
+pub mod Whole

@@ -2,10 +2,16 @@
 use lent::Geometry;
 use lent::Record;
 use lent::Region;
+use words::blocks::erased_among;
+use words::blocks::fewest_valid_among;
+use words::blocks::lowest_erased_among;
 ghost use mathlib.Core.Path.{_≡_};
 ghost use Rattle.lent.specs.Model.{geometry, small, region};
 ghost use Rattle.scope.specs.Regions.{first-block, region-blocks};
 ghost use Rattle.scope.specs.SmallRecord.{open-block, next-offset, with-open};
+ghost use Rattle.scope.specs.Lent.{State};
+ghost use Rattle.scope.specs.Room.{erased-blocks, lowest-erased, victim};
+ghost use Rattle.steps.specs.Whole.{Blocks-whole};
 
 pub fn first_block(g: Geometry, r: Region) -> u32
     ensures { λ x. ⌜ x ≡ first-block (geometry g) (region r) ⌝ }
@@ -60,4 +66,37 @@ pub fn with_open(rec: Record, r: Region, b: u32, offset: u32) -> Record
         }
     }
     next
+}
+
+// How many blocks are wholly erased.
+pub fn erased_blocks(g: Geometry, r: Region, spare: &[u32]) -> u32
+    requires { ⌜ Blocks-whole (geometry g) (region r) (now spare) ⌝ }
+    ensures { λ n. ⌜ ((s : State) → s .spare ≡ now (spare .entry) → erased-blocks (geometry g) (region r) s ≡ n) ⌝ }
+{
+    let first = first_block(g, r) as usize;
+    let n = region_blocks(g, r) as usize;
+    let p = g.p as usize;
+    erased_among(spare, first, n, p) as u32
+}
+
+// The lowest of them.
+pub fn lowest_erased(g: Geometry, r: Region, spare: &[u32]) -> u32
+    requires { ⌜ Blocks-whole (geometry g) (region r) (now spare) ⌝ }
+    ensures { λ b. ⌜ ((s : State) → s .spare ≡ now (spare .entry) → lowest-erased (geometry g) (region r) s ≡ b) ⌝ }
+{
+    let first = first_block(g, r) as usize;
+    let n = region_blocks(g, r) as usize;
+    let p = g.p as usize;
+    (first + lowest_erased_among(spare, first, n, p)) as u32
+}
+
+// The block to collect.
+pub fn victim(g: Geometry, r: Region, spare: &[u32]) -> u32
+    requires { ⌜ Blocks-whole (geometry g) (region r) (now spare) ⌝ }
+    ensures { λ v. ⌜ ((s : State) → s .spare ≡ now (spare .entry) → victim (geometry g) (region r) s ≡ v) ⌝ }
+{
+    let first = first_block(g, r) as usize;
+    let n = region_blocks(g, r) as usize;
+    let p = g.p as usize;
+    (first + fewest_valid_among(spare, first, n, p)) as u32
 }

@@ -20,6 +20,9 @@ lowest-fails n f h = ⊎-elim (λ x. clash (x .passes) (h (lowest n f) (x .below
 
 -- ---- the fewest
 
+pub fewest-le : (n : ℕ) (f : ℕ → Bool) (size : ℕ → ℕ) → fewest n f size ≤ n
+fewest-le n f size = ⊎-elim (λ x. omega (arith, x .below)) (λ x. omega (arith, x .is-n)) (fewest-cases n f size)
+
 -- There is but one.
 pub fewest-unique : (n : ℕ) (f : ℕ → Bool) (size : ℕ → ℕ) (a b : ℕ) → Is-fewest n f size a → Is-fewest n f size b → a ≡ b
 fewest-unique n f size a b h k =

@@ -13,7 +13,7 @@ ghost use Rattle.scope.specs.Lent.{is-erased, is-valid};
 // How many of the n blocks from `first` on begin with an erased page.
 pub fn erased_among(spare: &[u32], first: usize, n: usize, p: usize) -> usize
     requires { ⌜ ((first + n) * p * 2 ≤ length (now spare)) × (1 ≤ p) ⌝ }
-    ensures { λ r. ⌜ r ≡ count n (λ i. is-erased ((first + i) * p) (now (spare .entry))) ⌝ }
+    ensures { λ r. ⌜ (r ≤ n) × (r ≡ count n (λ i. is-erased ((first + i) * p) (now (spare .entry)))) ⌝ }
 {
     let mut k = 0;
     let mut i = 0;
@@ -27,7 +27,7 @@ pub fn erased_among(spare: &[u32], first: usize, n: usize, p: usize) -> usize
 // The lowest of them, counted from the first; n where there is none.
 pub fn lowest_erased_among(spare: &[u32], first: usize, n: usize, p: usize) -> usize
     requires { ⌜ ((first + n) * p * 2 ≤ length (now spare)) × (1 ≤ p) ⌝ }
-    ensures { λ r. ⌜ r ≡ lowest n (λ i. is-erased ((first + i) * p) (now (spare .entry))) ⌝ }
+    ensures { λ r. ⌜ (r ≤ n) × (r ≡ lowest n (λ i. is-erased ((first + i) * p) (now (spare .entry)))) ⌝ }
 {
     let mut i = 0;
     while i < n {
@@ -71,7 +71,7 @@ fn held(spare: &[u32], page: usize, p: usize) -> usize
 // counted from the first; n where there is none.
 pub fn fewest_valid_among(spare: &[u32], first: usize, n: usize, p: usize) -> usize
     requires { ⌜ ((first + n) * p * 2 ≤ length (now spare)) × (1 ≤ p) × (p < 4294967296) ⌝ }
-    ensures { λ r. ⌜ r ≡ fewest n (λ i. not (is-erased ((first + i) * p) (now (spare .entry)))) (λ i. count p (λ j. is-valid ((first + i) * p + j) (now (spare .entry)))) ⌝ }
+    ensures { λ r. ⌜ (r ≤ n) × (r ≡ fewest n (λ i. not (is-erased ((first + i) * p) (now (spare .entry)))) (λ i. count p (λ j. is-valid ((first + i) * p + j) (now (spare .entry))))) ⌝ }
 {
     let mut best = Best { at: n, size: p + 1 };
     let mut i = 0;

@@ -1,6 +1,7 @@
 -- `words::blocks::erased_among` meets its contract. The invariant: k of the first i blocks begin with an erased page.
 use Prim.Native.Nat.{ℕ, _+_, _-_, _*_, _≤_}
 use mathlib.Core.Path.{_≡_, ap, _∙_}
+use mathlib.Core.Bool.{Bool}
 use native.Mathlib.Omega.{arith}
 use lib.ListN.{length}
 use borrow.Author.Needs.{needs}
@@ -19,10 +20,12 @@ abbrev μ-loop : tie.MeasureT-loop
 μ-loop spare first n p k₀ i₀ k i = n - i
 
 -- In a turn the block lies in the spare.
-lies : (c : tie.In-loop Inv-loop μ-loop) → Block-lies (c .before .before .before .args .first) (c .before .before .before .args .p) (c .before .loop .i) (length (c .before .before .before .args .spare .now))
+lies : (c : tie.In-loop Inv-loop μ-loop)
+    → Block-lies (c .before .before .before .args .first) (c .before .before .before .args .p) (c .before .loop .i) (length (c .before .before .before .args .spare .now))
 lies c =
     let a = c .before .before .before .args in
-    block-lies (a .first) (a .n) (a .p) (c .before .loop .i) (length (a .spare .now)) (c .before .before .before .pre .0) (c .before .before .before .pre .1) (omega arith)
+    block-lies (a .first) (a .n) (a .p) (c .before .loop .i) (length (a .spare .now))
+    (c .before .before .before .pre .0) (c .before .before .before .pre .1) (omega arith)
 
 loop-holds : tie.Need-loop-holds Inv-loop μ-loop
 loop-holds c = search needs
@@ -50,7 +53,11 @@ add-k c =
     let at-loop = c .before .before .before in
     let a = at-loop .before .before .args in
     let i = at-loop .loop .i in
-    omega (arith, count-more (a .spare .now) (λ j. (a .first + j) * a .p) 4294967295 i (at-loop .loop .k) (c .bit .result) (omega (arith, lies (c .before .before))) (at-loop .loop .inv .1) (c .bit .ensures), count-le (i + 1) (λ j. is-erased ((a .first + j) * a .p) (a .spare .now)), lies (c .before .before))
+    let f : ℕ → Bool = λ j. is-erased ((a .first + j) * a .p) (a .spare .now) in
+    let more : at-loop .loop .k + c .bit .result ≡ count (i + 1) f =
+    count-more (a .spare .now) (λ j. (a .first + j) * a .p) 4294967295 i (at-loop .loop .k) (c .bit .result)
+    (omega (arith, lies (c .before .before))) (at-loop .loop .inv .1) (c .bit .ensures) in
+    omega (arith, count-le (i + 1) f, lies (c .before .before))
 
 add-i : tie.Need-add-i Inv-loop μ-loop
 add-i c = search needs
@@ -63,14 +70,20 @@ loop-again c =
     let at-loop = c .before .before .before in
     let a = at-loop .before .before .args in
     let i = at-loop .loop .i in
-    (omega arith, count-more (a .spare .now) (λ j. (a .first + j) * a .p) 4294967295 i (at-loop .loop .k) (c .bit .result) (omega (arith, lies (c .before .before))) (at-loop .loop .inv .1) (c .bit .ensures))
+    let f : ℕ → Bool = λ j. is-erased ((a .first + j) * a .p) (a .spare .now) in
+    let more : at-loop .loop .k + c .bit .result ≡ count (i + 1) f =
+    count-more (a .spare .now) (λ j. (a .first + j) * a .p) 4294967295 i (at-loop .loop .k) (c .bit .result)
+    (omega (arith, lies (c .before .before))) (at-loop .loop .inv .1) (c .bit .ensures) in
+    (omega arith, more)
 
 returns : tie.Need-returns Inv-loop μ-loop
 returns c =
     let at-loop = c .before in
     let a = at-loop .before .before .args in
+    let f : ℕ → Bool = λ j. is-erased ((a .first + j) * a .p) (a .spare .now) in
     let end : at-loop .loop .i ≡ a .n = omega arith in
-    at-loop .loop .inv .1 ∙ ap (λ (m : ℕ). count m (λ j. is-erased ((a .first + j) * a .p) (a .spare .now))) end
+    let is : at-loop .loop .k ≡ count (a .n) f = at-loop .loop .inv .1 ∙ ap (λ (m : ℕ). count m f) end in
+    (omega (arith, count-le (a .n) f), is)
 
 pub erased-among-spec : {M : Type 1} → statement M
 erased-among-spec =

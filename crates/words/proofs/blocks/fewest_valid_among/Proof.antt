@@ -6,8 +6,8 @@ use mathlib.Core.Bool.{Bool, true, false, not, cond}
 use native.Mathlib.Omega.{arith}
 use lib.ListN.{length}
 use borrow.Author.Needs.{needs}
-use Rattle.words.specs.Searches.{Block-lies, block-lies, Best-so-far, best-of-none, best-of-more, best-of-all}
-use Rattle.scope.specs.Counting.{count}
+use Rattle.words.specs.Searches.{fewest-le, Block-lies, block-lies, Best-so-far, best-of-none, best-of-more, best-of-all}
+use Rattle.scope.specs.Counting.{fewest, count}
 use Rattle.scope.specs.Lent.{is-erased, is-valid}
 use Rattle.flash.specs.Counting.{count-le}
 use Rattle.words.proofs.blocks.fewest_valid_among.Statement.{statement}
@@ -31,10 +31,12 @@ abbrev μ-loop : tie.MeasureT-loop
 μ-loop spare first n p best₀ i₀ best i = n - i
 
 -- In a turn the block lies in the spare.
-lies : (c : tie.In-loop Inv-loop μ-loop) → Block-lies (c .before .before .before .args .first) (c .before .before .before .args .p) (c .before .loop .i) (length (c .before .before .before .args .spare .now))
+lies : (c : tie.In-loop Inv-loop μ-loop)
+    → Block-lies (c .before .before .before .args .first) (c .before .before .before .args .p) (c .before .loop .i) (length (c .before .before .before .args .spare .now))
 lies c =
     let a = c .before .before .before .args in
-    block-lies (a .first) (a .n) (a .p) (c .before .loop .i) (length (a .spare .now)) (c .before .before .before .pre .0) (c .before .before .before .pre .1) (omega arith)
+    block-lies (a .first) (a .n) (a .p) (c .before .loop .i) (length (a .spare .now))
+    (c .before .before .before .pre .0) (c .before .before .before .pre .1) (omega arith)
 
 add-t7 : tie.Need-add-t7 Inv-loop μ-loop
 add-t7 c = search needs
@@ -83,8 +85,10 @@ returns c =
     let end : at-loop .loop .i ≡ a .n = omega arith in
     let f = begun (a .spare .now) (a .first) (a .p) in
     let size = sizes (a .spare .now) (a .first) (a .p) in
+    let is : at-loop .loop .best .at ≡ fewest (a .n) f size =
     best-of-all f size (a .p) (a .n) (at-loop .loop .best .at) (at-loop .loop .best .size)
-    (subst (λ (k : ℕ). Best-so-far f size (a .p) (a .n) k (at-loop .loop .best .at) (at-loop .loop .best .size)) end (at-loop .loop .inv .1))
+    (subst (λ (k : ℕ). Best-so-far f size (a .p) (a .n) k (at-loop .loop .best .at) (at-loop .loop .best .size)) end (at-loop .loop .inv .1)) in
+    (omega (arith, fewest-le (a .n) f size), is)
 
 pub fewest-valid-among-spec : {M : Type 1} → statement M
 fewest-valid-among-spec =

@@ -21,10 +21,12 @@ abbrev μ-loop : tie.MeasureT-loop
 μ-loop spare first n p i₀ i = n - i
 
 -- In a turn the block lies in the spare.
-lies : (c : tie.In-loop Inv-loop μ-loop) → Block-lies (c .before .before .args .first) (c .before .before .args .p) (c .before .loop .i) (length (c .before .before .args .spare .now))
+lies : (c : tie.In-loop Inv-loop μ-loop)
+    → Block-lies (c .before .before .args .first) (c .before .before .args .p) (c .before .loop .i) (length (c .before .before .args .spare .now))
 lies c =
     let a = c .before .before .args in
-    block-lies (a .first) (a .n) (a .p) (c .before .loop .i) (length (a .spare .now)) (c .before .before .pre .0) (c .before .before .pre .1) (omega arith)
+    block-lies (a .first) (a .n) (a .p) (c .before .loop .i) (length (a .spare .now))
+    (c .before .before .pre .0) (c .before .before .pre .1) (omega arith)
 
 loop-holds : tie.Need-loop-holds Inv-loop μ-loop
 loop-holds c = (omega arith, λ k h. absurd (omega arith))
@@ -50,12 +52,14 @@ returns c =
     let a = at-loop .before .args in
     let i = at-loop .loop .i in
     let read : state-of ((a .first + i) * a .p) (a .spare .now) ≡ getD (a .spare .now) ((a .first + i) * a .p * 2) 0 =
-    getD-any (a .spare .now) ((a .first + i) * a .p * 2) 4294967295 0 (omega (arith, lies (c .before .before))) in
-    sym (lowest-unique (a .n) (λ j. is-erased ((a .first + j) * a .p) (a .spare .now)) i (record {
-      below = omega arith;
-      passes = eq-eqb _ _ (read ∙ c .if1 .taken);
-      least = at-loop .loop .inv .1;
-    }))
+    getD-any (a .spare .now) ((a .first + i) * a .p * 2) 4294967295 0 (omega (arith, lies (c .before .before))) in (
+      omega arith,
+      sym (lowest-unique (a .n) (λ j. is-erased ((a .first + j) * a .p) (a .spare .now)) i (record {
+        below = omega arith;
+        passes = eq-eqb _ _ (read ∙ c .if1 .taken);
+        least = at-loop .loop .inv .1;
+      })),
+    )
 
 add-i : tie.Need-add-i Inv-loop μ-loop
 add-i c = search needs
@@ -75,7 +79,7 @@ loop-again c =
 returns-2 : tie.Need-returns-2 Inv-loop μ-loop
 returns-2 c =
     let a = c .before .before .args in
-    sym (lowest-fails (a .n) (λ j. is-erased ((a .first + j) * a .p) (a .spare .now)) (λ i h. c .before .loop .inv .1 i (omega arith)))
+    (omega arith, sym (lowest-fails (a .n) (λ j. is-erased ((a .first + j) * a .p) (a .spare .now)) (λ i h. c .before .loop .inv .1 i (omega arith))))
 
 pub lowest-erased-among-spec : {M : Type 1} → statement M
 lowest-erased-among-spec =

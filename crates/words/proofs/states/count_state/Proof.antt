@@ -1,6 +1,7 @@
 -- `words::states::count_state` meets its contract. The invariant: k pages of the first i have the state.
 use Prim.Native.Nat.{ℕ, _+_, _-_, _≤_}
 use mathlib.Core.Path.{_≡_, ap, _∙_}
+use mathlib.Core.Bool.{Bool}
 use native.Mathlib.Omega.{arith}
 use lib.Dec.{eqb}
 use borrow.Author.Needs.{needs}
@@ -40,11 +41,11 @@ add-k c =
     let at-loop = c .before .before .before in
     let a = at-loop .before .before .args in
     let i = at-loop .loop .i in
-    omega (
-      arith,
-      count-more (a .spare .now) (λ j. a .first + j) (a .state) i (at-loop .loop .k) (c .bit .result) (omega arith) (at-loop .loop .inv .1) (c .bit .ensures),
-      count-le (i + 1) (λ j. eqb (state-of (a .first + j) (a .spare .now)) (a .state)),
-    )
+    let f : ℕ → Bool = λ j. eqb (state-of (a .first + j) (a .spare .now)) (a .state) in
+    let more : at-loop .loop .k + c .bit .result ≡ count (i + 1) f =
+    count-more (a .spare .now) (λ j. a .first + j) (a .state) i (at-loop .loop .k) (c .bit .result)
+    (omega arith) (at-loop .loop .inv .1) (c .bit .ensures) in
+    omega (arith, count-le (i + 1) f)
 
 add-i : tie.Need-add-i Inv-loop μ-loop
 add-i c = search needs
@@ -57,7 +58,11 @@ loop-again c =
     let at-loop = c .before .before .before in
     let a = at-loop .before .before .args in
     let i = at-loop .loop .i in
-    (omega arith, count-more (a .spare .now) (λ j. a .first + j) (a .state) i (at-loop .loop .k) (c .bit .result) (omega arith) (at-loop .loop .inv .1) (c .bit .ensures))
+    let f : ℕ → Bool = λ j. eqb (state-of (a .first + j) (a .spare .now)) (a .state) in
+    let more : at-loop .loop .k + c .bit .result ≡ count (i + 1) f =
+    count-more (a .spare .now) (λ j. a .first + j) (a .state) i (at-loop .loop .k) (c .bit .result)
+    (omega arith) (at-loop .loop .inv .1) (c .bit .ensures) in
+    (omega arith, more)
 
 returns : tie.Need-returns Inv-loop μ-loop
 returns c =

@@ -1,0 +1,59 @@
+-- `steps::blocks::lowest_erased` meets its contract: the first pages tell which blocks are wholly erased.
+use native.Mathlib.Omega.{arith}
+use borrow.Author.Needs.{needs}
+use Rattle.steps.specs.Whole.{region-lies, lowest-found}
+use Rattle.steps.proofs.blocks.lowest_erased.Statement.{statement}
+use Rattle.steps.proofs.blocks.lowest_erased.Tie as tie
+
+first-block-requires : tie.Need-first-block-requires
+first-block-requires c κs = search needs
+
+cast-first : tie.Need-cast-first
+cast-first c = search needs
+
+region-blocks-requires : tie.Need-region-blocks-requires
+region-blocks-requires c κs = search needs
+
+cast-n : tie.Need-cast-n
+cast-n c = search needs
+
+cast-p : tie.Need-cast-p
+cast-p c = search needs
+
+lowest-erased-among-requires : tie.Need-lowest-erased-among-requires
+lowest-erased-among-requires c κs =
+    let after = c .before in
+    let start = after .before .before .before in
+    omega (arith, region-lies (start .pre) (after .before .first-block .ensures) (after .region-blocks .ensures))
+
+add-result : tie.Need-add-result
+add-result c =
+    let after = c .before .before in
+    let start = after .before .before .before in
+    omega (arith, region-lies (start .pre) (after .before .first-block .ensures) (after .region-blocks .ensures))
+
+cast-result : tie.Need-cast-result
+cast-result c =
+    let after = c .before .before in
+    let start = after .before .before .before in
+    omega (arith, region-lies (start .pre) (after .before .first-block .ensures) (after .region-blocks .ensures))
+
+returns : tie.Need-returns
+returns c =
+    let after = c .before .before in
+    let start = after .before .before .before in
+    λ s lent. lowest-found (start .pre) (after .before .first-block .ensures) (after .region-blocks .ensures) s lent (c .lowest-erased-among .ensures .1)
+
+pub lowest-erased-spec : {M : Type 1} → statement M
+lowest-erased-spec =
+    tie.close
+    (tie.spec
+    first-block-requires
+    cast-first
+    region-blocks-requires
+    cast-n
+    cast-p
+    lowest-erased-among-requires
+    add-result
+    cast-result
+    returns)
