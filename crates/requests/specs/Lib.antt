@@ -1,1 +1,2 @@
 -- The modules of this crate.
+pub mod Fresh
