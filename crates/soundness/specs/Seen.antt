@@ -1,10 +1,11 @@
 -- That the keys of a row differ, found in windows of 65,536 keys with a bitmap for each: of the numbers i below n that `pick` takes, no
 -- two have the same key. A walk over the row keeps `Seen`, and each window's answer is `differ-in`.
-use Prim.Native.Nat.{ℕ, suc, _+_, _*_, _/_, _%_, _<_}
+use Prim.Native.Nat.{ℕ, suc, _+_, _*_, _/_, _%_, _≤_, _<_}
 use mathlib.Core.Path.{_≡_, refl, sym, _∙_}
-use mathlib.Core.Bool.{Bool, true, not, cond, _&&_, _||_}
+use mathlib.Core.Bool.{Bool, true, false, not, cond, _&&_, _||_}
 use mathlib.Core.List.{List}
 use native.Mathlib.Nat.{mod-lt, div-lt-iff-lt-mul}
+use native.Mathlib.Numerals.{add-one}
 use native.Mathlib.Omega.{arith}
 use lib.Dec.{eqb}
 use lib.ListN.{length}
@@ -12,7 +13,7 @@ use borrow.Author.Tests.{eqb-true, eq-eqb, ne-eqb}
 use Rattle.scope.specs.Counting.{all, some}
 use Rattle.flash.specs.Cases.{on, same?, clash, and-true, true-and, or-right, is-false}
 use Rattle.flash.specs.Counting.{all-each, each-all}
-use Rattle.soundness.specs.Bools.{same-test, or-none, eqb-sym, all-not-some}
+use Rattle.soundness.specs.Bools.{same-test, or-none, eqb-sym, all-not-some, all-stops, all-done}
 use Rattle.soundness.specs.Bitmap.{has, put, empty, has-empty, length-put, has-put-same, has-put-other}
 
 abbrev pub window : ℕ
@@ -110,3 +111,29 @@ module _ (pick : ℕ → Bool) (key : ℕ → ℕ) where
       to-windows : differ n ≡ true → all windows (λ w. differ-in w n) ≡ true
       to-windows h = each-all windows (λ w. differ-in w n) (λ w m. each-all n (λ i. not (taken w i) || new i) (λ i l.
           or-right (not (taken w i)) (all-each n new h i l)))
+
+  -- A walk that stops at the first number that is not new in its window, and notes the others.
+  pub record Walked (w n : ℕ) (map : List ℕ) : Type 0 where
+    pub seen : Seen w n map
+    pub fine : differ-in w n ≡ true
+
+  pub walked-none : (w : ℕ) → Walked w 0 empty
+  unfolding differ-in
+  walked-none w = record { seen = seen-none w; fine = refl }
+
+  pub walked-more : (w n : ℕ) (map : List ℕ) → Walked w n map → not (taken w n && has map (key n % window)) ≡ true
+      → Walked w (n + 1) (noted w n map)
+  unfolding differ-in
+  walked-more w n map walk is-new =
+      rw add-one
+      (record { seen = seen-more w n map (walk .seen); fine = true-and (walk .fine) (new-seen w n map (walk .seen) ∙ is-new) })
+
+  pub walked-stops : (w i n : ℕ) (map : List ℕ) → i < n → Walked w i map → not (taken w i && has map (key i % window)) ≡ false
+      → false ≡ differ-in w n
+  unfolding differ-in
+  walked-stops w i n map h walk is-new =
+      all-stops (λ j. not (taken w j) || new j) i n h (new-seen w i map (walk .seen) ∙ is-new)
+
+  pub walked-done : (w i n : ℕ) (map : List ℕ) → i ≤ n → n ≤ i → Walked w i map → true ≡ differ-in w n
+  unfolding differ-in
+  walked-done w i n map h k walk = all-done (λ j. not (taken w j) || new j) i n h k (walk .fine)

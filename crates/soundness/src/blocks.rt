@@ -99,7 +99,7 @@ pub fn region_fits(
 }
 
 // The rule for both regions.
-pub fn fit(g: Geometry, spare: &[u32], small: Record) -> bool
+pub fn blocks_fit(g: Geometry, spare: &[u32], small: Record) -> bool
     requires { ⌜ Accepted (geometry g) ⌝ }
     requires { ⌜ length (now spare) ≡ spare-size (geometry g) ⌝ }
     ensures { λ r. ⌜ r ≡ both-fit (geometry g) (now (spare .entry)) (small-record small) ⌝ }

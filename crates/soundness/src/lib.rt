@@ -5,6 +5,7 @@ pub mod directory;
 pub mod entries;
 pub mod erased;
 pub mod geometry;
+pub mod owners;
 pub mod pages;
 pub mod stored;
 pub mod tally;

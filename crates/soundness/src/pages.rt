@@ -86,7 +86,7 @@ pub fn region_fits(
 }
 
 // The rule for both regions.
-pub fn fit(g: Geometry, chip: &[u32], spare: &[u32]) -> bool
+pub fn pages_fit(g: Geometry, chip: &[u32], spare: &[u32]) -> bool
     requires { ⌜ Accepted (geometry g) ⌝ }
     requires { ⌜ length (now chip) ≡ chip-size (geometry g) ⌝ }
     requires { ⌜ length (now spare) ≡ spare-size (geometry g) ⌝ }

@@ -1,4 +1,4 @@
--- `pages::fit` meets its contract.
+-- `pages::pages_fit` meets its contract.
 use Prim.Native.Nat.{_*_}
 use mathlib.Core.Path.{_≡_, refl, sym, _∙_}
 use native.Mathlib.Nat.{zero-mul}
@@ -8,8 +8,8 @@ use Rattle.scope.specs.Regions.{Data, Translation}
 use Rattle.lent.specs.Model.{geometry}
 use Rattle.soundness.specs.Bools.{first-refused, first-passed}
 use Rattle.soundness.specs.Pages.{fits-region}
-use Rattle.soundness.proofs.pages.fit.Statement.{statement}
-use Rattle.soundness.proofs.pages.fit.Tie as tie
+use Rattle.soundness.proofs.pages.pages_fit.Statement.{statement}
+use Rattle.soundness.proofs.pages.pages_fit.Tie as tie
 
 data-tested : (c : tie.After-region-fits)
     → c .region-fits .result ≡ pages-fit (geometry (c .before .before .before .before .before .before .before .args .g)) Data (c .before .before .before .before .before .before .before .args .chip .now) (c .before .before .before .before .before .before .before .args .spare .now)
@@ -59,8 +59,8 @@ returns-2 c =
     (c .region-fits2 .ensures
     ∙ fits-region (geometry (c .before .before .before .before .before .before .before .before .before .before .before .before .args .g)) Translation (c .before .before .before .before .before .before .before .before .before .before .before .before .args .chip .now) (c .before .before .before .before .before .before .before .before .before .before .before .before .args .spare .now) (c .before .before .before .before .before .before .before .before .before .before .before .before .args .g .d * c .before .before .before .before .before .before .before .before .before .before .before .before .args .g .p) (c .before .before .before .translation-pages .result) refl (c .before .before .before .translation-pages .ensures))
 
-pub fit-spec : {M : Type 1} → statement M
-fit-spec =
+pub pages-fit-spec : {M : Type 1} → statement M
+pages-fit-spec =
     tie.close
     (tie.spec
     cast-w

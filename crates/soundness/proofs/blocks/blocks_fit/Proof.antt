@@ -1,4 +1,4 @@
--- `blocks::fit` meets its contract.
+-- `blocks::blocks_fit` meets its contract.
 use mathlib.Core.Path.{_≡_, _∙_}
 use borrow.Author.Needs.{needs}
 use Rattle.scope.specs.Decisions.{blocks-fit}
@@ -6,8 +6,8 @@ use Rattle.scope.specs.Regions.{Data, Translation}
 use Rattle.lent.specs.Model.{geometry}
 use Rattle.soundness.specs.Blocks.{fits-region}
 use Rattle.soundness.specs.Bools.{first-refused, first-passed}
-use Rattle.soundness.proofs.blocks.fit.Statement.{statement}
-use Rattle.soundness.proofs.blocks.fit.Tie as tie
+use Rattle.soundness.proofs.blocks.blocks_fit.Statement.{statement}
+use Rattle.soundness.proofs.blocks.blocks_fit.Tie as tie
 
 data-tested : (c : tie.After-region-fits)
     → c .region-fits .result
@@ -51,8 +51,8 @@ returns-2 c =
     first-passed (data-tested (c .before .before .before .before .before)) (c .before .before .before .before .if1 .left)
     (c .region-fits2 .ensures ∙ fits-region (geometry (c .before .before .before .before .before .before .before .before .before .before .before .args .g)) Translation (c .before .before .before .before .before .before .before .before .before .before .before .args .spare .now) (c .before .before .before .before .before .before .before .before .before .before .before .args .small .«open_translation») (c .before .before .before .before .before .before .before .before .before .before .before .args .small .«translation_offset»))
 
-pub fit-spec : {M : Type 1} → statement M
-fit-spec =
+pub blocks-fit-spec : {M : Type 1} → statement M
+blocks-fit-spec =
     tie.close
     (tie.spec
     cast-p

@@ -1,0 +1,66 @@
+-- `owners::is_new` meets its contract.
+use Prim.Native.Nat.{_+_, _*_}
+use native.Mathlib.Omega.{arith}
+use borrow.Author.Needs.{needs}
+use Rattle.soundness.specs.Owners.{noted-invalid, noted-other, noted-valid}
+use Rattle.soundness.proofs.owners.is_new.Statement.{statement}
+use Rattle.soundness.proofs.owners.is_new.Tie as tie
+
+mul-if1 : tie.Need-mul-if1
+mul-if1 c = search needs
+
+mul-if1-2 : tie.Need-mul-if1-2
+mul-if1-2 c = search needs
+
+shared-slice-read-if1 : tie.Need-shared-slice-read-if1
+shared-slice-read-if1 c = search needs
+
+returns : tie.Need-returns
+returns c = noted-invalid (c .before .before .before .args .spare .now) (c .before .before .before .args .p) (c .before .before .before .args .window) (c .before .before .before .args .map .now) (c .before .before .before .pre) (c .if1 .taken)
+
+mul-owner : tie.Need-mul-owner
+mul-owner c = search needs
+
+add-owner : tie.Need-add-owner
+add-owner c = search needs
+
+mul-owner-2 : tie.Need-mul-owner-2
+mul-owner-2 c = search needs
+
+shared-slice-read-owner : tie.Need-shared-slice-read-owner
+shared-slice-read-owner c = search needs
+
+cast-owner : tie.Need-cast-owner
+cast-owner c = omega (arith, c .shared-slice-known3 .given (c .before .before .before .before .args .p * 2 + 1))
+
+returns-2 : tie.Need-returns-2
+returns-2 c =
+    noted-other (c .before .before .before .before .before .args .spare .now) (c .before .before .before .before .before .args .p) (c .before .before .before .before .before .args .window) (c .before .before .before .before .before .args .map .now) (c .before .before .before .before .before .pre) (c .before .before .if1 .left) (c .if2 .taken)
+
+has-requires : tie.Need-has-requires
+has-requires c κs = search needs
+
+put-requires : tie.Need-put-requires
+put-requires c κs = search needs
+
+returns-3 : tie.Need-returns-3
+returns-3 c =
+    noted-valid (c .before .before .before .before .before .before .before .before .before .args .spare .now) (c .before .before .before .before .before .before .before .before .before .args .p) (c .before .before .before .before .before .before .before .before .before .args .window) (c .before .before .before .before .before .before .before .before .before .args .map .now) (c .before .before .before .before .before .before .before .before .before .pre) (c .before .before .has .result) _ (c .before .before .before .before .before .before .if1 .left) (c .before .before .before .before .if2 .left) (c .before .before .has .ensures) (c .put .ensures)
+
+pub is-new-spec : {M : Type 1} → statement M
+is-new-spec =
+    tie.close
+    (tie.spec
+    mul-if1
+    mul-if1-2
+    shared-slice-read-if1
+    returns
+    mul-owner
+    add-owner
+    mul-owner-2
+    shared-slice-read-owner
+    cast-owner
+    returns-2
+    has-requires
+    put-requires
+    returns-3)
