@@ -1,6 +1,6 @@
 -- What a logical page holds (Demands.antt) and crate region's contents of its place say the same: a page has at least one word.
 use Prim.Native.Nat.{ℕ, _<_}
-use mathlib.Core.Path.{_≡_, refl, sym, ap}
+use mathlib.Core.Path.{_≡_, refl, sym, _∙_, ap}
 use mathlib.Core.List.{List, []}
 use native.Mathlib.Omega.{arith}
 use lib.ListN.{length}
@@ -42,3 +42,13 @@ module _ {g : Geometry} (ok : Accepted g) where
       → contents g (s .chip) (decode (current g s l)) ≡ words → held g s l ≡ Words words
   held-is s len sound l below words long e =
       words-held s l (decode (current g s l)) words len (sound .rule-6 .current-place l below) long e
+
+  -- And what is held are W words.
+  pub held-long : (s : State) → Lengths g s → Sound g s → (l : ℕ) → l < g .L → (words : List ℕ) → held g s l ≡ Words words → length words ≡ g .W
+  held-long s len sound l below words e = go (decode (current g s l)) (sound .rule-6 .current-place l below) e
+    where
+      go : (x : Entry) → Names g Data (s .spare) l x → words-at g (s .chip) x ≡ Words words → length words ≡ g .W
+      go (Place p) names q =
+          let is : words-of g p (s .chip) ≡ words = cc in
+          ap length (sym is) ∙ length-words-of g p (s .chip) (page-on-chip g Data p (names .0)) (len .chip-fits)
+      go Nowhere names q = let z : _≡_ {A = ℕ} 0 1 = cc in absurd (omega arith)

@@ -17,3 +17,6 @@ pub mod Translate
 pub mod HeldWords
 pub mod Read
 pub mod Write
+pub mod Standing
+pub mod RunStands
+pub mod Sequences

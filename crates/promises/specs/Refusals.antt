@@ -50,7 +50,7 @@ read-within g l buffer s = either (read-reply g l buffer s)
 write-within : (g : Geometry) (l : ℕ) (buffer : List ℕ) (s : State) → write-steps g l buffer s .value .reply ≤ UNWRITTEN
 write-within g l buffer s = omega (arith, ap (λ (r : Replied). r .reply) (write-reply g l buffer s))
 
-serve-within : (g : Geometry) (q : Request) (buffer : List ℕ) (s : State) → serve g q buffer s .value .reply ≤ UNWRITTEN
+pub serve-within : (g : Geometry) (q : Request) (buffer : List ℕ) (s : State) → serve g q buffer s .value .reply ≤ UNWRITTEN
 unfolding serve
 serve-within g q buffer s =
     on (eqb (q .kind) 0)

@@ -1,0 +1,172 @@
+-- A run keeps the store: its records one after the other, each by its own answer.
+use Prim.Native.Nat.{ℕ, zero, suc, _*_, _≤_, _<_}
+use mathlib.Core.Path.{_≡_, sym, _∙_, ap, subst}
+use mathlib.Core.Logic.{_≢_, _⊎_, inl, inr}
+use mathlib.Core.Bool.{Bool, cond}
+use mathlib.Core.List.{List, append-nil}
+use native.Mathlib.Omega.{arith}
+use native.Mathlib.Nat.{mul-le-mul-right}
+use lib.Dec.{eqb}
+use lib.ListN.{length, getD, length-take, length-drop}
+use borrow.Author.Tests.{eqb-true, eqb-false, eq-eqb, ne-eqb}
+use Rattle.scope.specs.Geometry.{Geometry, Accepted}
+use Rattle.scope.specs.Lent.{none, State, Request}
+use Rattle.scope.specs.Operations.{Outcome, give, _>>=_}
+use Rattle.scope.specs.Replies.{DONE, UNWRITTEN}
+use Rattle.scope.specs.Requests.{Replied, read-steps, write-steps}
+use Rattle.scope.specs.Calls.{RunReplied, run-replied, part, no-request, serve, serve-records, run}
+use Rattle.scope.specs.Laws.Applied.{flash-refl}
+use Rattle.flash.specs.Cases.{on, below?}
+use Rattle.flash.specs.Listed.{cost}
+use Rattle.region.specs.Done.{done-none, done-then}
+use Rattle.promises.specs.Demands.{Store, put, noted-record, noted-records, Tells, Writes-well, read-bound, before-record}
+use Rattle.promises.specs.Refusals.{write-reply, serve-within, run-reply, answered, record-tested, run-tested}
+use Rattle.promises.specs.Demand1.{run-is-records, run-fits, record-answer}
+use Rattle.promises.specs.Records.{answer-of, record-stores, words-before, length-words}
+use Rattle.promises.specs.Write.{write-law}
+use Rattle.promises.specs.Standing.{Standing, Leaves, refusal-leaves, reads, read-stands, read-tells, write-stands}
+
+-- What a record's answer does to the store: nothing, but for a write that answered DONE.
+not-noted : (q : Request) (words : List ℕ) (reply : ℕ) (store : Store) → (reply ≢ DONE) ⊎ (q .kind ≢ 1) → noted-record q words reply store ≡ store
+not-noted q words reply store (inl e) = on (eqb (q .kind) 1) (λ k. rw (k, ne-eqb reply DONE e)) (λ k. rw k)
+not-noted q words reply store (inr e) = rw (ne-eqb (q .kind) 1 e)
+
+is-noted : (q : Request) (words : List ℕ) (reply : ℕ) (store : Store) → q .kind ≡ 1 → reply ≡ DONE → noted-record q words reply store ≡ put (q .page) words store
+is-noted q words reply store k e = rw (eq-eqb (q .kind) 1 k, eq-eqb reply DONE e)
+
+-- What is said of a record's answer, whether it was refused, a read or a write.
+pub record Answers (g : Geometry) (i : ℕ) (q : Request) (words : List ℕ) (s : State) (store : Store) : Type 0 where
+  pub leaves :
+      let o = answered g i q words s in
+      Leaves g s o (noted-record q (part g i words) (o .value .reply) store)
+  pub tells : q .page < g .L → q .kind ≡ 0 →
+      let o = answered g i q words s in
+      Tells (store (q .page)) (o .value .reply) (o .value .buffer) × (cost (o .did) ≤ read-bound g)
+  pub writes : q .page < g .L → q .kind ≡ 1 →
+      let o = answered g i q words s in
+      Writes-well g (o .value .reply) (o .did)
+
+module _ {g : Geometry} (ok : Accepted g) where
+  -- ---- one record
+
+  module _ (i : ℕ) (q : Request) (words : List ℕ) {s : State} {store : Store} (stands : Standing g s store) (long : length (part g i words) ≡ g .W) where
+    abbrev buffer : List ℕ
+    buffer = part g i words
+
+    abbrev o : Outcome Replied
+    o = answered g i q words s
+
+    by-refusal : UNWRITTEN < o .value .reply → Answers g i q words s store
+    unfolding give
+    by-refusal h =
+        let t = record-tested g i q words s in
+        record {
+          leaves = rw (not-noted q buffer (o .value .reply) store (inl (omega arith)), t .refuses h) (record { stands = stands; done = done-none g flash-refl });
+          tells = λ below kind. absurd (admitted below (omega arith));
+          writes = λ below kind. absurd (admitted below (omega arith));
+        }
+      where
+        admitted : q .page < g .L → q .kind < 2 → ⊥
+        admitted below kind =
+            omega (arith, h, ap (λ (a : Outcome Replied). a .value .reply) (record-tested g i q words s .serves (kind, (below, tt))), serve-within g q (part g i words) s)
+
+    by-read : q .page < g .L → q .kind ≡ 0 → o ≡ read-steps g (q .page) buffer s → Answers g i q words s store
+    by-read below kind e =
+        record {
+          leaves = rw (not-noted q buffer (o .value .reply) store (inr (omega arith)), e)
+              (record { stands = read-stands ok stands (q .page) buffer below; done = reads ok stands (q .page) buffer below .kept .done });
+          tells = λ _ _. rw e (read-tells ok stands (q .page) buffer below, reads ok stands (q .page) buffer below .kept .costs);
+          writes = λ _ k. absurd (omega arith);
+        }
+
+    by-write : q .page < g .L → q .kind ≡ 1 → o ≡ write-steps g (q .page) buffer s → Answers g i q words s store
+    by-write below kind e =
+        let w = write-law ok (q .page) buffer s (stands .lengths) (stands .sound) below long in
+        let is-done : o .value .reply ≡ DONE = ap (λ (a : Outcome Replied). a .value .reply) e ∙ ap (λ r. r .reply) (write-reply g (q .page) buffer s) in
+        record {
+          leaves = rw (is-noted q buffer (o .value .reply) store kind is-done, e)
+              (record { stands = write-stands ok stands (q .page) buffer below long; done = w .done });
+          tells = λ _ k. absurd (omega arith);
+          writes = λ _ _. (is-done, rw e (w .costs));
+        }
+
+    pub record-answers : Answers g i q words s store
+    unfolding serve
+    record-answers =
+        let t = record-tested g i q words s in
+        below? UNWRITTEN (o .value .reply) by-refusal
+        (λ h.
+        let (kind, (below, _)) = t .served h .0 in
+        on (eqb (q .kind) 0)
+        (λ e. by-read below (eqb-true (q .kind) 0 e) (rw e at t .served h .1))
+        (λ e. by-write below (omega (arith, eqb-false (q .kind) 0 e)) (rw e at t .served h .1)))
+
+  -- ---- the records of a run
+
+  module _ (requests : List Request) (words answers : List ℕ) {s : State} {store : Store} (stands : Standing g s store)
+      (fits : length words ≡ length requests * g .W) where
+    part-long : (n : ℕ) → n < length requests → length (part g n (before-record g requests words answers s n .value .words)) ≡ g .W
+    part-long n h =
+        simp (length-take, length-drop) (omega (arith, length-words g requests words answers s n, mul-le-mul-right (g .W) h))
+
+    -- One record more.
+    next-leaves : (n : ℕ) (store′ : Store) → n < length requests → Leaves g s (before-record g requests words answers s n) store′
+        → Leaves g s (before-record g requests words answers s (suc n))
+        (noted-record (getD requests n no-request) (part g n words) (answer-of g requests words answers s n .value .reply) store′)
+    unfolding serve-records _>>=_
+    next-leaves n store′ h before =
+        let b = before-record g requests words answers s n in
+        let q = getD requests n no-request in
+        let a = record-answers n q (b .value .words) (before .stands) (part-long n h) .leaves in
+        let stored = record-stores g n q (b .value) (b .after) in
+        record {
+          stands = rw (stored .state, ← (words-before g requests words answers s n n (omega arith))) (a .stands);
+          done = done-then (before .done) (rw (stored .state, stored .operations, append-nil) (a .done));
+        }
+
+    none-leave : Leaves g s (before-record g requests words answers s 0) store
+    unfolding serve-records give
+    none-leave = record { stands = stands; done = done-none g flash-refl }
+
+    pub records-leave : (A : List ℕ) (n : ℕ) → n ≤ length requests
+        → ((i : ℕ) → i < n → getD A i none ≡ answer-of g requests words answers s i .value .reply)
+        → Leaves g s (before-record g requests words answers s n) (noted-records g requests words A n store)
+    records-leave A zero h e = none-leave
+    records-leave A (suc n) h e =
+        subst (λ (reply : ℕ). Leaves g s (before-record g requests words answers s (suc n))
+        (noted-record (getD requests n no-request) (part g n words) reply (noted-records g requests words A n store)))
+        (sym (e n (omega arith)))
+        (next-leaves n (noted-records g requests words A n store) h (records-leave A n (omega arith) (λ i k. e i (omega arith))))
+
+    -- Record i's own answer, from the store as the records before it left it.
+    pub answers-at : (A : List ℕ) (i : ℕ) → i < length requests
+        → ((j : ℕ) → j < i → getD A j none ≡ answer-of g requests words answers s j .value .reply)
+        → let before = before-record g requests words answers s i in
+        Answers g i (getD requests i no-request) (before .value .words) (before .after) (noted-records g requests words A i store)
+    answers-at A i h e =
+        record-answers i (getD requests i no-request) (before-record g requests words answers s i .value .words)
+        (records-leave A i (omega arith) e .stands) (part-long i h)
+
+  -- A run, as a call.
+  module _ (boundary : Bool) (requests : List Request) (words answers : List ℕ) {s : State} {store : Store} (stands : Standing g s store) where
+    pub run-leaves :
+        let o = run g boundary requests words answers s in
+        Leaves g s o (cond (eqb (o .value .reply) DONE) (noted-records g requests words (o .value .answers) (length requests) store) store)
+    run-leaves =
+        let o = run g boundary requests words answers s in
+        let t = run-tested g boundary requests words answers s in
+        below? UNWRITTEN (o .value .reply)
+        (λ h. refusal-leaves ok (noted-records g requests words (o .value .answers) (length requests) store)
+        (run-replied words answers (o .value .reply)) o (o .value .reply) stands (t .refuses h) (omega arith))
+        (λ h. served (ap (λ (a : Outcome RunReplied). a .value .reply) (t .served h .1) ∙ run-reply g requests (length requests) words answers s))
+      where
+        served : run g boundary requests words answers s .value .reply ≡ DONE →
+            let o = run g boundary requests words answers s in
+            Leaves g s o (cond (eqb (o .value .reply) DONE) (noted-records g requests words (o .value .answers) (length requests) store) store)
+        served e =
+            let A = run g boundary requests words answers s .value .answers in
+            rw (eq-eqb (run g boundary requests words answers s .value .reply) DONE e)
+            (subst (λ (o : Outcome RunReplied). Leaves g s o (noted-records g requests words A (length requests) store))
+            (sym (run-is-records g boundary requests words answers s e))
+            (records-leave requests words answers stands (run-fits g boundary requests words answers s e .0) A (length requests) (omega arith)
+            (record-answer g boundary requests words answers s e)))
