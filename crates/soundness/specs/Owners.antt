@@ -12,7 +12,6 @@ use Rattle.scope.specs.Geometry.{Geometry}
 use Rattle.scope.specs.Lent.{none, valid, is-valid, state-of, owner-of}
 use Rattle.scope.specs.Regions.{Region, Data, Translation, owners, first-page, region-pages}
 use Rattle.scope.specs.Decisions.{owners-differ}
-use Rattle.flash.specs.Cases.{true-and}
 use Rattle.words.specs.Runs.{getD-any}
 use Rattle.soundness.specs.Bitmap.{has, put}
 use Rattle.soundness.specs.Seen.{window, differ, differ-in, noted, differ-windows, Walked, walked-more, walked-stops}
@@ -51,39 +50,23 @@ pub record Noted (spare : List ℕ) (p w : ℕ) (map map′ : List ℕ) (new : B
   pub tells : new ≡ not (counts spare w p && has map (owner-of p spare % window))
   pub holds : map′ ≡ cond (counts spare w p) (put map (owner-of p spare % window)) map
 
--- By what the code reads of page p: it is not valid; its owner is of another window; it counts.
+-- By what the code reads of page p: it is not valid, or its owner is noted.
 module _ (spare : List ℕ) (p w : ℕ) (map : List ℕ) (inside : p * 2 + 2 ≤ length spare) where
   state-read : getD spare (p * 2) 0 ≡ state-of p spare
   state-read = getD-any spare (p * 2) 0 none (omega arith)
 
-  owner-read : getD spare (p * 2 + 1) 0 ≡ owner-of p spare
-  owner-read = getD-any spare (p * 2 + 1) 0 none (omega arith)
-
-  passed-over : counts spare w p ≡ false → Noted spare p w map map true
-  passed-over e = record { tells = rw e; holds = rw e }
-
   pub noted-invalid : (getD spare (p * 2) 0 ≡ valid → ⊥) → Noted spare p w map map true
-  noted-invalid ne = passed-over (rw (ne-eqb (state-of p spare) valid (λ e. ne (state-read ∙ e))))
+  noted-invalid ne =
+      let e : is-valid p spare ≡ false = ne-eqb (state-of p spare) valid (λ q. ne (state-read ∙ q)) in
+      record { tells = rw e; holds = rw e }
 
-  pub noted-other : getD spare (p * 2) 0 ≡ valid → (getD spare (p * 2 + 1) 0 / window ≡ w → ⊥) → Noted spare p w map map true
-  noted-other v ne =
-      passed-over
-      (rw (
-        eq-eqb (state-of p spare) valid (sym state-read ∙ v),
-        ne-eqb (owner-of p spare / window) w (λ e. ne (ap (λ (o : ℕ). o / window) owner-read ∙ e)),
-      ))
-
-  pub noted-valid : (there : Bool) (map′ : List ℕ) → getD spare (p * 2) 0 ≡ valid → getD spare (p * 2 + 1) 0 / window ≡ w
-      → there ≡ has map (getD spare (p * 2 + 1) 0 % window) → map′ ≡ put map (getD spare (p * 2 + 1) 0 % window)
-      → Noted spare p w map map′ (not there)
-  noted-valid there map′ v is-w is-there is-put =
-      let e : counts spare w p ≡ true = true-and
-      (eq-eqb (state-of p spare) valid (sym state-read ∙ v))
-      (eq-eqb (owner-of p spare / window) w (ap (λ (o : ℕ). o / window) (sym owner-read) ∙ is-w)) in
-      record {
-        tells = rw e (ap not is-there ∙ ap (λ (o : ℕ). not (has map (o % window))) owner-read);
-        holds = rw e (is-put ∙ ap (λ (o : ℕ). put map (o % window)) owner-read);
-      }
+  pub noted-valid : (new : Bool) (map′ : List ℕ) → getD spare (p * 2) 0 ≡ valid → (let k = getD spare (p * 2 + 1) 0 in
+      (new ≡ not (eqb (k / window) w && has map (k % window))) × (map′ ≡ cond (eqb (k / window) w) (put map (k % window)) map))
+      → Noted spare p w map map′ new
+  noted-valid new map′ v is =
+      let e : is-valid p spare ≡ true = eq-eqb (state-of p spare) valid (sym state-read ∙ v) in
+      let k : getD spare (p * 2 + 1) 0 ≡ owner-of p spare = getD-any spare (p * 2 + 1) 0 none (omega arith) in
+      record { tells = rw e (rw k at (is .0)); holds = rw e (rw k at (is .1)) }
 
 -- The walk over the row.
 module _ (first : ℕ) (spare : List ℕ) where

@@ -1,7 +1,7 @@
 // Rule 2: no two valid pages of a region have the same owner. One pass over the region's spare words for each window of 65,536 owners,
 // of which there is one today, with a bitmap of the owners seen: linear, and 8 KiB of stack.
-use crate::bitmap;
 use crate::geometry::translation_pages;
+use crate::window::note;
 use lent::Geometry;
 ghost use mathlib.Core.Path.{_≡_};
 ghost use Prim.Native.Nat.{_+_, _*_, _≤_};
@@ -28,13 +28,7 @@ fn is_new(spare: &[u32], map: &mut [u64; 1024], p: usize, window: usize) -> bool
         return true;
     }
     let owner = spare[p * 2 + 1] as usize;
-    if owner / WINDOW != window {
-        return true;
-    }
-    let k = owner % WINDOW;
-    let there = bitmap::has(map, k);
-    bitmap::put(map, k);
-    !there
+    note(map, owner, window)
 }
 
 // The owners of one window differ.

@@ -2,7 +2,7 @@
 use Prim.Native.Nat.{_+_, _*_}
 use native.Mathlib.Omega.{arith}
 use borrow.Author.Needs.{needs}
-use Rattle.soundness.specs.Owners.{noted-invalid, noted-other, noted-valid}
+use Rattle.soundness.specs.Owners.{noted-invalid, noted-valid}
 use Rattle.soundness.proofs.owners.is_new.Statement.{statement}
 use Rattle.soundness.proofs.owners.is_new.Tie as tie
 
@@ -33,19 +33,12 @@ shared-slice-read-owner c = search needs
 cast-owner : tie.Need-cast-owner
 cast-owner c = omega (arith, c .shared-slice-known3 .given (c .before .before .before .before .args .p * 2 + 1))
 
+note-requires : tie.Need-note-requires
+note-requires c κs = search needs
+
 returns-2 : tie.Need-returns-2
 returns-2 c =
-    noted-other (c .before .before .before .before .before .args .spare .now) (c .before .before .before .before .before .args .p) (c .before .before .before .before .before .args .window) (c .before .before .before .before .before .args .map .now) (c .before .before .before .before .before .pre) (c .before .before .if1 .left) (c .if2 .taken)
-
-has-requires : tie.Need-has-requires
-has-requires c κs = search needs
-
-put-requires : tie.Need-put-requires
-put-requires c κs = search needs
-
-returns-3 : tie.Need-returns-3
-returns-3 c =
-    noted-valid (c .before .before .before .before .before .before .before .before .before .args .spare .now) (c .before .before .before .before .before .before .before .before .before .args .p) (c .before .before .before .before .before .before .before .before .before .args .window) (c .before .before .before .before .before .before .before .before .before .args .map .now) (c .before .before .before .before .before .before .before .before .before .pre) (c .before .before .has .result) _ (c .before .before .before .before .before .before .if1 .left) (c .before .before .before .before .if2 .left) (c .before .before .has .ensures) (c .put .ensures)
+    noted-valid (c .before .before .before .before .before .before .args .spare .now) (c .before .before .before .before .before .before .args .p) (c .before .before .before .before .before .before .args .window) (c .before .before .before .before .before .before .args .map .now) (c .before .before .before .before .before .before .pre) (c .note .result) _ (c .before .before .before .if1 .left) (c .note .ensures)
 
 pub is-new-spec : {M : Type 1} → statement M
 is-new-spec =
@@ -60,7 +53,5 @@ is-new-spec =
     mul-owner-2
     shared-slice-read-owner
     cast-owner
-    returns-2
-    has-requires
-    put-requires
-    returns-3)
+    note-requires
+    returns-2)

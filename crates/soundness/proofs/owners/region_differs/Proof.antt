@@ -1,6 +1,6 @@
 -- `owners::region_differs` meets its contract.
-use Prim.Native.Nat.{_/_}
 use Prim.Native.Nat.{_+_, _-_, _≤_}
+use Prim.Native.Nat.{_/_}
 use mathlib.Core.Bool.{true}
 use mathlib.Core.Path.{_≡_, refl, _∙_}
 use native.Mathlib.Omega.{arith}
