@@ -7,7 +7,8 @@ use Rattle.scope.specs.Geometry.{Geometry}
 use Rattle.scope.specs.Lent.{Entry, Place, Nowhere, decode, State}
 use Rattle.scope.specs.Regions.{Data, Translation}
 use Rattle.scope.specs.SmallRecord.{open-block, next-offset}
-use Rattle.scope.specs.Operations.{Outcome, apply, apply-all}
+use Rattle.scope.specs.Operations.{Operation, Outcome, apply, apply-all}
+use Rattle.scope.specs.Laws.Applied.{Same-flash}
 use Rattle.scope.specs.Sound.{current, Sound}
 use Rattle.flash.specs.Words.{Lengths}
 use Rattle.flash.specs.SamePages.{Same-pages, same-refl, same-trans}
@@ -86,34 +87,40 @@ kept-sound {g} {s} {s′} sound index cache pages opened offset places =
     (same-map places (rw (opened, offset) (holds-same pages (data-of sound))))
     cache
 
--- A step of the cache alone.
-reads-done : (g : Geometry) (s s′ : State) (e : Entry) → s′ .chip ≡ s .chip → s′ .spare ≡ s .spare → Done g s (page-read e) s′
-unfolding apply apply-all
-reads-done g s s′ (Place p) chip spare = record { flash = record { chip = chip; spare = spare }; allowed = (tt, tt) }
-reads-done g s s′ Nowhere chip spare = record { flash = record { chip = chip; spare = spare }; allowed = tt }
+-- ---- steps of the cache alone
 
+module _ {A : Type 0} {g : Geometry} {s : State} {o : Outcome A} {ops : List Operation} {used : ℕ} {m : ℕ → Found} (step : Cache-step g s o ops used m) where
+  pub step-lengths : Lengths g s → Lengths g (o .after)
+  step-lengths len =
+      record {
+        chip-fits = rw (step .flash .chip) (len .chip-fits);
+        spare-fits = rw (step .flash .spare) (len .spare-fits);
+        directory-fits = rw (step .directory) (len .directory-fits);
+        cache-fits = step .holds .long;
+      }
+
+  pub step-pages : Same-pages g Data s (o .after)
+  step-pages = rw (step .flash .chip, step .flash .spare) same-refl
+
+  pub step-index : Index-fits g s → Index-fits g (o .after)
+  step-index = index-same (step .flash) (step .directory) (ap (open-block Translation) (step .small)) (ap (next-offset Translation) (step .small))
+
+reads-done : (g : Geometry) (s s′ : State) (e : Entry) → Same-flash s′ s → Done g s (page-read e) s′
+unfolding apply apply-all
+reads-done g s s′ (Place p) flash = record { flash = flash; allowed = (tt, tt) }
+reads-done g s s′ Nowhere flash = record { flash = flash; allowed = tt }
+
+-- One that keeps current places, with the read of a page or none.
 pub cache-kept : {A : Type 0} {g : Geometry} {s : State} {o : Outcome A} {used bound : ℕ} {m : ℕ → Found} (e : Entry)
     → Sound g s → Lengths g s → Cache-step g s o (page-read e) used m → Places-kept g s (o .after) → cost (page-read e) ≤ bound
     → Kept g bound s o
-cache-kept {g = g} {s} {o} {bound = bound} e sound len step places few =
+cache-kept {g = g} {s} {o} e sound len step places few =
     record {
-      sound = kept-sound sound index (record { entries = step .holds .fits; agree = places .agree }) same
+      sound = kept-sound sound (step-index step (index-of sound)) (record { entries = step .holds .fits; agree = places .agree }) (step-pages step)
           (ap (open-block Data) (step .small)) (ap (next-offset Data) (step .small)) (places .places);
-      lengths =
-          record {
-            chip-fits = rw (step .flash .chip) (len .chip-fits);
-            spare-fits = rw (step .flash .spare) (len .spare-fits);
-            directory-fits = rw (step .directory) (len .directory-fits);
-            cache-fits = step .holds .long;
-          };
+      lengths = step-lengths step len;
       places = places .places;
-      pages = same;
-      done = rw (step .did) (reads-done g s (o .after) e (step .flash .chip) (step .flash .spare));
+      pages = step-pages step;
+      done = rw (step .did) (reads-done g s (o .after) e (step .flash));
       costs = rw (step .did) few;
     }
-  where
-    same : Same-pages g Data s (o .after)
-    same = rw (step .flash .chip, step .flash .spare) same-refl
-
-    index : Index-fits g (o .after)
-    index = index-same (step .flash) (step .directory) (ap (open-block Translation) (step .small)) (ap (next-offset Translation) (step .small)) (index-of sound)

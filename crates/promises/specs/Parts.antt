@@ -3,9 +3,8 @@
 use Prim.Native.Nat.{ℕ}
 use mathlib.Core.Path.{_≡_}
 use mathlib.Core.List.{List}
-use lib.ListN.{getD}
 use Rattle.scope.specs.Geometry.{Geometry}
-use Rattle.scope.specs.Lent.{none, State}
+use Rattle.scope.specs.Lent.{State}
 use Rattle.scope.specs.Regions.{Region, Data, Translation}
 use Rattle.scope.specs.SmallRecord.{open-block, next-offset}
 use Rattle.scope.specs.Sound.{Pages-fit, Owners-differ, Blocks-fit, Entries-fit, Unchanged-agree, current, Sound}
@@ -14,15 +13,12 @@ use Rattle.flash.specs.Words.{Lengths}
 use Rattle.scope.specs.Laws.Applied.{Same-flash}
 use Rattle.cache.specs.Holds.{Found, lookup, holds-lookup}
 use Rattle.cache.specs.Steps.{Holds-in}
+use Rattle.region.specs.DirectoryFollows.{in-directory}
 use Rattle.promises.specs.Stored.{None-past-L, past-none, none-past}
-
--- The directory as a map from translation page numbers.
-abbrev pub directory-view : State → ℕ → ℕ
-directory-view s t = getD (s .directory) t none
 
 -- Rules 1 to 4 of the translation region, and rule 6's last sentence.
 pub record Index-holds (g : Geometry) (chip spare directory : List ℕ) (opened offset : ℕ) : Type 0 where
-  pub pages : Region-holds g Translation chip spare opened offset (λ t. getD directory t none)
+  pub pages : Region-holds g Translation chip spare opened offset (in-directory directory)
   pub past-L : None-past-L g chip directory
 
 abbrev pub Index-fits : Geometry → State → Type 0

@@ -4,11 +4,11 @@ use Prim.Native.Nat.{ℕ, suc, _+_, _*_, _-_, _≤_, _<_}
 use mathlib.Core.Path.{_≡_, refl, sym, _∙_, ap}
 use mathlib.Core.Logic.{⊎-elim}
 use mathlib.Core.Bool.{cond}
-use mathlib.Core.List.{[], _∷_, _++_}
+use mathlib.Core.List.{List, [], _∷_, _++_}
 use native.Mathlib.Omega.{arith}
-use borrow.Author.Tests.{eqb-true, eq-eqb, ne-eqb, lt-ltb, le-ltb}
+use borrow.Author.Tests.{eq-eqb, ne-eqb, lt-ltb, le-ltb}
 use Rattle.scope.specs.Geometry.{Geometry, Accepted}
-use Rattle.scope.specs.Lent.{Entry, Place, Nowhere, State, named, logical-at, physical-at, changed-at, translation-page}
+use Rattle.scope.specs.Lent.{Mapping, Entry, Place, Nowhere, State, named, logical-at, physical-at, translation-page}
 use Rattle.scope.specs.Regions.{Data}
 use Rattle.scope.specs.SmallRecord.{open-block, next-offset}
 use Rattle.scope.specs.Operations.{Outcome, give, look, nothing, counted, _>>=_}
@@ -17,18 +17,22 @@ use Rattle.scope.specs.Steps.{write-back, drop-entry, drop-if-full, fetch, tran
 use Rattle.scope.specs.Sound.{rank-of, Sound}
 use Rattle.flash.specs.Cases.{on, same?, below?}
 use Rattle.flash.specs.Words.{Lengths}
-use Rattle.flash.specs.Listed.{cost, cost-none}
+use Rattle.scope.specs.Laws.Applied.{flash-refl}
+use Rattle.flash.specs.SamePages.{same-trans}
+use Rattle.region.specs.Done.{Done, done-none, done-then}
+use Rattle.region.specs.DirectoryFollows.{Translation-only}
+use Rattle.flash.specs.Listed.{cost, cost-++, cost-none}
 use Rattle.cache.specs.Ranks.{Has-rank, rank-found, rank-missing}
 use Rattle.cache.specs.Holds.{Miss, updated, updated-here, updated-elsewhere, holds-found}
-use Rattle.cache.specs.Steps.{touch-law, forget-law}
-use Rattle.cache.specs.Current.{stored-in, Places-kept, touch-keeps-places, enter-keeps-places, forget-keeps-places}
-use Rattle.cache.specs.Stored.{unchanged-stored, Rests-on-flash, stored-keeps-places}
+use Rattle.cache.specs.Steps.{touch-law}
+use Rattle.cache.specs.Current.{stored-in, touch-keeps-places, enter-keeps-places}
+use Rattle.cache.specs.Drop.{Written-back, unchanged-written-back, drop-law}
 use Rattle.cache.specs.Fetch.{page-read, fetch-law}
 use Rattle.promises.specs.Index.{page-below}
-use Rattle.promises.specs.Parts.{index-of, cache-of, cached, cache-holds}
-use Rattle.promises.specs.Update.{update-bound, Updated, update-law}
+use Rattle.promises.specs.Parts.{Index-fits, index-of, cache-of, cached, cache-holds}
+use Rattle.promises.specs.Update.{only-refl, update-bound, Updated, update-law}
 use Rattle.promises.specs.Stored.{Mappings-of}
-use Rattle.promises.specs.Keeping.{Kept, within, kept-none, kept-then, kept-sound, cache-kept}
+use Rattle.promises.specs.Keeping.{Kept, within, kept-none, kept-then, kept-sound, step-lengths, step-pages, step-index, cache-kept}
 
 -- What translate promises: all is kept, and l's entry is in use at the rank handed back.
 pub record Translated (g : Geometry) (l : ℕ) (s : State) (o : Outcome ℕ) : Type 0 where
@@ -40,12 +44,14 @@ unfolding counted
 page-read-cost (Place p) = omega arith
 page-read-cost Nowhere = omega arith
 
--- Flash stores what the entry at rank i says, and the cache is as it was: that entry can go.
+-- Flash stores what the entry at rank i says, and the index holds: that entry can go.
 record Can-go (g : Geometry) (i : ℕ) (s : State) (o : Outcome (Unit {0})) : Type 0 where
-  kept : Kept g (update-bound g) s o
-  cache : o .after .cache ≡ s .cache
-  used : o .after .small .used ≡ s .small .used
-  stores : physical-at i (s .cache) ≡ stored-in g (o .after) (logical-at i (s .cache))
+  back : Written-back g i s (o .after)
+  index : Index-fits g (o .after)
+  only : Translation-only g s (o .after)
+  lengths : Lengths g (o .after)
+  done : Done g s (o .did) (o .after)
+  costs : cost (o .did) ≤ update-bound g
 
 -- An entry is free, and no page has come into the cache.
 record Free (g : Geometry) (s : State) (o : Outcome (Unit {0})) : Type 0 where
@@ -65,41 +71,31 @@ module _ {g : Geometry} (s : State) (len : Lengths g s) (sound : Sound g s) (i :
   below : l < g .L
   below = sound .rule-5 .below-L i in-use
 
-  -- Written back: no other page's word has changed, and l's says what its entry says.
-  updated-can-go : changed-at i (s .cache) ≡ 1 → (o : Outcome (Unit {0}))
-      → Updated g (translation-page g l) (record { logical = l; physical = place } ∷ []) (update-bound g) s o → Can-go g i s o
-  updated-can-go changed o u =
-      record {
-        kept = record {
-          sound = kept-sound sound (u .index) (record { entries = rw (u .only .cache, used-same) (sound .rule-5); agree = places .agree })
-              (u .only .data-pages) (ap (open-block Data) (u .only .small)) (ap (next-offset Data) (u .only .small)) (places .places);
-          lengths = u .lengths;
-          places = places .places;
-          pages = u .only .data-pages;
-          done = u .done;
-          costs = u .costs;
-        };
-        cache = u .only .cache;
-        used = used-same;
-        stores = sym (u .here l below refl ∙ rw (eq-eqb l l refl));
-      }
-    where
-      used-same : o .after .small .used ≡ s .small .used
-      used-same = ap (λ r. r .used) (u .only .small)
+  abbrev entry : List Mapping
+  entry = record { logical = l; physical = place } ∷ []
 
-      rests : (k : ℕ) → k < g .L → Rests-on-flash (cached g s k) → stored-in g (o .after) k ≡ stored-in g s k
-      rests k h rest =
-          same? (translation-page g k) (translation-page g l)
-          (λ e. u .here k h e ∙ same? l k
-          (λ q. absurd (omega (arith, rw (ap (cached g s) (sym q) ∙ cache-holds g s len (cache-of sound) .hits i in-use, changed) at rest)))
-          (λ q. rw (ne-eqb l k q)))
-          (λ e. u .elsewhere k h e)
-
-      places : Places-kept g s (o .after)
-      places = stored-keeps-places g s (o .after) (cached g s) (cache-holds g s len (cache-of sound)) (sound .rule-7) (u .only .cache) (used-same) rests
-
-  only-l : Mappings-of g (translation-page g l) (record { logical = l; physical = place } ∷ [])
+  only-l : Mappings-of g (translation-page g l) entry
   only-l k = ⊎-elim (λ e. rw (← e) (below, refl)) (λ z. absurd z)
+
+  -- Written back: no other page's word has changed, and l's says what its entry says.
+  updated-can-go : (o : Outcome (Unit {0})) → Updated g (translation-page g l) entry (update-bound g) s o → Can-go g i s o
+  updated-can-go o u =
+      record {
+        back = record {
+          cache = u .only .cache;
+          used = ap (λ r. r .used) (u .only .small);
+          here = u .here l below refl ∙ rw (eq-eqb l l refl);
+          elsewhere = λ k h apart.
+              same? (translation-page g k) (translation-page g l)
+              (λ e. u .here k h e ∙ rw (ne-eqb l k (λ q. apart (sym q))))
+              (λ e. u .elsewhere k h e);
+        };
+        index = u .index;
+        only = u .only;
+        lengths = u .lengths;
+        done = u .done;
+        costs = u .costs;
+      }
 
   -- "If it is changed, first write it back"; by rule 7 flash stores it else.
   can-go : Accepted g → Can-go g i s (cond (is-changed i (s .cache)) (write-back g i) nothing s)
@@ -107,43 +103,50 @@ module _ {g : Geometry} (s : State) (len : Lengths g s) (sound : Sound g s) (i :
   can-go ok =
       on (is-changed i (s .cache))
       (λ e. rw e (
-      updated-can-go (eqb-true (changed-at i (s .cache)) 1 e) (update g (translation-page g l) (record { logical = l; physical = place } ∷ []) s)
-      (update-law ok (translation-page g l) (record { logical = l; physical = place } ∷ []) s (index-of sound) (page-below ok l below) only-l len)))
+      updated-can-go (update g (translation-page g l) entry s)
+      (update-law ok (translation-page g l) entry s (index-of sound) (page-below ok l below) only-l len)))
       (λ e. rw e (record {
-        kept = kept-none tt sound len;
-        cache = refl;
-        used = refl;
-        stores = unchanged-stored g s (sound .rule-5) (sound .rule-7) i in-use e;
+        back = unchanged-written-back g s (sound .rule-5) (sound .rule-7) i in-use e;
+        index = index-of sound;
+        only = only-refl;
+        lengths = len;
+        done = done-none g flash-refl;
+        costs = omega (arith, cost-none);
       }))
 
   -- The last entry goes.
   forgotten : suc i ≡ s .small .used → (o : Outcome (Unit {0})) → Can-go g i s o
       → Free g s (record { value = forget i (o .after) .value; after = forget i (o .after) .after; did = o .did ++ forget i (o .after) .did })
   forgotten last o go =
-      let s₁ = o .after in
-      let m = cached g s₁ in
-      let holds = cache-holds g s₁ (go .kept .lengths) (cache-of (go .kept .sound)) in
-      let step = forget-law g s₁ m holds i (last ∙ sym (go .used)) in
-      let places = forget-keeps-places g s₁ m holds (go .kept .sound .rule-7) i step (omega (arith, go .used))
-      (rw (go .cache) (go .stores)) in
-      let dropped : Kept g 0 s₁ (forget i s₁) = cache-kept Nowhere (go .kept .sound) (go .kept .lengths) step places (omega (arith, cost-none)) in
-      let both = kept-then o (forget i s₁) (go .kept) dropped in
+      let m = cached g s in
+      let f = forget i (o .after) in
+      let d = drop-law g s (o .after) m (cache-holds g s len (cache-of sound)) (sound .rule-7) i last (go .back) in
+      let step = d .step in
+      let pages = same-trans (go .only .data-pages) (step-pages step) in
       record {
-        kept = within (update-bound g) (omega arith) both;
-        room = omega (arith, ap (λ r. r .used) (step .small), go .kept .sound .rule-5 .at-most, go .used);
+        kept = record {
+          sound = kept-sound sound (step-index step (go .index)) (record { entries = step .holds .fits; agree = d .places .agree }) pages
+              (ap (open-block Data) (step .small) ∙ ap (open-block Data) (go .only .small))
+              (ap (next-offset Data) (step .small) ∙ ap (next-offset Data) (go .only .small))
+              (d .places .places);
+          lengths = step-lengths step (go .lengths);
+          places = d .places .places;
+          pages = pages;
+          done = done-then (go .done) (rw (step .did) (done-none g (step .flash)));
+          costs = omega (arith, cost-++ (o .did) (f .did), ap cost (step .did), cost-none, go .costs);
+        };
+        room = omega (arith, ap (λ r. r .used) (step .small), sound .rule-5 .at-most);
         missing = λ k e.
-            holds-found g (forget i s₁ .after .cache) (forget i s₁ .after .small .used) (updated m (logical-at i (s₁ .cache)) Miss) (step .holds) k
-            ∙ same? k (logical-at i (s₁ .cache))
-            (λ q. rw q (updated-here m (logical-at i (s₁ .cache)) Miss))
-            (λ q. updated-elsewhere m (logical-at i (s₁ .cache)) Miss k q ∙ rw (go .cache, go .used) e);
+            holds-found g (f .after .cache) (f .after .small .used) (updated m l Miss) (step .holds) k
+            ∙ same? k l (λ q. rw q (updated-here m l Miss)) (λ q. updated-elsewhere m l Miss k q ∙ e);
       }
 
 -- ---- translate
 
 module _ {g : Geometry} (ok : Accepted g) where
-  drop-law : (s : State) → Lengths g s → Sound g s → Free g s (drop-if-full g s)
+  dropped-law : (s : State) → Lengths g s → Sound g s → Free g s (drop-if-full g s)
   unfolding drop-if-full drop-entry dropped look give _>>=_
-  drop-law s len sound =
+  dropped-law s len sound =
       let used = s .small .used in
       let i = used - 1 in
       below? used (g .C)
@@ -174,7 +177,7 @@ module _ {g : Geometry} (ok : Accepted g) where
       (λ h. rw (lt-ltb i (g .C) h) (touched i (rank-found g (s .cache) (s .small .used) l h)))
       (λ h. rw (le-ltb i (g .C) h)
       (fetched l s below (cache-holds g s len (cache-of sound) .misses l (rank-missing g (s .cache) (s .small .used) l (sound .rule-5 .at-most) h))
-      (drop-if-full g s) (drop-law s len sound)))
+      (drop-if-full g s) (dropped-law s len sound)))
     where
       touched : (i : ℕ) → Has-rank (s .cache) (s .small .used) l i → Translated g l s (touch i s)
       touched i r =

@@ -23,12 +23,12 @@ use Rattle.flash.specs.Listed.{cost, cost-++, cost-none}
 use Rattle.region.specs.Holds.{Holds, Region-fits, Besides, Renames, contents}
 use Rattle.region.specs.Done.{Done, done-none, done-one, done-then}
 use Rattle.region.specs.NextPage.{next-page, Page-written, page-written}
-use Rattle.region.specs.DirectoryFollows.{Translation-only, Translation-room, translation-room-law}
+use Rattle.region.specs.DirectoryFollows.{in-directory, Translation-only, Translation-room, translation-room-law}
 use Rattle.cache.specs.Current.{stored-in}
 use Rattle.cache.specs.Waiting.{latest}
 use Rattle.promises.specs.Index.{page-below, word-below}
 use Rattle.promises.specs.Stored.{table, None-past-L, stored-is, Mappings-of, length-set-words, set-words-at, set-words-past}
-use Rattle.promises.specs.Parts.{directory-view, Index-fits}
+use Rattle.promises.specs.Parts.{Index-fits}
 
 -- What no step on the index changes: one such step after another.
 pub only-refl : {g : Geometry} {s : State} → Translation-only g s s
@@ -78,7 +78,7 @@ writing : Geometry → ℕ → Entry → List ℕ → Step (Unit {0})
 writing g t former words = program-next g Translation t words >>= (λ q. mark-old g former >>= (λ _. directory-names-it t q))
 
 record Page-set (g : Geometry) (t : ℕ) (words : List ℕ) (s : State) (o : Outcome (Unit {0})) : Type 0 where
-  pages : Holds g Translation (o .after) (directory-view (o .after))
+  pages : Holds g Translation (o .after) (in-directory (o .after .directory))
   written : table g (o .after .chip) (o .after .directory) t ≡ words
   keeps : (k : ℕ) → k < M g → k ≢ t → table g (o .after .chip) (o .after .directory) k ≡ table g (s .chip) (s .directory) k
   only : Translation-only g s (o .after)
@@ -86,9 +86,9 @@ record Page-set (g : Geometry) (t : ℕ) (words : List ℕ) (s : State) (o : Out
   done : Done g s (o .did) (o .after)
   costs : cost (o .did) ≡ 1
 
-module _ (g : Geometry) (t : ℕ) (words : List ℕ) (s : State) (len : Lengths g s) (holds : Holds g Translation s (directory-view s)) (below : t < M g) where
+module _ (g : Geometry) (t : ℕ) (words : List ℕ) (s : State) (len : Lengths g s) (holds : Holds g Translation s (in-directory (s .directory))) (below : t < M g) where
   -- Program and mark have been made, and the directory names the new page.
-  named-law : (q : Outcome ℕ) (o : Outcome (Unit {0})) → Page-written g Translation t words (directory-view s) s q o
+  named-law : (q : Outcome ℕ) (o : Outcome (Unit {0})) → Page-written g Translation t words (in-directory (s .directory)) s q o
       → Page-set g t words s (record { value = tt; after = with-directory (set (o .after .directory) t (q .value)) (o .after); did = q .did ++ (o .did ++ []) })
   named-law q o w =
       record {
@@ -121,7 +121,7 @@ module _ (g : Geometry) (t : ℕ) (words : List ℕ) (s : State) (len : Lengths 
       view : ℕ → ℕ
       view k = getD (set (o .after .directory) t (q .value)) k none
 
-      renames : Renames (M g) t (next-page g Translation s) (directory-view s) view
+      renames : Renames (M g) t (next-page g Translation s) (in-directory (s .directory)) view
       renames =
           record {
             there = getD-set-same (o .after .directory) t (q .value) none (omega (arith, w .lengths .directory-fits)) ∙ w .value;
@@ -133,7 +133,7 @@ module _ (g : Geometry) (t : ℕ) (words : List ℕ) (s : State) (len : Lengths 
   unfolding writing directory-names-it set-directory _>>=_
   writing-law former ok room long e =
       named-law (program-next g Translation t words s) (mark-old g former (program-next g Translation t words s .after))
-      (page-written g Translation t words (directory-view s) s ok len long (holds .fits) room (holds .maps) below former e)
+      (page-written g Translation t words (in-directory (s .directory)) s ok len long (holds .fits) room (holds .maps) below former e)
 
 -- ---- update
 
@@ -209,6 +209,6 @@ module _ {g : Geometry} (ok : Accepted g) (t : ℕ) (ms : List Mapping) (s : Sta
       written : (room : Outcome (Unit {0})) → Translation-room g s room → (x : State) → x ≡ room .after → (words : List ℕ) → length words ≡ g .W
           → Page-set g t words x (writing g t (named t (room .after .directory)) words x)
       written room r x e words long =
-          writing-law g t words x (subst (Lengths g) (sym e) (r .lengths)) (subst (λ y. Holds g Translation y (directory-view y)) (sym e) (r .holds)) below
+          writing-law g t words x (subst (Lengths g) (sym e) (r .lengths)) (subst (λ y. Holds g Translation y (in-directory (y .directory))) (sym e) (r .holds)) below
           (named t (room .after .directory)) ok (subst (λ y. next-offset Translation (y .small) < g .P) (sym e) (r .room)) long
           (ap (λ y. named t (y .directory)) e)
