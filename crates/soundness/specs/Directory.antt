@@ -17,12 +17,8 @@ use Rattle.scope.specs.Sound.{Owners-differ}
 use Rattle.flash.specs.Counting.{count-same}
 use Rattle.soundness.specs.Counted.{decided-same}
 use Rattle.soundness.specs.Named.{Owners-fit, region-small, by-counts, owns, names-page}
-use Rattle.soundness.specs.Tally.{Tallied, word-named, word-good}
+use Rattle.soundness.specs.Tally.{nothing, Tallied, word-named, word-good}
 use Rattle.soundness.specs.declared.tally.Tally.{Tally}
-
--- No words counted.
-abbrev pub nothing : Tally
-nothing = record { named = 0; good = 0 }
 
 module _ (g : Geometry) (spare directory : List ℕ) (ok : Accepted g) (fit : Owners-fit g Translation spare)
     (differ : Owners-differ g Translation spare) (long : length directory ≡ directory-size g) (sum : Tally)

@@ -13,3 +13,4 @@ pub mod Tally
 pub mod Directory
 pub mod Stored
 pub mod Entries
+pub mod Translated

@@ -8,7 +8,7 @@ use mathlib.Core.List.{List}
 use native.Mathlib.Nat.{mul-le-mul, mul-le-mul-right}
 use native.Mathlib.Omega.{arith}
 use lib.Dec.{eqb, ltb, leb}
-use borrow.Author.Tests.{eqb-true, eqb-false, eq-eqb, ne-eqb, not-true}
+use borrow.Author.Tests.{le-leb, le-ltb, eqb-true, eqb-false, eq-eqb, ne-eqb, not-true}
 use Rattle.scope.specs.Counting.{count}
 use Rattle.scope.specs.Geometry.{Geometry, Accepted, most-pages}
 use Rattle.scope.specs.Lent.{none, valid, Entry, Place, Nowhere, decode, state-of, owner-of, is-valid}
@@ -41,11 +41,19 @@ region-small g Data acc =
 region-small g Translation acc =
     omega (arith, mul-le-mul {n₁ = g .D + g .T} {m₁ = g .P} {n₂ = 1024} {m₂ = 64} (acc .D+T-to) (acc .P-to), native.Mathlib.Nat.add-mul (g .D) (g .T) (g .P))
 
+pub data-small : (g : Geometry) → Accepted g → 0 + g .D * g .P ≤ most-pages
+data-small g acc = omega (arith, region-small g Data acc)
+
 pub owners-small : (g : Geometry) (r : Region) → Accepted g → owners g r ≤ most-pages
 owners-small g Data acc =
     omega (arith, acc .L-to, region-small g Data acc, mul-le-mul-right {m = g .D - 1} {n = g .D} (g .P) (omega arith))
 owners-small g Translation acc =
     omega (arith, acc .M-to, region-small g Translation acc, mul-le-mul-right {m = g .T - 1} {n = g .T} (g .P) (omega arith))
+
+-- *none* is no page of a region.
+pub none-owned : (first n : ℕ) (spare : List ℕ) (k x : ℕ) → first + n ≤ most-pages → x ≡ none → owns first n spare k x ≡ false
+none-owned first n spare k x small is =
+    rw (le-leb first x (omega arith), le-ltb x (first + n) (omega arith))
 
 module _ (g : Geometry) (r : Region) (spare : List ℕ) where
   pub owns-decided : (k p : ℕ) → Decides (owns (first-page g r) (region-pages g r) spare k p) (Names g r spare k (Place p))

@@ -2,18 +2,17 @@
 use Prim.Native.Nat.{ℕ, zero, suc, _+_, _≤_, _<_}
 use native.Mathlib.Omega.{arith}
 use native.Mathlib.Numerals.{add-one}
-use mathlib.Core.Path.{_≡_, refl, ap, sym, _∙_}
+use mathlib.Core.Path.{_≡_, refl, ap, sym, _∙_, subst}
 use mathlib.Core.Bool.{Bool, true, false, cond}
 use mathlib.Core.List.{List}
-use lib.Dec.{leb, ltb}
 use lib.ListN.{length, getD}
-use borrow.Author.Tests.{le-leb, le-ltb, eq-eqb, ne-eqb}
+use borrow.Author.Tests.{eq-eqb, ne-eqb}
 use Rattle.scope.specs.Counting.{count}
 use Rattle.scope.specs.Geometry.{most-pages}
 use Rattle.scope.specs.Lent.{none, Place, Nowhere, decode}
 use Rattle.lent.specs.Decoded.{of-place, of-nowhere}
 use Rattle.flash.specs.Counting.{count-le}
-use Rattle.soundness.specs.Named.{owns, names-page}
+use Rattle.soundness.specs.Named.{owns, names-page, none-owned}
 use Rattle.soundness.specs.declared.tally.Tally.{Tally}
 
 -- Both counts can grow by n.
@@ -30,6 +29,13 @@ pub record Tallied (t r : Tally) (n : ℕ) (named good : ℕ → Bool) : Type 0 
   pub named-more : r .named ≡ t .named + count n named
   pub good-more : r .good ≡ t .good + count n good
 
+-- Nothing counted yet.
+abbrev pub nothing : Tally
+nothing = record { named = 0; good = 0 }
+
+pub room-enough : Room nothing 4294967295
+room-enough = record { named-fits = omega arith; good-fits = omega arith }
+
 -- The tests of word i of a list: it names a page; it names the page of the owner `from + i`.
 abbrev pub word-named : List ℕ → ℕ → Bool
 word-named words i = names-page (getD words i none)
@@ -37,16 +43,18 @@ word-named words i = names-page (getD words i none)
 abbrev pub word-good : List ℕ → ℕ → List ℕ → ℕ → ℕ → ℕ → Bool
 word-good words from spare first n i = owns first n spare (from + i) (getD words i none)
 
--- *none* is no page of a region; a word that is a page's number counts as named, and as good where the page is its owner's.
+-- The counts of t with the words of a list more, for the owners from `from` on, of the n pages from page 0 on.
+abbrev pub Tallied-words : List ℕ → ℕ → List ℕ → ℕ → Tally → Tally → Type 0
+Tallied-words words from spare n t r = Tallied t r (length words) (word-named words) (word-good words from spare 0 n)
+
+-- *none* counts as neither; a word that is a page's number counts as named, and as good where the page is its owner's.
 pub word-nowhere : (t : Tally) (x k : ℕ) (spare : List ℕ) (first n : ℕ) → first + n ≤ most-pages → Nowhere ≡ decode x
     → Tallied-word t t (names-page x) (owns first n spare k x)
 word-nowhere t x k spare first n small e =
     let is : x ≡ none = of-nowhere x e in
-    let low : leb first x ≡ true = le-leb first x (omega arith) in
-    let out : ltb x (first + n) ≡ false = le-ltb x (first + n) (omega arith) in
     record {
       named-more = rw (eq-eqb x none is) (omega arith);
-      good-more = rw (low, out) (omega arith);
+      good-more = rw (none-owned first n spare k x small is) (omega arith);
     }
 
 pub word-place : (t r : Tally) (x k : ℕ) (spare : List ℕ) (first n p : ℕ) → Place p ≡ decode x
@@ -78,3 +86,9 @@ tallied-room t s i m n named good h room fits =
       named-fits = omega (arith, h .named-more, count-le i named, room .named-fits);
       good-fits = omega (arith, h .good-more, count-le i good, room .good-fits);
     }
+
+-- The walk's end.
+pub tallied-done : {t s : Tally} {named good : ℕ → Bool} (i n : ℕ) → Tallied t s i named good → i ≤ n → n ≤ i → Tallied t s n named good
+tallied-done {t} {s} {named} {good} i n h low high =
+    let done : i ≡ n = omega arith in
+    subst (λ (k : ℕ). Tallied t s k named good) done h

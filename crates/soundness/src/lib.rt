@@ -7,6 +7,7 @@ pub mod erased;
 pub mod geometry;
 pub mod owners;
 pub mod pages;
+pub mod places;
 pub mod stored;
 pub mod tally;
 pub mod window;

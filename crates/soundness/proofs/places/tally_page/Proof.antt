@@ -1,0 +1,117 @@
+-- `soundness::places::tally_page` meets its contract: a page that rule 4 lets the directory name is on the chip, and where it names none
+-- nothing is stored.
+use native.Mathlib.Omega.{arith}
+use mathlib.Core.Path.{_≡_, ap, sym, _∙_}
+use mathlib.Core.List.{List}
+use Prim.Native.Nat.{ℕ, _*_, _+_, _≤_, _<_}
+use lib.ListN.{length, getD}
+use borrow.Author.Needs.{needs}
+use denote.Ref.{now}
+use Rattle.lent.specs.Model.{geometry, entry}
+use Rattle.scope.specs.Lent.{Place, decode, chip-size, directory-size, named}
+use Rattle.scope.specs.Geometry.{Geometry, Accepted, M}
+use Rattle.scope.specs.Sound.{Directory-names}
+use Rattle.words.specs.Runs.{getD-any}
+use Rattle.soundness.specs.Named.{data-small}
+use Rattle.soundness.specs.Translated.{page-nowhere, page-place, page-starts, named-on-chip, words-on-chip}
+use Rattle.soundness.proofs.places.tally_page.Statement.{statement}
+use Rattle.soundness.proofs.places.tally_page.Tie as tie
+
+-- The code's word of the directory is the definition's, and a page that it names has its words on the chip.
+read-here : (directory : List ℕ) (t : ℕ) → t < length directory → decode (getD directory t 0) ≡ named t directory
+read-here directory t h = ap decode (getD-any directory t 0 4294967295 h)
+
+on-chip : (g : Geometry) (chip spare directory : List ℕ) (t q : ℕ) → length chip ≡ chip-size g → length directory ≡ directory-size g
+    → Directory-names g spare directory → t < M g → Place q ≡ decode (getD directory t 0) → q * g .W + g .W ≤ length chip
+on-chip g chip spare directory t q long few names h e =
+    words-on-chip g q (length chip) (named-on-chip g spare directory t q names h (e ∙ read-here directory t (omega arith))) long
+
+mul-decode : tie.Need-mul-decode
+mul-decode c = search needs
+
+shared-slice-read-decode : tie.Need-shared-slice-read-decode
+shared-slice-read-decode c = search needs
+
+decode-requires : tie.Need-decode-requires
+decode-requires c κs = search needs
+
+enum-known-e : tie.Need-enum-known-e
+enum-known-e c = search needs
+
+enum-told : tie.Need-enum-told
+enum-told c = search needs
+
+returns : tie.Need-returns
+returns c =
+    let a = c .before .before .before .before .before .before .before .args in
+    let pre = c .before .before .before .before .before .before .before .pre in
+    let g = geometry (a .g) in
+    page-nowhere g (pre .0) (data-small g (pre .0)) (now (a .chip)) (now (a .spare)) (now (a .directory)) (a .t) (a .sum)
+    (ap entry (sym (c .enum-told .given .1)) ∙ c .before .before .decode .ensures ∙ read-here (now (a .directory)) (a .t) (omega (arith, pre .1 .1 .1 .0, pre .1 .1 .1 .1 .1)))
+
+cast-w : tie.Need-cast-w
+cast-w c = search needs
+
+cast-at : tie.Need-cast-at
+cast-at c = search needs
+
+mul-at : tie.Need-mul-at
+mul-at c =
+    let a = c .before .before .before .before .before .before .before .before .before .args in
+    let pre = c .before .before .before .before .before .before .before .before .before .pre in
+    omega (
+      arith,
+      c .before .before .before .before .before .before .before .before .before .good,
+      on-chip (geometry (a .g)) (now (a .chip)) (now (a .spare)) (now (a .directory)) (a .t) _ (pre .1 .0) (pre .1 .1 .1 .0)
+          (pre .1 .1 .1 .1 .0) (pre .1 .1 .1 .1 .1) (ap entry (sym (c .before .before .e .given .1)) ∙ c .before .before .before .before .decode .ensures),
+    )
+
+mul-from : tie.Need-mul-from
+mul-from c =
+    let a = c .before .before .before .before .before .before .before .before .before .args in
+    let pre = c .before .before .before .before .before .before .before .before .before .pre in
+    omega (arith, page-starts (geometry (a .g)) (pre .0 .W-from) (a .t) (pre .1 .1 .1 .1 .1), c .before .before .before .before .before .before .before .before .before .fits)
+
+tally-held-requires : tie.Need-tally-held-requires
+tally-held-requires c κs =
+    let a = c .before .before .before .before .before .before .before .before .before .args in
+    let pre = c .before .before .before .before .before .before .before .before .before .pre in (
+      pre .0,
+      (
+        (
+          on-chip (geometry (a .g)) (now (a .chip)) (now (a .spare)) (now (a .directory)) (a .t) _ (pre .1 .0) (pre .1 .1 .1 .0)
+              (pre .1 .1 .1 .1 .0) (pre .1 .1 .1 .1 .1) (ap entry (sym (c .before .before .e .given .1)) ∙ c .before .before .before .before .decode .ensures),
+          omega (arith, page-starts (geometry (a .g)) (pre .0 .W-from) (a .t) (pre .1 .1 .1 .1 .1)),
+          pre .1 .1 .1 .1 .2,
+        ),
+        pre .1 .1 .0,
+      ),
+    )
+
+returns-2 : tie.Need-returns-2
+returns-2 c =
+    let a = c .before .before .before .before .before .before .before .before .before .before .args in
+    let pre = c .before .before .before .before .before .before .before .before .before .before .pre in
+    let g = geometry (a .g) in
+    let e = ap entry (sym (c .before .before .before .e .given .1)) ∙ c .before .before .before .before .before .decode .ensures in
+    page-place g (pre .0) (data-small g (pre .0)) (now (a .chip)) (now (a .spare)) (now (a .directory)) (a .t) (a .sum) (c .tally-held .result) _
+    (e ∙ read-here (now (a .directory)) (a .t) (omega (arith, pre .1 .1 .1 .0, pre .1 .1 .1 .1 .1)))
+    (on-chip g (now (a .chip)) (now (a .spare)) (now (a .directory)) (a .t) _ (pre .1 .0) (pre .1 .1 .1 .0) (pre .1 .1 .1 .1 .0) (pre .1 .1 .1 .1 .1) e)
+    (c .tally-held .ensures)
+
+pub tally-page-spec : {M : Type 1} → statement M
+tally-page-spec =
+    tie.close
+    (tie.spec
+    mul-decode
+    shared-slice-read-decode
+    decode-requires
+    enum-known-e
+    enum-told
+    returns
+    cast-w
+    cast-at
+    mul-at
+    mul-from
+    tally-held-requires
+    returns-2)

@@ -1,0 +1,177 @@
+-- The translation pages in order, as rule 6 walks them: page t holds the logical pages from t * W on, W of them or as many as L leaves,
+-- and of the last page alone there are words past L.
+use Prim.Native.Nat.{ℕ, zero, suc, _+_, _*_, _-_, _/_, _%_, min, _≤_, _<_}
+use native.Mathlib.Nat.{le-div-iff-mul-le, lt-div-mul-add, mul-add-div-right, mul-add-mod-self-right, div-eq-of-lt, mod-eq-of-lt, suc-mul, mul-le-mul-right, add-zero}
+use native.Mathlib.Numerals.{add-one}
+use native.Mathlib.Omega.{arith}
+use mathlib.Core.Path.{_≡_, refl, sym, ap, _∙_, subst}
+use mathlib.Core.Bool.{Bool, true, false, not, _||_}
+use mathlib.Core.List.{List}
+use lib.Dec.{eqb, leb}
+use lib.ListN.{length, getD, take, drop, length-take, length-drop}
+use lib.Seq.{getD-take, getD-drop}
+use borrow.Author.Tests.{le-leb, lt-leb}
+use Rattle.scope.specs.Counting.{all, count}
+use Rattle.scope.specs.Decisions.{none-past-L}
+use Rattle.scope.specs.Geometry.{Geometry, Accepted, M, pages, most-pages}
+use Rattle.scope.specs.Lent.{none, Entry, Place, Nowhere, decode, word-of, named, chip-size, logical-at, physical-at}
+use Rattle.scope.specs.Regions.{Translation}
+use Rattle.scope.specs.Sound.{stored, Names, Directory-names}
+use Rattle.flash.specs.Cases.{same?, below?, is-false}
+use Rattle.flash.specs.Counting.{all-each, each-all, count-same, count-none, count-add}
+use Rattle.flash.specs.Places.{page-on-chip}
+use Rattle.soundness.specs.Bools.{same-test}
+use Rattle.soundness.specs.Erased.{is-erased-word}
+use Rattle.soundness.specs.Named.{owns, names-page, none-owned}
+use Rattle.soundness.specs.Stored.{stored-nowhere, stored-place}
+use Rattle.soundness.specs.Tally.{Tallied, Tallied-words, word-named, word-good, tallied-start}
+use Rattle.soundness.specs.declared.tally.Tally.{Tally}
+
+-- How many logical pages translation page t holds.
+abbrev pub held : Geometry → ℕ → ℕ
+held g t = min (g .W) (g .L - t * g .W)
+
+-- The words from `at` on that hold the places of the logical pages from `from` on: W of them, or as many as L leaves.
+abbrev pub held-words : Geometry → List ℕ → ℕ → ℕ → List ℕ
+held-words g chip at from = take (min (g .W) (g .L - from)) (drop at chip)
+
+-- The part of the chip that the code lends for them.
+abbrev pub lent-part : List ℕ → ℕ → ℕ → List ℕ
+lent-part chip at n = take (at + n - at) (drop at chip)
+
+module _ (g : Geometry) (chip : List ℕ) (at from n : ℕ) (is : n ≡ min (g .W) (g .L - from)) where
+  pub part-held : lent-part chip at n ≡ held-words g chip at from
+  part-held =
+      let same : at + n - at ≡ min (g .W) (g .L - from) = omega arith in
+      ap (λ (k : ℕ). take k (drop at chip)) same
+
+  pub part-short : (length (lent-part chip at n) ≤ g .W) × (length (lent-part chip at n) ≤ g .L - from)
+  part-short = rw part-held (simp length-take (omega arith))
+
+module _ (g : Geometry) (W-from : 1 ≤ g .W) where
+  -- Each translation page holds some logical page, and all of them hold every one.
+  pub page-starts : (t : ℕ) → t < M g → t * g .W < g .L
+  page-starts t h =
+      let fits : suc t * g .W ≤ g .L + (g .W - 1) = le-div-iff-mul-le W-from .0 h in
+      omega (arith, suc-mul t (g .W))
+
+  pub pages-cover : g .L ≤ M g * g .W
+  pages-cover = omega (arith, lt-div-mul-add {a = g .L + (g .W - 1)} {b = g .W} W-from)
+
+  -- Logical page t * W + i is at word i of translation page t.
+  pub page-of : (t i : ℕ) → i < g .W → (t * g .W + i) / g .W ≡ t
+  page-of t i h = mul-add-div-right W-from t i ∙ ap (λ (x : ℕ). t + x) (div-eq-of-lt h) ∙ add-zero t
+
+  pub word-in : (t i : ℕ) → i < g .W → (t * g .W + i) % g .W ≡ i
+  word-in t i h = mul-add-mod-self-right t (g .W) i ∙ mod-eq-of-lt h
+
+  module _ (chip directory : List ℕ) (t : ℕ) where
+    pub stored-in-page : (q i : ℕ) → i < g .W → Place q ≡ named t directory → stored g chip directory (t * g .W + i) ≡ word-of g q i chip
+    stored-in-page q i h e =
+        sym (stored-place g chip directory (t * g .W + i) q (e ∙ ap (λ (k : ℕ). named k directory) (sym (page-of t i h))))
+        ∙ ap (λ (k : ℕ). word-of g q k chip) (word-in t i h)
+
+    pub stored-in-none : (i : ℕ) → i < g .W → Nowhere ≡ named t directory → stored g chip directory (t * g .W + i) ≡ none
+    stored-in-none i h e =
+        sym (stored-nowhere g chip directory (t * g .W + i) (e ∙ ap (λ (k : ℕ). named k directory) (sym (page-of t i h))))
+
+-- What is counted of the words that flash stores: of logical page l.
+abbrev pub stored-named : Geometry → List ℕ → List ℕ → ℕ → Bool
+stored-named g chip directory l = names-page (stored g chip directory l)
+
+abbrev pub stored-good : Geometry → List ℕ → List ℕ → List ℕ → ℕ → Bool
+stored-good g chip spare directory l = owns 0 (g .D * g .P) spare l (stored g chip directory l)
+
+-- Of the entry at rank i: the place that the cache has, and the word of flash that it hides.
+abbrev pub cached-named : List ℕ → ℕ → Bool
+cached-named cache i = names-page (physical-at i cache)
+
+abbrev pub cached-good : ℕ → List ℕ → List ℕ → ℕ → Bool
+cached-good n cache spare i = owns 0 n spare (logical-at i cache) (physical-at i cache)
+
+abbrev pub hidden-named : Geometry → List ℕ → List ℕ → List ℕ → ℕ → Bool
+hidden-named g chip directory cache i = stored-named g chip directory (logical-at i cache)
+
+abbrev pub hidden-good : Geometry → List ℕ → List ℕ → List ℕ → List ℕ → ℕ → Bool
+hidden-good g chip spare directory cache i = stored-good g chip spare directory (logical-at i cache)
+
+-- A translation page's words, as many as it holds logical pages, counted.
+abbrev pub Tallied-page : Geometry → List ℕ → List ℕ → List ℕ → ℕ → Tally → Tally → Type 0
+Tallied-page g chip spare directory t s r =
+    Tallied s r (held g t)
+    (λ i. stored-named g chip directory (t * g .W + i))
+    (λ i. stored-good g chip spare directory (t * g .W + i))
+
+module _ (g : Geometry) (ok : Accepted g) (small : 0 + g .D * g .P ≤ most-pages) (chip spare directory : List ℕ) (t : ℕ) where
+  pub page-nowhere : (s : Tally) → Nowhere ≡ named t directory → Tallied-page g chip spare directory t s s
+  page-nowhere s e =
+      let is : (i : ℕ) → i < held g t → stored g chip directory (t * g .W + i) ≡ none =
+      λ i h. stored-in-none g (ok .W-from) chip directory t i (omega arith) e in
+      record {
+        named-more = omega (arith, count-none (held g t) (λ i. stored-named g chip directory (t * g .W + i)) (λ i h. rw (is i h)));
+        good-more = omega (
+          arith,
+          count-none (held g t) (λ i. stored-good g chip spare directory (t * g .W + i)) (λ i h.
+              none-owned 0 (g .D * g .P) spare (t * g .W + i) (stored g chip directory (t * g .W + i)) small (is i h)),
+        );
+      }
+
+  pub page-place : (s r : Tally) (q : ℕ) → Place q ≡ named t directory → q * g .W + g .W ≤ length chip
+      → Tallied-words (held-words g chip (q * g .W) (t * g .W)) (t * g .W) spare (g .D * g .P) s r
+      → Tallied-page g chip spare directory t s r
+  page-place s r q e fits h =
+      let words : List ℕ = held-words g chip (q * g .W) (t * g .W) in
+      let long : length words ≡ held g t = simp (length-take, length-drop) (omega arith) in
+      let at : (i : ℕ) → i < held g t → getD words i none ≡ stored g chip directory (t * g .W + i) =
+      λ i k.
+      getD-take (held g t) (drop (q * g .W) chip) i none k ∙ getD-drop (q * g .W) chip i none
+      ∙ sym (stored-in-page g (ok .W-from) chip directory t q i (omega arith) e) in
+      record {
+        named-more = h .named-more ∙ ap (λ (k : ℕ). s .named + k)
+            (ap (λ (k : ℕ). count k (word-named words)) long
+            ∙ count-same (held g t) _ _ (λ i k. ap names-page (at i k)));
+        good-more = h .good-more ∙ ap (λ (k : ℕ). s .good + k)
+            (ap (λ (k : ℕ). count k (word-good words (t * g .W) spare 0 (g .D * g .P))) long
+            ∙ count-same (held g t) _ _ (λ i k. ap (owns 0 (g .D * g .P) spare (t * g .W + i)) (at i k)));
+      }
+
+-- The first t translation pages' words counted, and one page's more.
+abbrev pub Tallied-pages : Geometry → List ℕ → List ℕ → List ℕ → ℕ → Tally → Tally → Type 0
+Tallied-pages g chip spare directory t s r =
+    Tallied s r (min (t * g .W) (g .L)) (stored-named g chip directory) (stored-good g chip spare directory)
+
+pub pages-start : (g : Geometry) (chip spare directory : List ℕ) (s : Tally) → Tallied-pages g chip spare directory 0 s s
+pages-start g chip spare directory s =
+    let none-yet : 0 ≡ min (0 * g .W) (g .L) = omega arith in
+    subst (λ (n : ℕ). Tallied s s n (stored-named g chip directory) (stored-good g chip spare directory)) none-yet (tallied-start s _ _)
+
+module _ (g : Geometry) (ok : Accepted g) (chip spare directory : List ℕ) where
+  pub pages-more : (t : ℕ) (s₀ s r : Tally) → t < M g → Tallied-pages g chip spare directory t s₀ s
+      → Tallied-page g chip spare directory t s r → Tallied-pages g chip spare directory (t + 1) s₀ r
+  pages-more t s₀ s r h before page =
+      let starts : t * g .W < g .L = page-starts g (ok .W-from) t h in
+      let at : min (t * g .W) (g .L) ≡ t * g .W = omega arith in
+      let next : min ((t + 1) * g .W) (g .L) ≡ t * g .W + held g t = omega (arith, ap (λ (k : ℕ). k * g .W) (add-one t), suc-mul t (g .W)) in
+      record {
+        named-more = rw (next, count-add (t * g .W) (held g t) (stored-named g chip directory))
+            (omega (arith, page .named-more, subst (λ (k : ℕ). s .named ≡ s₀ .named + count k (stored-named g chip directory)) at (before .named-more)));
+        good-more = rw (next, count-add (t * g .W) (held g t) (stored-good g chip spare directory))
+            (omega (arith, page .good-more, subst (λ (k : ℕ). s .good ≡ s₀ .good + count k (stored-good g chip spare directory)) at (before .good-more)));
+      }
+
+  -- All of them: the words of every logical page.
+  pub pages-done : (s r : Tally) (t : ℕ) → M g ≤ t → t ≤ M g → Tallied-pages g chip spare directory t s r
+      → Tallied s r (g .L) (stored-named g chip directory) (stored-good g chip spare directory)
+  pages-done s r t h k done =
+      let is : t ≡ M g = omega arith in
+      let all : min (t * g .W) (g .L) ≡ g .L = omega (arith, pages-cover g (ok .W-from), ap (λ (x : ℕ). x * g .W) is) in
+      subst (λ (n : ℕ). Tallied s r n (stored-named g chip directory) (stored-good g chip spare directory)) all done
+
+-- By rule 4 a page that the directory names is on the chip, with all its words.
+pub named-on-chip : (g : Geometry) (spare directory : List ℕ) (t q : ℕ) → Directory-names g spare directory → t < M g
+    → Place q ≡ named t directory → q < pages g
+named-on-chip g spare directory t q names h e =
+    page-on-chip g Translation q (subst (Names g Translation spare t) (sym e) (names t h) .0)
+
+pub words-on-chip : (g : Geometry) (q n : ℕ) → q < pages g → n ≡ chip-size g → q * g .W + g .W ≤ n
+words-on-chip g q n h e = omega (arith, suc-mul q (g .W), mul-le-mul-right {m = suc q} {n = pages g} (g .W) h)
