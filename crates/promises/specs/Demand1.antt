@@ -14,7 +14,7 @@ use Rattle.scope.specs.Replies.{DONE, UNWRITTEN, GEOMETRY, LENGTH, DAMAGED, KIN
 use Rattle.scope.specs.Requests.{replied, read-steps}
 use Rattle.scope.specs.Calls.{no-request, part, serve-records, check, read, write, run}
 use Rattle.flash.specs.Cases.{same?, below?}
-use Rattle.promises.specs.Demands.{Refuses, Unchanged, Refusal, Demand-1, Demand-1-record, before-record}
+use Rattle.promises.specs.Demands.{Grounds, Refuses, Unchanged, Refusal, Demand-1, Demand-1-record, before-record}
 use Rattle.promises.specs.Tests.{Reason, Given, Tested}
 use Rattle.promises.specs.Refusals.{read-reply, write-reply, record-tested, format-tested, check-tested, read-tested, write-tested, run-tested}
 use Rattle.promises.specs.Records.{answer-of, record-stores, final-answer, kept-words}
@@ -31,10 +31,20 @@ given-within (r ∷ rs) h n x =
     (λ e. omega (arith, h .0))
     (λ e. given-within rs (h .1) n ((rw (ne-eqb (r .number) n e) at x) .1))
 
+abbrev grounds-of : List Reason → Grounds
+grounds-of rs =
+    record {
+      geometry = Given rs GEOMETRY;
+      lengths = Given rs LENGTH;
+      damaged = Given rs DAMAGED;
+      kind = Given rs KIND;
+      page = Given rs PAGE;
+    }
+
 module _ {A : Type 0} {rs : List Reason} {reply : A → ℕ} {refused : ℕ → A} {steps : Step A} {s : State} {o : Outcome A}
     (t : Tested rs reply refused steps s o) where
   -- The answers, number by number.
-  refuses : Numbered rs → Refuses (reply (o .value)) (Given rs GEOMETRY) (Given rs LENGTH) (Given rs DAMAGED) (Given rs KIND) (Given rs PAGE)
+  refuses : Numbered rs → Refuses (reply (o .value)) (grounds-of rs)
   refuses h =
       record {
         geometry = t .answers GEOMETRY (omega arith);
@@ -52,8 +62,9 @@ module _ {A : Type 0} {rs : List Reason} {reply : A → ℕ} {refused : ℕ → 
   unfolding give
   unchanged h = record { state = ap (λ o. o .after) (t .refuses h); operations = ap (λ o. o .did) (t .refuses h) }
 
--- What no reason has is never given.
-renamed : {n : ℕ} {a b c d e a′ b′ c′ d′ e′ : Type 0} → (a ↔ a′) → (b ↔ b′) → (c ↔ c′) → (d ↔ d′) → (e ↔ e′) → Refuses n a b c d e → Refuses n a′ b′ c′ d′ e′
+-- The same grounds, said otherwise.
+renamed : {n : ℕ} {a b : Grounds} → (a .geometry ↔ b .geometry) → (a .lengths ↔ b .lengths) → (a .damaged ↔ b .damaged) → (a .kind ↔ b .kind)
+    → (a .page ↔ b .page) → Refuses n a → Refuses n b
 renamed p q r v w h =
     record {
       geometry = Iff·trans (h .geometry) p;
@@ -64,6 +75,7 @@ renamed p q r v w h =
       no-other = h .no-other;
     }
 
+-- What no reason has is never given.
 never : {X : Type 0} → (X → ⊥) → X ↔ ⊥
 never f = (f, λ z. absurd z)
 
@@ -170,7 +182,7 @@ module _ (g : Geometry) (s : State) where
             (refuses (format-tested g boundary s) (omega arith));
         format-unchanged = λ boundary. unchanged (format-tested g boundary s);
         check-refuses = λ boundary.
-            renamed Iff·rfl Iff·rfl Iff·rfl (never (λ x. x .1 .1 .1)) (never (λ x. x .1 .1 .1))
+            renamed Iff·rfl Iff·rfl Iff·rfl (never (λ x. x .1 .1 .1)) Iff·rfl
             (refuses (check-tested g boundary s) (omega arith));
         check-unchanged = check-unchanged;
         read-refuses = λ boundary l buffer.
@@ -184,7 +196,7 @@ module _ (g : Geometry) (s : State) where
         write-unchanged = λ boundary l buffer. unchanged (write-tested g boundary l buffer s);
         write-keeps = λ boundary l buffer. write-keeps g boundary l buffer s;
         run-refuses = λ boundary requests words answers.
-            renamed Iff·rfl Iff·rfl Iff·rfl (never (λ x. x .1 .1 .1)) (never (λ x. x .1 .1 .1))
+            renamed Iff·rfl Iff·rfl Iff·rfl (never (λ x. x .1 .1 .1)) Iff·rfl
             (refuses (run-tested g boundary requests words answers s) (omega arith));
         run-unchanged = λ boundary requests words answers. run-unchanged g boundary requests words answers s;
         record-of-run = λ boundary requests words answers. record-of-run g boundary requests words answers s;

@@ -1,7 +1,7 @@
 -- The three demands, as statements about the definitions of document 01. Beside those definitions a reader needs `cost`, `Allowed`
 -- and `Clears-each` of crate flash, three recursions over a list of operations, and what stands here: a list of calls, the store
 -- that a program may remember from them, and the demands themselves.
--- Kept.antt has the theorems: `demand-1`, `demand-2` and `demand-3`.
+-- The theorems are `demand-1` of Demand1.antt, and `demand-2` and `demand-3` of Sequences.antt.
 use Prim.Native.Nat.{ℕ, zero, suc, _+_, _*_, _≤_, _<_}
 use mathlib.Core.Path.{_≡_}
 use mathlib.Core.Logic.{_≢_, _↔_, _⊎_}
@@ -30,14 +30,47 @@ abbrev pub Wrong : List Size → Type 0
 Wrong [] = ⊥
 Wrong (z ∷ zs) = (z .has ≢ z .should) ⊎ Wrong zs
 
--- Each refusal is answered exactly where it is to be, and no number that 01 doesn't have.
-pub record Refuses (reply : ℕ) (Geometry-refused Length-refused Damaged Kind-refused Page-refused : Type 0) : Type 0 where
-  pub geometry : (reply ≡ GEOMETRY) ↔ Geometry-refused
-  pub lengths : (reply ≡ LENGTH) ↔ Length-refused
-  pub damaged : (reply ≡ DAMAGED) ↔ Damaged
-  pub kind : (reply ≡ KIND) ↔ Kind-refused
-  pub page : (reply ≡ PAGE) ↔ Page-refused
+-- What each refusal is given for.
+pub record Grounds : Type 1 where
+  pub geometry : Type 0
+  pub lengths : Type 0
+  pub damaged : Type 0
+  pub kind : Type 0
+  pub page : Type 0
+
+-- Each number is answered exactly on its grounds, and none that 01 doesn't have.
+pub record Refuses (reply : ℕ) (on : Grounds) : Type 0 where
+  pub geometry : (reply ≡ GEOMETRY) ↔ on .geometry
+  pub lengths : (reply ≡ LENGTH) ↔ on .lengths
+  pub damaged : (reply ≡ DAMAGED) ↔ on .damaged
+  pub kind : (reply ≡ KIND) ↔ on .kind
+  pub page : (reply ≡ PAGE) ↔ on .page
   pub no-other : reply ≤ PAGE
+
+-- The lengths are right; some length is wrong. `boundary` stands for the lengths that only C lends.
+abbrev pub Fits : List Size → Bool → Type 0
+Fits sizes boundary = Right sizes × (boundary ≡ true)
+
+abbrev pub Misfits : List Size → Bool → Type 0
+Misfits sizes boundary = Wrong sizes ⊎ (boundary ≡ false)
+
+-- "Tests go in number order and the first that applies answers": those of format, of a call that tests the state, and of a record.
+abbrev pub format-grounds : Geometry → Type 0 → Grounds
+format-grounds g misfits = record { geometry = ¬ (Accepted g); lengths = Accepted g × misfits; damaged = ⊥; kind = ⊥; page = ⊥ }
+
+abbrev pub state-grounds : Geometry → State → (fits misfits page-refused : Type 0) → Grounds
+state-grounds g s fits misfits page-refused =
+    record {
+      geometry = ¬ (Accepted g);
+      lengths = Accepted g × misfits;
+      damaged = Accepted g × (fits × (¬ (Sound g s)));
+      kind = ⊥;
+      page = Accepted g × (fits × (Sound g s × page-refused));
+    }
+
+abbrev pub record-grounds : Geometry → Request → Grounds
+record-grounds g q =
+    record { geometry = ⊥; lengths = ⊥; damaged = ⊥; kind = 2 ≤ q .kind; page = (q .kind < 2) × (g .L ≤ q .page) }
 
 -- "Unchanged", and no operation, so that the counts are 0, 0, 0.
 pub record Unchanged {A : Type 0} (s : State) (o : Outcome A) : Type 0 where
@@ -57,18 +90,9 @@ own g requests words answers s i =
     let before = before-record g requests words answers s i in
     serve-record g i (getD requests i no-request) (before .value) (before .after)
 
--- The geometry is accepted and the lengths are right; some length is wrong. `boundary` stands for the lengths that only C lends.
-abbrev pub Fits : Geometry → List Size → Bool → Type 0
-Fits g sizes boundary = Right sizes × (boundary ≡ true)
-
-abbrev pub Misfits : Geometry → List Size → Bool → Type 0
-Misfits g sizes boundary = Wrong sizes ⊎ (boundary ≡ false)
-
 -- Of record i of a run that is not itself refused: "each record gets its own number and the run goes on".
 pub record Demand-1-record (g : Geometry) (requests : List Request) (words answers : List ℕ) (s : State) (o : Outcome RunReplied) (i : ℕ) : Type 0 where
-  pub refuses :
-      let q = getD requests i no-request in
-      Refuses (getD (o .value .answers) i none) ⊥ ⊥ ⊥ (2 ≤ q .kind) ((q .kind < 2) × (g .L ≤ q .page))
+  pub refuses : Refuses (getD (o .value .answers) i none) (record-grounds g (getD requests i no-request))
   pub unchanged : Refusal (getD (o .value .answers) i none)
       → Unchanged (before-record g requests words answers s i .after) (own g requests words answers s i)
   -- "The words of an UNWRITTEN or refused read stay", and so do a write's.
@@ -78,24 +102,16 @@ pub record Demand-1-record (g : Geometry) (requests : List Request) (words answe
 -- Of one call from any state whatever, sound or not.
 pub record Demand-1 (g : Geometry) (s : State) : Type 0 where
   pub format-refuses : (boundary : Bool) →
-      Refuses (format g boundary s .value) (¬ (Accepted g)) (Accepted g × Misfits g (state-sizes g s) boundary) ⊥ ⊥ ⊥
+      Refuses (format g boundary s .value) (format-grounds g (Misfits (state-sizes g s) boundary))
   pub format-unchanged : (boundary : Bool) → Refusal (format g boundary s .value) → Unchanged s (format g boundary s)
   pub check-refuses : (boundary : Bool) →
-      Refuses (check g boundary s .value)
-      (¬ (Accepted g))
-      (Accepted g × Misfits g (state-sizes g s) boundary)
-      (Accepted g × (Fits g (state-sizes g s) boundary × (¬ (Sound g s))))
-      ⊥
-      ⊥
+      let sizes = state-sizes g s in
+      Refuses (check g boundary s .value) (state-grounds g s (Fits sizes boundary) (Misfits sizes boundary) ⊥)
   pub check-unchanged : (boundary : Bool) → Unchanged s (check g boundary s)
   pub read-refuses : (boundary : Bool) (l : ℕ) (buffer : List ℕ) →
       let sizes = state-sizes g s ++ buffer-sizes g buffer in
       Refuses (read g boundary l buffer s .value .reply)
-      (¬ (Accepted g))
-      (Accepted g × Misfits g sizes boundary)
-      (Accepted g × (Fits g sizes boundary × (¬ (Sound g s))))
-      ⊥
-      (Accepted g × (Fits g sizes boundary × (Sound g s × (g .L ≤ l))))
+      (state-grounds g s (Fits sizes boundary) (Misfits sizes boundary) (g .L ≤ l))
   pub read-unchanged : (boundary : Bool) (l : ℕ) (buffer : List ℕ) →
       Refusal (read g boundary l buffer s .value .reply) → Unchanged s (read g boundary l buffer s)
   -- "Read DONE fills the page buffer", and nothing else does; "a write leaves it".
@@ -104,23 +120,16 @@ pub record Demand-1 (g : Geometry) (s : State) : Type 0 where
   pub write-refuses : (boundary : Bool) (l : ℕ) (buffer : List ℕ) →
       let sizes = state-sizes g s ++ buffer-sizes g buffer in
       Refuses (write g boundary l buffer s .value .reply)
-      (¬ (Accepted g))
-      (Accepted g × Misfits g sizes boundary)
-      (Accepted g × (Fits g sizes boundary × (¬ (Sound g s))))
-      ⊥
-      (Accepted g × (Fits g sizes boundary × (Sound g s × (g .L ≤ l))))
+      (state-grounds g s (Fits sizes boundary) (Misfits sizes boundary) (g .L ≤ l))
   pub write-unchanged : (boundary : Bool) (l : ℕ) (buffer : List ℕ) →
       Refusal (write g boundary l buffer s .value .reply) → Unchanged s (write g boundary l buffer s)
   pub write-keeps : (boundary : Bool) (l : ℕ) (buffer : List ℕ) → write g boundary l buffer s .value .buffer ≡ buffer
+  -- "LENGTH: .. or a run has over 1,024 records."
   pub run-refuses : (boundary : Bool) (requests : List Request) (words answers : List ℕ) →
       let sizes = state-sizes g s ++ run-sizes g requests words answers in
       let fits = (Right sizes × (length requests ≤ most-requests)) × (boundary ≡ true) in
-      Refuses (run g boundary requests words answers s .value .reply)
-      (¬ (Accepted g))
-      (Accepted g × ((Wrong sizes ⊎ (most-requests < length requests)) ⊎ (boundary ≡ false)))
-      (Accepted g × (fits × (¬ (Sound g s))))
-      ⊥
-      ⊥
+      let misfits = (Wrong sizes ⊎ (most-requests < length requests)) ⊎ (boundary ≡ false) in
+      Refuses (run g boundary requests words answers s .value .reply) (state-grounds g s fits misfits ⊥)
   pub run-unchanged : (boundary : Bool) (requests : List Request) (words answers : List ℕ) →
       let o = run g boundary requests words answers s in
       Refusal (o .value .reply) → Unchanged s o × (o .value .words ≡ words) × (o .value .answers ≡ answers)
