@@ -63,7 +63,8 @@ module _ {A : Type 0} {rs : List Reason} {reply : A → ℕ} {refused : ℕ → 
   unchanged h = record { state = ap (λ o. o .after) (t .refuses h); operations = ap (λ o. o .did) (t .refuses h) }
 
 -- The same grounds, said otherwise.
-renamed : {n : ℕ} {a b : Grounds} → (a .geometry ↔ b .geometry) → (a .lengths ↔ b .lengths) → (a .damaged ↔ b .damaged) → (a .kind ↔ b .kind)
+renamed : {n : ℕ} {a b : Grounds} → (a .geometry ↔ b .geometry) → (a .lengths ↔ b .lengths) → (a .damaged ↔ b .damaged)
+    → (a .kind ↔ b .kind)
     → (a .page ↔ b .page) → Refuses n a → Refuses n b
 renamed p q r v w h =
     record {
@@ -119,7 +120,8 @@ module _ (g : Geometry) (boundary : Bool) (requests : List Request) (words answe
       → run g boundary requests words answers s ≡ before-record g requests words answers s (length requests)
   run-is-records e = run-tested g boundary requests words answers s .served (omega arith) .1
 
-  pub run-fits : run g boundary requests words answers s .value .reply ≡ DONE → (length words ≡ length requests * g .W) × (length answers ≡ length requests)
+  pub run-fits : run g boundary requests words answers s .value .reply ≡ DONE
+      → (length words ≡ length requests * g .W) × (length answers ≡ length requests)
   run-fits e =
       let sizes = run-tested g boundary requests words answers s .served (omega arith) .0 .1 .0 .0 .0 in
       (sizes .1 .1 .1 .1 .0, sizes .1 .1 .1 .1 .1 .0)
@@ -141,7 +143,8 @@ module _ (g : Geometry) (boundary : Bool) (requests : List Request) (words answe
       let is = record-answer e i h in
       let end = ap (λ o. part g i (o .value .words)) (run-is-records e) in
       record {
-        refuses = rw is (renamed (never (λ x. x .1 .1)) (never (λ x. x .1 .1)) (never (λ x. x .1 .1)) Iff·rfl Iff·rfl (refuses t (omega arith)));
+        refuses = rw is (renamed (never (λ x. x .1 .1)) (never (λ x. x .1 .1)) (never (λ x. x .1 .1)) Iff·rfl Iff·rfl
+            (refuses t (omega arith)));
         unchanged = λ r.
             let u = unchanged t (rw is at r) in
             record { state = stored .state ∙ u .state; operations = stored .operations ∙ ap (λ did. did ++ []) (u .operations) };

@@ -1,7 +1,7 @@
 -- The three demands, as statements about the definitions of document 01. Beside those definitions a reader needs `cost`, `Allowed`
 -- and `Clears-each` of crate flash, three recursions over a list of operations, and what stands here: a list of calls, the store
 -- that a program may remember from them, and the demands themselves.
--- The theorems are `demand-1` of Demand1.antt, and `demand-2` and `demand-3` of Sequences.antt.
+-- The theorems are `demand-1` of Demand1.antt, and `demand-2`, `demand-3` and `formats` of Sequences.antt.
 use Prim.Native.Nat.{ℕ, zero, suc, _+_, _*_, _≤_, _<_}
 use mathlib.Core.Path.{_≡_}
 use mathlib.Core.Logic.{_≢_, _↔_, _⊎_}
@@ -13,7 +13,7 @@ use Rattle.scope.specs.Geometry.{Geometry, Accepted}
 use Rattle.scope.specs.Lent.{none, valid, Entry, Place, Nowhere, decode, State, Request, most-requests, words-of, state-of, owner-of}
 use Rattle.scope.specs.Regions.{Data, Has-page}
 use Rattle.scope.specs.Sound.{Sound, Written, current}
-use Rattle.scope.specs.Operations.{Operation, Outcome}
+use Rattle.scope.specs.Operations.{Operation, Outcome, counted}
 use Rattle.scope.specs.Replies.{DONE, UNWRITTEN, GEOMETRY, LENGTH, DAMAGED, KIND, PAGE, Size}
 use Rattle.scope.specs.Calls.{state-sizes, buffer-sizes, run-sizes, RunReplied, run-replied, part, no-request, serve-record, serve-records, format, check, read, write, run}
 use Rattle.flash.specs.Listed.{cost, Allowed}
@@ -91,7 +91,8 @@ own g requests words answers s i =
     serve-record g i (getD requests i no-request) (before .value) (before .after)
 
 -- Of record i of a run that is not itself refused: "each record gets its own number and the run goes on".
-pub record Demand-1-record (g : Geometry) (requests : List Request) (words answers : List ℕ) (s : State) (o : Outcome RunReplied) (i : ℕ) : Type 0 where
+pub record Demand-1-record (g : Geometry) (requests : List Request) (words answers : List ℕ) (s : State) (o : Outcome RunReplied)
+    (i : ℕ) : Type 0 where
   pub refuses : Refuses (getD (o .value .answers) i none) (record-grounds g (getD requests i no-request))
   pub unchanged : Refusal (getD (o .value .answers) i none)
       → Unchanged (before-record g requests words answers s i .after) (own g requests words answers s i)
@@ -199,7 +200,8 @@ noted-record q words reply store = cond (eqb (q .kind) 1 && eqb reply DONE) (put
 abbrev pub noted-records : Geometry → List Request → List ℕ → List ℕ → ℕ → Store → Store
 noted-records g requests words answers zero store = store
 noted-records g requests words answers (suc i) store =
-    noted-record (getD requests i no-request) (part g i words) (getD answers i none) (noted-records g requests words answers i store)
+    noted-record (getD requests i no-request) (part g i words) (getD answers i none)
+    (noted-records g requests words answers i store)
 
 -- What a call and its answer do to the store.
 abbrev pub noted : Geometry → Call → Answer → Store → Store
@@ -246,7 +248,8 @@ pub record Demand-2 (g : Geometry) (s : State) (calls : List Call) : Type 0 wher
 
 -- "The valid data pages are one for each written logical page."
 pub record One-for-each (g : Geometry) (s : State) : Type 0 where
-  pub page-of : (l : ℕ) → l < g .L → Written g s l → (p : ℕ) × Has-page g Data p × (state-of p (s .spare) ≡ valid) × (owner-of p (s .spare) ≡ l)
+  pub page-of : (l : ℕ) → l < g .L → Written g s l
+      → (p : ℕ) × Has-page g Data p × (state-of p (s .spare) ≡ valid) × (owner-of p (s .spare) ≡ l)
   pub one : (p q : ℕ) → Has-page g Data p → Has-page g Data q → state-of p (s .spare) ≡ valid → state-of q (s .spare) ≡ valid
       → owner-of p (s .spare) ≡ owner-of q (s .spare) → p ≡ q
   pub written : (p : ℕ) → Has-page g Data p → state-of p (s .spare) ≡ valid
@@ -264,6 +267,14 @@ Reads-well g reply did = ((reply ≡ DONE) ⊎ (reply ≡ UNWRITTEN)) × (cost d
 
 abbrev pub Writes-well : Geometry → ℕ → List Operation → Type 0
 Writes-well g reply did = (reply ≡ DONE) × (cost did ≤ write-bound g)
+
+-- Format's state, whatever was lent to it: from there on the demands hold.
+pub record Formats (g : Geometry) (s : State) : Type 0 where
+  pub done : format g true s .value ≡ DONE
+  pub sound : Sound g (format g true s .after)
+  pub lengths-kept : Right (state-sizes g (format g true s .after))
+  pub nothing-held : (l : ℕ) → l < g .L → held g (format g true s .after) l ≡ Nothing
+  pub counts : counted (format g true s .did) ≡ record { reads = 0; programs = 0; erases = g .D + g .T }
 
 -- After any calls.
 pub record Demand-3 (g : Geometry) (s : State) (calls : List Call) : Type 0 where

@@ -61,7 +61,8 @@ module _ {g : Geometry} (ok : Accepted g) (l i : ℕ) where
         at-most-one = f .at-most-one;
         inv =
             record {
-              index = index-same (f .flash) (f .directory) (ap (open-block Translation) (f .small)) (ap (next-offset Translation) (f .small)) (inv .index);
+              index = index-same (f .flash) (f .directory) (ap (open-block Translation) (f .small))
+                  (ap (next-offset Translation) (f .small)) (inv .index);
               cache = record { entries = f .fits; agree = f .agree };
               waiting = f .waiting;
               rank = record { in-use = rw (f .small) (inv .rank .in-use); is-l = f .ranks i ∙ inv .rank .is-l };
@@ -70,7 +71,8 @@ module _ {g : Geometry} (ok : Accepted g) (l i : ℕ) where
       }
 
   -- All that waits is settled.
-  module _ (w : List Mapping) (s : State) (len : Lengths g s) (inv : Follows g l i w s) (o : Outcome (Unit {0})) (did : Index-settled g w s o) where
+  module _ (w : List Mapping) (s : State) (len : Lengths g s) (inv : Follows g l i w s) (o : Outcome (Unit {0}))
+      (did : Index-settled g w s o) where
     after-settled : After-settled g Data (update-bound g) (place-while g) (Follows g l i) w s o
     after-settled =
         record {
@@ -99,7 +101,8 @@ module _ {g : Geometry} (ok : Accepted g) (l i : ℕ) where
             (λ k waits. holds .misses k (inv .waiting .not-cached k waits)) (λ k h _. did .stores k h)
 
   -- Nothing of this rests on the data region.
-  module _ (w : List Mapping) (s s′ : State) (len : Lengths g s) (len′ : Lengths g s′) (same : Same-elsewhere g Data s s′) (inv : Follows g l i w s) where
+  module _ (w : List Mapping) (s s′ : State) (len : Lengths g s) (len′ : Lengths g s′) (same : Same-elsewhere g Data s s′)
+      (inv : Follows g l i w s) where
     same-table : (t : ℕ) → t < M g → table g (s′ .chip) (s′ .directory) t ≡ table g (s .chip) (s .directory) t
     same-table t h =
         ap (λ (directory : List ℕ). table g (s′ .chip) directory t) (same .directory)
@@ -111,7 +114,8 @@ module _ {g : Geometry} (ok : Accepted g) (l i : ℕ) where
     same-places : Places-kept g s s′
     same-places =
         stored-keeps-places g s s′ (cached g s) (cache-holds g s len (inv .cache)) (inv .cache .agree) (same .cache) same-used
-        (λ k h _. stored-same g (s .chip) (s .directory) (s′ .chip) (s′ .directory) (ok .W-from) (len .directory-fits) (len′ .directory-fits) same-table k)
+        (λ k h _. stored-same g (s .chip) (s .directory) (s′ .chip) (s′ .directory) (ok .W-from) (len .directory-fits)
+        (len′ .directory-fits) same-table k)
 
     follows-kept : Follows g l i w s′
     follows-kept =
@@ -130,7 +134,8 @@ module _ {g : Geometry} (ok : Accepted g) (l i : ℕ) where
   cache-follower =
       record {
         moved = moved-law;
-        settled = λ w s len inv. after-settled w s len inv (update-all g w s) (settle-law ok w (inv .waiting .below-L) s len (inv .index));
+        settled = λ w s len inv. after-settled w s len inv (update-all g w s)
+            (settle-law ok w (inv .waiting .below-L) s len (inv .index));
         kept = λ w s s′ len len′ same inv. follows-kept w s s′ len len′ same inv;
         seen = λ w s s′ len len′ same inv k h. ap (latest w k) (same-places w s s′ len len′ same inv .places k h);
       }

@@ -10,7 +10,7 @@ use lib.ListN.{getD, length-replicate, getD-replicate}
 use borrow.Author.Tests.{ltb-true, le-ltb}
 use Rattle.scope.specs.Counting.{lowest}
 use Rattle.scope.specs.Geometry.{Geometry, Accepted, M, blocks, pages}
-use Rattle.scope.specs.Lent.{none, valid, Entry, Place, Nowhere, State, entry-words, directory-size, cache-size, state-of, named, logical-at, translation-page}
+use Rattle.scope.specs.Lent.{none, valid, Place, Nowhere, State, entry-words, directory-size, cache-size, state-of, named, logical-at, translation-page}
 use Rattle.scope.specs.Regions.{Region, Data, Translation, first-block, region-blocks, page-in, Has-block, Has-page}
 use Rattle.scope.specs.SmallRecord.{SmallRecord, fresh, open-block, next-offset}
 use Rattle.scope.specs.Sound.{Page-fits, Blocks-fit, Entries-fit, rank-of, stored, current, Sound}
@@ -50,13 +50,15 @@ erased-pages g (suc n) s len h b i k l =
     record {
       state = same .state ∙ before .state;
       owner = same .owner ∙ before .owner;
-      word = λ j m. word-same g (page-in g b i) (page-in g b i) j (erasing g n s .after .chip) (apply g (Erase n) (erasing g n s .after) .chip) m (same .words) ∙ before .word j m;
+      word = λ j m. word-same g (page-in g b i) (page-in g b i) j (erasing g n s .after .chip)
+          (apply g (Erase n) (erasing g n s .after) .chip) m (same .words) ∙ before .word j m;
       words = same .words ∙ before .words;
     })
     (λ at. rw at (e .pages i l))
 
 -- "Counts 0, 0, D+T", and an erase asks for nothing.
-erasing-counts : (g : Geometry) (n : ℕ) (s : State) → counted (erasing g n s .did) ≡ record { reads = 0; programs = 0; erases = n }
+erasing-counts : (g : Geometry) (n : ℕ) (s : State)
+    → counted (erasing g n s .did) ≡ record { reads = 0; programs = 0; erases = n }
 unfolding erasing for perform give counted _>>=_
 erasing-counts g zero s = refl
 erasing-counts g (suc n) s =
@@ -70,6 +72,9 @@ erasing-allowed g zero s = tt
 erasing-allowed g (suc n) s =
     allowed-++ g (erasing g n s .did) (Erase n ∷ []) s (erasing-allowed g n s) (tt, tt)
 
+nowhere-no-place : {q : ℕ} → Nowhere ≢ Place q
+nowhere-no-place e = let z : _≡_ {A = ℕ} 0 1 = cc in omega arith
+
 -- The state that format leaves.
 abbrev formatted : Geometry → State → State
 formatted g s = format-steps g s .after
@@ -79,7 +84,8 @@ module _ (g : Geometry) (ok : Accepted g) (s : State) (len : Lengths g s) where
   unfolding format-steps erasing set-directory set-cache set-small give _>>=_
   every-page r p h =
       let at = in-block g r p h in
-      rw (at .is-page) (erased-pages g (blocks g) s len (omega arith) (p / g .P) (p % g .P) (block-on-chip g r (p / g .P) (at .has-block)) (at .below-P))
+      rw (at .is-page) (erased-pages g (blocks g) s len (omega arith) (p / g .P) (p % g .P)
+      (block-on-chip g r (p / g .P) (at .has-block)) (at .below-P))
 
   directory-none : (t : ℕ) → t < M g → named t (formatted g s .directory) ≡ Nowhere
   unfolding format-steps erasing set-directory set-cache set-small give _>>=_
@@ -123,13 +129,15 @@ module _ (g : Geometry) (ok : Accepted g) (s : State) (len : Lengths g s) where
         in-region = (omega arith, two r);
         offset-fits = omega arith;
         before-offset = λ i h. absurd (omega arith);
-        from-offset = λ i h _. every-page r (page-in g (first-block g r) i) (page-in-region g r (first-block g r) i (omega arith, two r) h) .state;
+        from-offset = λ i h _. every-page r (page-in g (first-block g r) i)
+            (page-in-region g r (first-block g r) i (omega arith, two r) h) .state;
         others = λ b h _. inl (λ i k. every-page r (page-in g b i) (page-in-region g r b i h k) .state);
         besides = (
           suc (first-block g r),
           second r,
           omega arith,
-          λ i k. every-page r (page-in g (suc (first-block g r)) i) (page-in-region g r (suc (first-block g r)) i (second r) k) .state,
+          λ i k. every-page r (page-in g (suc (first-block g r)) i)
+              (page-in-region g r (suc (first-block g r)) i (second r) k) .state,
         );
       }
     where
@@ -141,7 +149,8 @@ module _ (g : Geometry) (ok : Accepted g) (s : State) (len : Lengths g s) where
       second Data = omega (arith, ok .D-from)
       second Translation = omega (arith, ok .T-from)
 
-  blocks-fit : (r : Region) → Blocks-fit g r (formatted g s .spare) (open-block r (formatted g s .small)) (next-offset r (formatted g s .small))
+  blocks-fit : (r : Region)
+      → Blocks-fit g r (formatted g s .spare) (open-block r (formatted g s .small)) (next-offset r (formatted g s .small))
   blocks-fit Data = rw is-fresh (open-at-first Data)
   blocks-fit Translation = rw is-fresh (open-at-first Translation)
 
@@ -152,7 +161,11 @@ module _ (g : Geometry) (ok : Accepted g) (s : State) (len : Lengths g s) where
         below-L = λ i h. absurd (omega arith);
         different = λ i j h k e. absurd (omega arith);
         changed-fits = λ i h. absurd (omega arith);
-        unused = λ i h _. (cache-none (i * entry-words) (omega arith), cache-none (i * entry-words + 1) (omega arith), cache-none (i * entry-words + 2) (omega arith));
+        unused = λ i h _. (
+          cache-none (i * entry-words) (omega arith),
+          cache-none (i * entry-words + 1) (omega arith),
+          cache-none (i * entry-words + 2) (omega arith),
+        );
       }
 
   not-cached : (l : ℕ) → rank-of g (formatted g s .cache) 0 l ≡ g .C
@@ -170,7 +183,12 @@ module _ (g : Geometry) (ok : Accepted g) (s : State) (len : Lengths g s) where
   -- No page is written.
   pub unwritten : (l : ℕ) → l < g .L → current g (formatted g s) l ≡ none
   unfolding current stored
-  unwritten l h = rw (is-fresh, not-cached l, le-ltb (g .C) (g .C) (omega arith), directory-none (translation-page g l) (page-below ok l h))
+  unwritten l h = rw (
+    is-fresh,
+    not-cached l,
+    le-ltb (g .C) (g .C) (omega arith),
+    directory-none (translation-page g l) (page-below ok l h),
+  )
 
   pub format-sound : Sound g (formatted g s)
   format-sound =
@@ -182,12 +200,13 @@ module _ (g : Geometry) (ok : Accepted g) (s : State) (len : Lengths g s) where
         rule-5 = rw is-fresh entries-fit;
         rule-6 = record {
           current-place = λ l h. rw (unwritten l h) (λ p k v. absurd (none-valid Data p k v));
-          past-L = λ t q i h e k m. let z : _≡_ {A = Entry} Nowhere (Place q) = sym (directory-none t h) ∙ e in let y : _≡_ {A = ℕ} 0 1 = cc in absurd (omega arith);
+          past-L = λ t q i h e k m. absurd (nowhere-no-place (sym (directory-none t h) ∙ e));
         };
         rule-7 = λ i h k. absurd (omega (arith, ap (λ (r : SmallRecord). r .used) is-fresh));
       }
 
-pub format-counts : (g : Geometry) (s : State) → counted (format-steps g s .did) ≡ record { reads = 0; programs = 0; erases = blocks g }
+pub format-counts : (g : Geometry) (s : State)
+    → counted (format-steps g s .did) ≡ record { reads = 0; programs = 0; erases = blocks g }
 unfolding format-steps erasing set-directory set-cache set-small give _>>=_
 format-counts g s = ap counted (append-nil (erasing g (blocks g) s .did)) ∙ erasing-counts g (blocks g) s
 

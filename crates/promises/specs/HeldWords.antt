@@ -15,15 +15,19 @@ use Rattle.promises.specs.Demands.{Words, words-at, held}
 
 module _ {g : Geometry} (ok : Accepted g) where
   -- A page of the region is not empty.
-  not-empty : (chip spare : List ℕ) (l p : ℕ) → length chip ≡ chip-size g → Names g Data spare l (Place p) → words-of g p chip ≡ [] → ⊥
+  not-empty : (chip spare : List ℕ) (l p : ℕ) → length chip ≡ chip-size g → Names g Data spare l (Place p)
+      → words-of g p chip ≡ [] → ⊥
   not-empty chip spare l p len names e =
       omega (arith, length-words-of g p chip (page-on-chip g Data p (names .0)) len, ap length e, ok .W-from)
 
-  same-words : (l : ℕ) (s s′ : State) (e e′ : Entry) → Lengths g s → Lengths g s′ → Names g Data (s .spare) l e → Names g Data (s′ .spare) l e′
+  same-words : (l : ℕ) (s s′ : State) (e e′ : Entry) → Lengths g s → Lengths g s′ → Names g Data (s .spare) l e
+      → Names g Data (s′ .spare) l e′
       → contents g (s′ .chip) e′ ≡ contents g (s .chip) e → words-at g (s′ .chip) e′ ≡ words-at g (s .chip) e
   same-words l s s′ (Place p) (Place q) len len′ names names′ e = ap Words e
-  same-words l s s′ (Place p) Nowhere len len′ names names′ e = absurd (not-empty (s .chip) (s .spare) l p (len .chip-fits) names (sym e))
-  same-words l s s′ Nowhere (Place q) len len′ names names′ e = absurd (not-empty (s′ .chip) (s′ .spare) l q (len′ .chip-fits) names′ e)
+  same-words l s s′ (Place p) Nowhere len len′ names names′ e =
+      absurd (not-empty (s .chip) (s .spare) l p (len .chip-fits) names (sym e))
+  same-words l s s′ Nowhere (Place q) len len′ names names′ e =
+      absurd (not-empty (s′ .chip) (s′ .spare) l q (len′ .chip-fits) names′ e)
   same-words l s s′ Nowhere Nowhere len len′ names names′ e = refl
 
   pub held-same : (s s′ : State) → Lengths g s → Lengths g s′ → Sound g s → Sound g s′ → (l : ℕ) → l < g .L
@@ -44,7 +48,8 @@ module _ {g : Geometry} (ok : Accepted g) where
       words-held s l (decode (current g s l)) words len (sound .rule-6 .current-place l below) long e
 
   -- And what is held are W words.
-  pub held-long : (s : State) → Lengths g s → Sound g s → (l : ℕ) → l < g .L → (words : List ℕ) → held g s l ≡ Words words → length words ≡ g .W
+  pub held-long : (s : State) → Lengths g s → Sound g s → (l : ℕ) → l < g .L → (words : List ℕ) → held g s l ≡ Words words
+      → length words ≡ g .W
   held-long s len sound l below words e = go (decode (current g s l)) (sound .rule-6 .current-place l below) e
     where
       go : (x : Entry) → Names g Data (s .spare) l x → words-at g (s .chip) x ≡ Words words → length words ≡ g .W

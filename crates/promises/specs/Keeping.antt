@@ -32,12 +32,21 @@ pub record Kept {A : Type 0} (g : Geometry) (bound : ℕ) (s : State) (o : Outco
   pub costs : cost (o .did) ≤ bound
 
 -- A wider bound.
-pub within : {A : Type 0} {g : Geometry} {s : State} {o : Outcome A} {bound : ℕ} (wider : ℕ) → bound ≤ wider → Kept g bound s o → Kept g wider s o
+pub within : {A : Type 0} {g : Geometry} {s : State} {o : Outcome A} {bound : ℕ} (wider : ℕ) → bound ≤ wider → Kept g bound s o
+    → Kept g wider s o
 within wider h k =
-    record { sound = k .sound; lengths = k .lengths; places = k .places; pages = k .pages; done = k .done; costs = omega (arith, k .costs) }
+    record {
+      sound = k .sound;
+      lengths = k .lengths;
+      places = k .places;
+      pages = k .pages;
+      done = k .done;
+      costs = omega (arith, k .costs);
+    }
 
 -- Nothing is done.
-pub kept-none : {A : Type 0} {g : Geometry} {bound : ℕ} {s : State} (x : A) → Sound g s → Lengths g s → Kept g bound s (record { value = x; after = s; did = [] })
+pub kept-none : {A : Type 0} {g : Geometry} {bound : ℕ} {s : State} (x : A) → Sound g s → Lengths g s
+    → Kept g bound s (record { value = x; after = s; did = [] })
 kept-none {g = g} x sound len =
     record {
       sound = sound;
@@ -50,7 +59,8 @@ kept-none {g = g} x sound len =
 
 -- One after the other.
 pub kept-then : {A B : Type 0} {g : Geometry} {m n : ℕ} {s : State} (a : Outcome A) (b : Outcome B)
-    → Kept g m s a → Kept g n (a .after) b → Kept g (m + n) s (record { value = b .value; after = b .after; did = a .did ++ b .did })
+    → Kept g m s a → Kept g n (a .after) b
+    → Kept g (m + n) s (record { value = b .value; after = b .after; did = a .did ++ b .did })
 kept-then a b h k =
     record {
       sound = k .sound;
@@ -63,13 +73,15 @@ kept-then a b h k =
 
 -- What a logical page holds is as it was.
 pub kept-contents : {A : Type 0} {g : Geometry} {bound : ℕ} {s : State} {o : Outcome A} → Sound g s → Kept g bound s o
-    → (l : ℕ) → l < g .L → contents g (o .after .chip) (decode (current g (o .after) l)) ≡ contents g (s .chip) (decode (current g s l))
+    → (l : ℕ) → l < g .L
+    → contents g (o .after .chip) (decode (current g (o .after) l)) ≡ contents g (s .chip) (decode (current g s l))
 kept-contents {g = g} {s = s} {o = o} sound h l below =
     ap (λ (x : ℕ). contents g (o .after .chip) (decode x)) (h .places l below)
     ∙ contents-same (h .pages) l (decode (current g s l)) (sound .rule-6 .current-place l below)
 
 -- A map that names what another names.
-pub same-map : {g : Geometry} {chip spare : List ℕ} {opened offset : ℕ} {view view′ : ℕ → ℕ} → ((l : ℕ) → l < g .L → view′ l ≡ view l)
+pub same-map : {g : Geometry} {chip spare : List ℕ} {opened offset : ℕ} {view view′ : ℕ → ℕ}
+    → ((l : ℕ) → l < g .L → view′ l ≡ view l)
     → Region-holds g Data chip spare opened offset view → Region-holds g Data chip spare opened offset view′
 same-map same holds =
     record {
@@ -89,7 +101,8 @@ kept-sound {g} {s} {s′} sound index cache pages opened offset places =
 
 -- ---- steps of the cache alone
 
-module _ {A : Type 0} {g : Geometry} {s : State} {o : Outcome A} {ops : List Operation} {used : ℕ} {m : ℕ → Found} (step : Cache-step g s o ops used m) where
+module _ {A : Type 0} {g : Geometry} {s : State} {o : Outcome A} {ops : List Operation} {used : ℕ} {m : ℕ → Found}
+    (step : Cache-step g s o ops used m) where
   pub step-lengths : Lengths g s → Lengths g (o .after)
   step-lengths len =
       record {
@@ -103,7 +116,8 @@ module _ {A : Type 0} {g : Geometry} {s : State} {o : Outcome A} {ops : List Ope
   step-pages = rw (step .flash .chip, step .flash .spare) same-refl
 
   pub step-index : Index-fits g s → Index-fits g (o .after)
-  step-index = index-same (step .flash) (step .directory) (ap (open-block Translation) (step .small)) (ap (next-offset Translation) (step .small))
+  step-index = index-same (step .flash) (step .directory) (ap (open-block Translation) (step .small))
+      (ap (next-offset Translation) (step .small))
 
 reads-done : (g : Geometry) (s s′ : State) (e : Entry) → Same-flash s′ s → Done g s (page-read e) s′
 unfolding apply apply-all
@@ -116,7 +130,8 @@ pub cache-kept : {A : Type 0} {g : Geometry} {s : State} {o : Outcome A} {used b
     → Kept g bound s o
 cache-kept {g = g} {s} {o} e sound len step places few =
     record {
-      sound = kept-sound sound (step-index step (index-of sound)) (record { entries = step .holds .fits; agree = places .agree }) (step-pages step)
+      sound = kept-sound sound (step-index step (index-of sound)) (record { entries = step .holds .fits; agree = places .agree })
+          (step-pages step)
           (ap (open-block Data) (step .small)) (ap (next-offset Data) (step .small)) (places .places);
       lengths = step-lengths step len;
       places = places .places;

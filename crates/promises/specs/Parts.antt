@@ -37,14 +37,22 @@ module _ {g : Geometry} {s : State} where
   pub index-of : Sound g s → Index-fits g s
   index-of sound =
       record {
-        pages = record { fits = region-of Translation sound; besides = sound .rule-3 Translation .besides; maps = record { names = sound .rule-4 } };
+        pages = record {
+          fits = region-of Translation sound;
+          besides = sound .rule-3 Translation .besides;
+          maps = record { names = sound .rule-4 };
+        };
         past-L = past-none g (s .chip) (s .directory) (sound .rule-6 .past-L);
       }
 
   -- Rules 1 to 3 of the data region, and rule 6's first sentence.
   pub data-of : Sound g s → Holds g Data s (current g s)
   data-of sound =
-      record { fits = region-of Data sound; besides = sound .rule-3 Data .besides; maps = record { names = sound .rule-6 .current-place } }
+      record {
+        fits = region-of Data sound;
+        besides = sound .rule-3 Data .besides;
+        maps = record { names = sound .rule-6 .current-place };
+      }
 
   pub cache-of : Sound g s → Cache-fits g s
   cache-of sound = record { entries = sound .rule-5; agree = sound .rule-7 }
@@ -83,6 +91,7 @@ cache-holds g s len fits = holds-lookup g (s .cache) (s .small .used) (len .cach
 
 -- The index holds of any state with the same flash, directory and open translation block.
 pub index-same : {g : Geometry} {s s′ : State} → Same-flash s′ s → s′ .directory ≡ s .directory
-    → open-block Translation (s′ .small) ≡ open-block Translation (s .small) → next-offset Translation (s′ .small) ≡ next-offset Translation (s .small)
+    → open-block Translation (s′ .small) ≡ open-block Translation (s .small)
+    → next-offset Translation (s′ .small) ≡ next-offset Translation (s .small)
     → Index-fits g s → Index-fits g s′
 index-same flash directory opened offset index = rw (flash .chip, flash .spare, directory, opened, offset) index

@@ -27,22 +27,38 @@ pub entry-place : {g : Geometry} (s : State) → Lengths g s → Sound g s → (
     → physical-at i (s .cache) ≡ current g s l
 entry-place {g} s len sound l i r =
     let holds = cache-holds g s len (cache-of sound) in
-    sym (current-is g s (cached g s) holds l ∙ ap (place-or (stored-in g s l)) (ap (cached g s) (sym (r .is-l)) ∙ holds .hits i (r .in-use)))
+    sym (current-is g s (cached g s) holds l
+    ∙ ap (place-or (stored-in g s l)) (ap (cached g s) (sym (r .is-l)) ∙ holds .hits i (r .in-use)))
 
 record Place-read (g : Geometry) (e : Entry) (s : State) (o : Outcome Replied) : Type 0 where
   kept : Kept g 1 s o
   tells : Tells (words-at g (s .chip) e) (o .value .reply) (o .value .buffer)
 
-place-law : (g : Geometry) (buffer : List ℕ) (e : Entry) (s : State) → Lengths g s → Sound g s → Place-read g e s (read-place g buffer e s)
+place-law : (g : Geometry) (buffer : List ℕ) (e : Entry) (s : State) → Lengths g s → Sound g s
+    → Place-read g e s (read-place g buffer e s)
 unfolding read-place read-page perform look give apply counted _>>=_
 place-law g buffer (Place p) s len sound =
     record {
-      kept = record { sound = sound; lengths = len; places = λ l h. refl; pages = same-refl; done = done-read g p; costs = omega arith };
+      kept = record {
+        sound = sound;
+        lengths = len;
+        places = λ l h. refl;
+        pages = same-refl;
+        done = done-read g p;
+        costs = omega arith;
+      };
       tells = inl (refl, refl);
     }
 place-law g buffer Nowhere s len sound =
     record {
-      kept = record { sound = sound; lengths = len; places = λ l h. refl; pages = same-refl; done = done-none g (record { chip = refl; spare = refl }); costs = omega arith };
+      kept = record {
+        sound = sound;
+        lengths = len;
+        places = λ l h. refl;
+        pages = same-refl;
+        done = done-none g (record { chip = refl; spare = refl });
+        costs = omega arith;
+      };
       tells = inr (refl, refl);
     }
 
@@ -52,7 +68,8 @@ pub record Reads (g : Geometry) (l : ℕ) (s : State) (o : Outcome Replied) : Ty
   pub tells : Tells (held g s l) (o .value .reply) (o .value .buffer)
 
 module _ {g : Geometry} (ok : Accepted g) where
-  pub read-law : (l : ℕ) (buffer : List ℕ) (s : State) → Lengths g s → Sound g s → l < g .L → Reads g l s (read-steps g l buffer s)
+  pub read-law : (l : ℕ) (buffer : List ℕ) (s : State) → Lengths g s → Sound g s → l < g .L
+      → Reads g l s (read-steps g l buffer s)
   unfolding read-steps look _>>=_
   read-law l buffer s len sound below = finish (translate g l s) (translate-law ok l s len sound below)
     where

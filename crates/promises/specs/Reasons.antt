@@ -41,7 +41,8 @@ by-either b c {X} {Y} d e = go b d
 pub wrong-decided : (zs : List Size) → Decides (not (right-sizes zs)) (Wrong zs)
 unfolding right-sizes
 wrong-decided [] = record { holds = λ h. clash h refl; passes = λ h. absurd h }
-wrong-decided (z ∷ zs) = by-either (eqb (z .has) (z .should)) (right-sizes zs) (by-not (by-equal (z .has) (z .should))) (wrong-decided zs)
+wrong-decided (z ∷ zs) = by-either (eqb (z .has) (z .should)) (right-sizes zs) (by-not (by-equal (z .has) (z .should)))
+    (wrong-decided zs)
 
 -- ---- the reasons
 
@@ -94,7 +95,8 @@ pub by-false : (b : Bool) → Decides (not b) (b ≡ false)
 by-false b = record { holds = not-true b; passes = λ e. not-of-false e }
 
 abbrev pub geometry-reason : Geometry → Reason
-geometry-reason g = refusal-unless GEOMETRY (accepted g) (Accepted g) (¬ (Accepted g)) (accepted-decided g) (by-not (accepted-decided g))
+geometry-reason g = refusal-unless GEOMETRY (accepted g) (Accepted g) (¬ (Accepted g)) (accepted-decided g)
+    (by-not (accepted-decided g))
 
 -- The sizes and the lengths that only C lends.
 abbrev pub length-reason : List Size → Bool → Reason
@@ -124,7 +126,10 @@ check-reasons g boundary s = geometry-reason g ∷ length-reason (state-sizes g 
 
 abbrev pub page-reasons : Geometry → Bool → ℕ → List ℕ → State → List Reason
 page-reasons g boundary l buffer s =
-    geometry-reason g ∷ length-reason (state-sizes g s ++ buffer-sizes g buffer) boundary ∷ sound-reason g s ∷ page-reason g l ∷ []
+    geometry-reason g
+    ∷ length-reason (state-sizes g s ++ buffer-sizes g buffer) boundary
+    ∷ sound-reason g s
+    ∷ page-reason g l ∷ []
 
 abbrev pub run-reasons : Geometry → Bool → List Request → List ℕ → List ℕ → State → List Reason
 run-reasons g boundary requests words answers s =

@@ -99,7 +99,8 @@ answer-keeps g i q words s h =
         served = rw e at is
 
         go : (o .value .reply ≢ DONE) ⊎ (q .kind ≢ 0)
-            → (read-steps g (q .page) buffer s .value .reply ≡ DONE) ⊎ (read-steps g (q .page) buffer s .value ≡ replied buffer UNWRITTEN)
+            → (read-steps g (q .page) buffer s .value .reply ≡ DONE) ⊎
+            (read-steps g (q .page) buffer s .value ≡ replied buffer UNWRITTEN)
             → o .value .buffer ≡ buffer
         go (inr n) _ = absurd (n (eqb-true (q .kind) 0 e))
         go (inl n) (inl d) = absurd (n (ap (λ o. o .value .reply) served ∙ d))
@@ -130,8 +131,12 @@ part-elsewhere g i j words buffer ne h =
 pub part-here : (g : Geometry) (i : ℕ) (words buffer : List ℕ) → length buffer ≡ g .W → i * g .W + g .W ≤ length words
     → part g i (sets words (i * g .W) buffer) ≡ buffer
 part-here g i words buffer h k =
-    rw (sets-eq buffer words (i * g .W) (omega arith), append-assoc (take (i * g .W) words) buffer (drop (i * g .W + length buffer) words))
-    (rw (drop-at (take (i * g .W) words) (buffer ++ drop (i * g .W + length buffer) words) (i * g .W) (length-take-le (i * g .W) words (omega arith)))
+    rw (
+      sets-eq buffer words (i * g .W) (omega arith),
+      append-assoc (take (i * g .W) words) buffer (drop (i * g .W + length buffer) words),
+    )
+    (rw (drop-at (take (i * g .W) words) (buffer ++ drop (i * g .W + length buffer) words) (i * g .W)
+    (length-take-le (i * g .W) words (omega arith)))
     (take-at buffer (drop (i * g .W + length buffer) words) (g .W) h))
 
 -- ---- the records before and after
@@ -142,7 +147,8 @@ module _ (g : Geometry) (requests : List Request) (words answers : List ℕ) (s 
   unfolding serve-records _>>=_
   next-record n = refl
 
-  own-stores : (n : ℕ) → Stored g n (before-record g requests words answers s n .value) (answer-of g requests words answers s n) (own g requests words answers s n)
+  own-stores : (n : ℕ) → Stored g n (before-record g requests words answers s n .value) (answer-of g requests words answers s n)
+      (own g requests words answers s n)
   own-stores n =
       let before = before-record g requests words answers s n in
       record-stores g n (getD requests n no-request) (before .value) (before .after)
@@ -157,7 +163,8 @@ module _ (g : Geometry) (requests : List Request) (words answers : List ℕ) (s 
   length-answers zero = refl
   length-answers (suc n) =
       ap (λ r. length (r .answers)) (next-record n) ∙ ap length (own-stores n .answers)
-      ∙ length-set (before-record g requests words answers s n .value .answers) n (answer-of g requests words answers s n .value .reply)
+      ∙ length-set (before-record g requests words answers s n .value .answers) n
+      (answer-of g requests words answers s n .value .reply)
       ∙ length-answers n
 
   pub length-words : (n : ℕ) → length (before-record g requests words answers s n .value .words) ≡ length words
@@ -165,7 +172,8 @@ module _ (g : Geometry) (requests : List Request) (words answers : List ℕ) (s 
   length-words zero = refl
   length-words (suc n) =
       ap (λ r. length (r .words)) (next-record n) ∙ ap length (own-stores n .words)
-      ∙ length-sets (before-record g requests words answers s n .value .words) (n * g .W) (answer-of g requests words answers s n .value .buffer)
+      ∙ length-sets (before-record g requests words answers s n .value .words) (n * g .W)
+      (answer-of g requests words answers s n .value .buffer)
       ∙ length-words n
 
   -- A record's answer is the one that it gave.
@@ -192,7 +200,8 @@ module _ (g : Geometry) (requests : List Request) (words answers : List ℕ) (s 
       ∙ words-before n i (omega arith)
 
   pub final-words : (n i : ℕ) → i < n
-      → part g i (before-record g requests words answers s n .value .words) ≡ part g i (own g requests words answers s i .value .words)
+      → part g i (before-record g requests words answers s n .value .words) ≡ part g i
+      (own g requests words answers s i .value .words)
   final-words zero i h = absurd (omega arith)
   final-words (suc n) i h =
       let lent = before-record g requests words answers s n .value in

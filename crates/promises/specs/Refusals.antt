@@ -71,7 +71,8 @@ unfoldable pub answered : Geometry → ℕ → Request → List ℕ → Step Rep
 answered g i q words = admit (record-tests g q) (replied (part g i words)) (serve g q (part g i words))
 
 pub record-tested : (g : Geometry) (i : ℕ) (q : Request) (words : List ℕ) (s : State)
-    → Tested (record-reasons g q) (λ r. r .reply) (replied (part g i words)) (serve g q (part g i words)) s (answered g i q words s)
+    → Tested (record-reasons g q) (λ r. r .reply) (replied (part g i words)) (serve g q (part g i words)) s
+    (answered g i q words s)
 unfolding answered
 record-tested g i q words s =
     tested (record-reasons g q) (omega arith) (λ r. r .reply) (replied (part g i words)) (serve g q (part g i words)) s

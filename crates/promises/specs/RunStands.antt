@@ -27,11 +27,13 @@ use Rattle.promises.specs.Write.{write-law}
 use Rattle.promises.specs.Standing.{Standing, Leaves, refusal-leaves, reads, read-stands, read-tells, write-stands}
 
 -- What a record's answer does to the store: nothing, but for a write that answered DONE.
-not-noted : (q : Request) (words : List ℕ) (reply : ℕ) (store : Store) → (reply ≢ DONE) ⊎ (q .kind ≢ 1) → noted-record q words reply store ≡ store
+not-noted : (q : Request) (words : List ℕ) (reply : ℕ) (store : Store) → (reply ≢ DONE) ⊎ (q .kind ≢ 1)
+    → noted-record q words reply store ≡ store
 not-noted q words reply store (inl e) = on (eqb (q .kind) 1) (λ k. rw (k, ne-eqb reply DONE e)) (λ k. rw k)
 not-noted q words reply store (inr e) = rw (ne-eqb (q .kind) 1 e)
 
-is-noted : (q : Request) (words : List ℕ) (reply : ℕ) (store : Store) → q .kind ≡ 1 → reply ≡ DONE → noted-record q words reply store ≡ put (q .page) words store
+is-noted : (q : Request) (words : List ℕ) (reply : ℕ) (store : Store) → q .kind ≡ 1 → reply ≡ DONE
+    → noted-record q words reply store ≡ put (q .page) words store
 is-noted q words reply store k e = rw (eq-eqb (q .kind) 1 k, eq-eqb reply DONE e)
 
 -- What is said of a record's answer, whether it was refused, a read or a write.
@@ -49,7 +51,8 @@ pub record Answers (g : Geometry) (i : ℕ) (q : Request) (words : List ℕ) (s 
 module _ {g : Geometry} (ok : Accepted g) where
   -- ---- one record
 
-  module _ (i : ℕ) (q : Request) (words : List ℕ) {s : State} {store : Store} (stands : Standing g s store) (long : length (part g i words) ≡ g .W) where
+  module _ (i : ℕ) (q : Request) (words : List ℕ) {s : State} {store : Store} (stands : Standing g s store)
+      (long : length (part g i words) ≡ g .W) where
     abbrev buffer : List ℕ
     buffer = part g i words
 
@@ -61,20 +64,30 @@ module _ {g : Geometry} (ok : Accepted g) where
     by-refusal h =
         let t = record-tested g i q words s in
         record {
-          leaves = rw (not-noted q buffer (o .value .reply) store (inl (omega arith)), t .refuses h) (record { stands = stands; done = done-none g flash-refl });
+          leaves = rw (not-noted q buffer (o .value .reply) store (inl (omega arith)), t .refuses h)
+              (record { stands = stands; done = done-none g flash-refl });
           tells = λ below kind. absurd (admitted below (omega arith));
           writes = λ below kind. absurd (admitted below (omega arith));
         }
       where
         admitted : q .page < g .L → q .kind < 2 → ⊥
         admitted below kind =
-            omega (arith, h, ap (λ (a : Outcome Replied). a .value .reply) (record-tested g i q words s .serves (kind, (below, tt))), serve-within g q (part g i words) s)
+            omega (
+              arith,
+              h,
+              ap (λ (a : Outcome Replied). a .value .reply)
+                  (record-tested g i q words s .serves (kind, (below, tt))),
+              serve-within g q (part g i words) s,
+            )
 
     by-read : q .page < g .L → q .kind ≡ 0 → o ≡ read-steps g (q .page) buffer s → Answers g i q words s store
     by-read below kind e =
         record {
           leaves = rw (not-noted q buffer (o .value .reply) store (inr (omega arith)), e)
-              (record { stands = read-stands ok stands (q .page) buffer below; done = reads ok stands (q .page) buffer below .kept .done });
+              (record {
+                stands = read-stands ok stands (q .page) buffer below;
+                done = reads ok stands (q .page) buffer below .kept .done;
+              });
           tells = λ _ _. rw e (read-tells ok stands (q .page) buffer below, reads ok stands (q .page) buffer below .kept .costs);
           writes = λ _ k. absurd (omega arith);
         }
@@ -82,7 +95,8 @@ module _ {g : Geometry} (ok : Accepted g) where
     by-write : q .page < g .L → q .kind ≡ 1 → o ≡ write-steps g (q .page) buffer s → Answers g i q words s store
     by-write below kind e =
         let w = write-law ok (q .page) buffer s (stands .lengths) (stands .sound) below long in
-        let is-done : o .value .reply ≡ DONE = ap (λ (a : Outcome Replied). a .value .reply) e ∙ ap (λ r. r .reply) (write-reply g (q .page) buffer s) in
+        let is-done : o .value .reply ≡ DONE = ap (λ (a : Outcome Replied). a .value .reply) e
+        ∙ ap (λ r. r .reply) (write-reply g (q .page) buffer s) in
         record {
           leaves = rw (is-noted q buffer (o .value .reply) store kind is-done, e)
               (record { stands = write-stands ok stands (q .page) buffer below long; done = w .done });
@@ -105,7 +119,8 @@ module _ {g : Geometry} (ok : Accepted g) where
 
   module _ (requests : List Request) (words answers : List ℕ) {s : State} {store : Store} (stands : Standing g s store)
       (fits : length words ≡ length requests * g .W) where
-    part-long : (n : ℕ) → n < length requests → length (part g n (before-record g requests words answers s n .value .words)) ≡ g .W
+    part-long : (n : ℕ) → n < length requests
+        → length (part g n (before-record g requests words answers s n .value .words)) ≡ g .W
     part-long n h =
         simp (length-take, length-drop) (omega (arith, length-words g requests words answers s n, mul-le-mul-right (g .W) h))
 
@@ -148,25 +163,30 @@ module _ {g : Geometry} (ok : Accepted g) where
         (records-leave A i (omega arith) e .stands) (part-long i h)
 
   -- A run, as a call.
-  module _ (boundary : Bool) (requests : List Request) (words answers : List ℕ) {s : State} {store : Store} (stands : Standing g s store) where
+  module _ (boundary : Bool) (requests : List Request) (words answers : List ℕ) {s : State} {store : Store}
+      (stands : Standing g s store) where
     pub run-leaves :
         let o = run g boundary requests words answers s in
-        Leaves g s o (cond (eqb (o .value .reply) DONE) (noted-records g requests words (o .value .answers) (length requests) store) store)
+        Leaves g s o (cond (eqb (o .value .reply) DONE)
+        (noted-records g requests words (o .value .answers) (length requests) store) store)
     run-leaves =
         let o = run g boundary requests words answers s in
         let t = run-tested g boundary requests words answers s in
         below? UNWRITTEN (o .value .reply)
         (λ h. refusal-leaves ok (noted-records g requests words (o .value .answers) (length requests) store)
         (run-replied words answers (o .value .reply)) o (o .value .reply) stands (t .refuses h) (omega arith))
-        (λ h. served (ap (λ (a : Outcome RunReplied). a .value .reply) (t .served h .1) ∙ run-reply g requests (length requests) words answers s))
+        (λ h. served (ap (λ (a : Outcome RunReplied). a .value .reply) (t .served h .1)
+        ∙ run-reply g requests (length requests) words answers s))
       where
         served : run g boundary requests words answers s .value .reply ≡ DONE →
             let o = run g boundary requests words answers s in
-            Leaves g s o (cond (eqb (o .value .reply) DONE) (noted-records g requests words (o .value .answers) (length requests) store) store)
+            Leaves g s o (cond (eqb (o .value .reply) DONE)
+            (noted-records g requests words (o .value .answers) (length requests) store) store)
         served e =
             let A = run g boundary requests words answers s .value .answers in
             rw (eq-eqb (run g boundary requests words answers s .value .reply) DONE e)
             (subst (λ (o : Outcome RunReplied). Leaves g s o (noted-records g requests words A (length requests) store))
             (sym (run-is-records g boundary requests words answers s e))
-            (records-leave requests words answers stands (run-fits g boundary requests words answers s e .0) A (length requests) (omega arith)
+            (records-leave requests words answers stands (run-fits g boundary requests words answers s e .0) A (length requests)
+            (omega arith)
             (record-answer g boundary requests words answers s e)))

@@ -11,29 +11,33 @@ use borrow.Author.Tests.{ne-eqb}
 use Rattle.scope.specs.Geometry.{Geometry, Accepted}
 use Rattle.scope.specs.Lent.{none, valid, Entry, Place, Nowhere, decode, State, Request, most-requests, state-of, owner-of}
 use Rattle.scope.specs.Regions.{Data, Has-page}
-use Rattle.scope.specs.Operations.{Outcome}
+use Rattle.scope.specs.Operations.{Outcome, give, _>>=_}
 use Rattle.scope.specs.Replies.{DONE, UNWRITTEN}
-use Rattle.scope.specs.Requests.{Replied}
+use Rattle.scope.specs.Requests.{Replied, format-steps}
 use Rattle.scope.specs.Calls.{state-sizes, buffer-sizes, run-sizes, RunReplied, part, no-request, read, write, run}
 use Rattle.scope.specs.Sound.{Names, Written, current, Sound}
 use Rattle.flash.specs.Cases.{below?}
 use Rattle.flash.specs.Clearing.{allowed-clears-each}
-use Rattle.promises.specs.Demands.{Right, Call, Format, Check, Read-page, Write-page, Run, make, after-calls, history, remembered, noted, noted-records, Words, Store, held, Tells, Refusal, own, before-record, One-for-each, Reads-well, Writes-well, Demand-2, Demand-3}
-use Rattle.promises.specs.Refusals.{record-tested, read-tested, write-tested, run-tested, run-reply, write-reply}
+use Rattle.promises.specs.Demands.{Right, Call, Format, Check, Read-page, Write-page, Run, make, after-calls, history, remembered, noted, noted-records, Words, Store, held, Tells, Refusal, own, before-record, One-for-each, Reads-well, Writes-well, Demand-2, Demand-3, Formats}
+use Rattle.promises.specs.Refusals.{format-tested, record-tested, read-tested, write-tested, run-tested, run-reply, write-reply}
 use Rattle.promises.specs.Records.{answer-of, record-stores, final-words, part-here, length-words}
 use Rattle.promises.specs.Demand1.{run-is-records, run-fits, record-answer}
-use Rattle.promises.specs.Standing.{Standing, Leaves, lengths-right, right-lengths, reads, read-tells, format-leaves, check-leaves, read-leaves, write-leaves}
+use Rattle.promises.specs.Standing.{format-stands, Standing, Leaves, lengths-right, right-lengths, reads, read-tells, format-leaves, check-leaves, read-leaves, write-leaves}
+use Rattle.promises.specs.Formatted.{format-counts}
 use Rattle.promises.specs.HeldWords.{held-long}
 use Rattle.promises.specs.Write.{write-law}
 use Rattle.promises.specs.RunStands.{Answers, records-leave, answers-at, run-leaves}
 
 module _ {g : Geometry} (ok : Accepted g) where
   -- Each call keeps the store, and so do all.
-  call-leaves : {s : State} {store : Store} → Standing g s store → (c : Call) → Leaves g s (make g c s) (noted g c (make g c s .value) store)
+  call-leaves : {s : State} {store : Store} → Standing g s store → (c : Call)
+      → Leaves g s (make g c s) (noted g c (make g c s .value) store)
   call-leaves stands (Format boundary) = let a = format-leaves ok stands boundary in record { stands = a .stands; done = a .done }
   call-leaves stands (Check boundary) = let a = check-leaves ok stands boundary in record { stands = a .stands; done = a .done }
-  call-leaves stands (Read-page boundary l buffer) = let a = read-leaves ok stands boundary l buffer in record { stands = a .stands; done = a .done }
-  call-leaves stands (Write-page boundary l buffer) = let a = write-leaves ok stands boundary l buffer in record { stands = a .stands; done = a .done }
+  call-leaves stands (Read-page boundary l buffer) =
+      let a = read-leaves ok stands boundary l buffer in record { stands = a .stands; done = a .done }
+  call-leaves stands (Write-page boundary l buffer) =
+      let a = write-leaves ok stands boundary l buffer in record { stands = a .stands; done = a .done }
   call-leaves stands (Run boundary requests words answers) =
       let a = run-leaves ok boundary requests words answers stands in record { stands = a .stands; done = a .done }
 
@@ -55,12 +59,18 @@ module _ {g : Geometry} (ok : Accepted g) where
 
     module _ (l : ℕ) (buffer : List ℕ) (below : l < g .L) (long : length buffer ≡ g .W) where
       admits : Right (state-sizes g s ++ buffer-sizes g buffer)
-      admits = (stands .lengths .chip-fits, (stands .lengths .spare-fits, (stands .lengths .directory-fits, (stands .lengths .cache-fits, (long, tt)))))
+      admits = (
+        stands .lengths .chip-fits,
+        (stands .lengths .spare-fits, (stands .lengths .directory-fits, (stands .lengths .cache-fits, (long, tt)))),
+      )
 
       read-well : let o = read g true l buffer s in Reads-well g (o .value .reply) (o .did)
       read-well =
           let e = read-tested g true l buffer s .serves (ok, ((admits, refl), (stands .sound, (below, tt)))) in
-          rw e (⊎-elim (λ d. inl (d .0)) (λ d. inr (d .0)) (read-tells ok stands l buffer below), reads ok stands l buffer below .kept .costs)
+          rw e (
+            ⊎-elim (λ d. inl (d .0)) (λ d. inr (d .0)) (read-tells ok stands l buffer below),
+            reads ok stands l buffer below .kept .costs,
+          )
 
       write-well : let o = write g true l buffer s in Writes-well g (o .value .reply) (o .did)
       write-well =
@@ -85,11 +95,15 @@ module _ {g : Geometry} (ok : Accepted g) where
         go : (l : ℕ) → Written g s l → (x : Entry) → decode (current g s l) ≡ x → Names g Data (s .spare) l x
             → (p : ℕ) × Has-page g Data p × (state-of p (s .spare) ≡ valid) × (owner-of p (s .spare) ≡ l)
         go l w (Place p) e names = (p, names .0, names .1, names .2)
-        go l w Nowhere e names = let z : Place (current g s l) ≡ Nowhere = (rw (ne-eqb (current g s l) none w) at e) in let y : _≡_ {A = ℕ} 0 1 = cc in absurd (omega arith)
+        go l w Nowhere e names =
+            let z : Place (current g s l) ≡ Nowhere = rw (ne-eqb (current g s l) none w) at e in
+            let y : _≡_ {A = ℕ} 0 1 = cc in
+            absurd (omega arith)
 
     -- ---- a further run
 
-    module _ (boundary : Bool) (requests : List Request) (words answers : List ℕ) (done : run g boundary requests words answers s .value .reply ≡ DONE)
+    module _ (boundary : Bool) (requests : List Request) (words answers : List ℕ)
+        (done : run g boundary requests words answers s .value .reply ≡ DONE)
         (i : ℕ) (h : i < length requests) where
       abbrev replies : List ℕ
       replies = run g boundary requests words answers s .value .answers
@@ -109,7 +123,8 @@ module _ {g : Geometry} (ok : Accepted g) where
           answers-at ok requests words answers stands fits replies i h
           (λ j k. record-answer g boundary requests words answers s done j (omega arith))
 
-      stands-here : Standing g (before-record g requests words answers s i .after) (noted-records g requests words replies i store)
+      stands-here : Standing g (before-record g requests words answers s i .after)
+          (noted-records g requests words replies i store)
       stands-here =
           records-leave ok requests words answers stands fits replies i (omega arith)
           (λ j k. record-answer g boundary requests words answers s done j (omega arith)) .stands
@@ -126,20 +141,24 @@ module _ {g : Geometry} (ok : Accepted g) where
           (λ k. record-tested g i q (before .value .words) (before .after) .served k .0 .1 .0)
 
       -- What the record read stands in its part of the data buffer.
-      part-is : length (a .value .buffer) ≡ g .W → part g i (run g boundary requests words answers s .value .words) ≡ a .value .buffer
+      part-is : length (a .value .buffer) ≡ g .W
+          → part g i (run g boundary requests words answers s .value .words) ≡ a .value .buffer
       part-is long =
           let before = before-record g requests words answers s i in
           ap (λ (o : Outcome RunReplied). part g i (o .value .words)) (run-is-records g boundary requests words answers s done)
           ∙ final-words g requests words answers s (length requests) i h
           ∙ ap (part g i) (record-stores g i q (before .value) (before .after) .words)
-          ∙ part-here g i (before .value .words) (a .value .buffer) long (omega (arith, fits, length-words g requests words answers s i, mul-le-mul-right (g .W) h))
+          ∙ part-here g i (before .value .words) (a .value .buffer) long
+          (omega (arith, fits, length-words g requests words answers s i, mul-le-mul-right (g .W) h))
 
       record-tells : q .page < g .L → q .kind ≡ 0
-          → Tells (noted-records g requests words replies i store (q .page)) (getD replies i none) (part g i (run g boundary requests words answers s .value .words))
+          → Tells (noted-records g requests words replies i store (q .page)) (getD replies i none)
+          (part g i (run g boundary requests words answers s .value .words))
       record-tells below kind =
           ⊎-elim
           (λ d.
-          let long = held-long ok (before-record g requests words answers s i .after) (stands-here .lengths) (stands-here .sound) (q .page) below (a .value .buffer) (sym (stands-here .holds (q .page) below) ∙ d .1) in
+          let long = held-long ok (before-record g requests words answers s i .after) (stands-here .lengths) (stands-here .sound)
+          (q .page) below (a .value .buffer) (sym (stands-here .holds (q .page) below) ∙ d .1) in
           inl (reply-is ∙ d .0, d .1 ∙ ap Words (sym (part-is long))))
           (λ d. inr (reply-is ∙ d .0, d .1))
           (answers-here .tells below kind .0)
@@ -162,12 +181,16 @@ module _ {g : Geometry} (ok : Accepted g) where
             answers-here .writes below,
           )
 
-    run-well : (requests : List Request) (words answers : List ℕ) → Right (run-sizes g requests words answers) → length requests ≤ most-requests
+    run-well : (requests : List Request) (words answers : List ℕ) → Right (run-sizes g requests words answers)
+        → length requests ≤ most-requests
         → run g true requests words answers s .value .reply ≡ DONE
     run-well requests words answers right few =
-        let sizes : Right (state-sizes g s ++ run-sizes g requests words answers) =
-        (stands .lengths .chip-fits, (stands .lengths .spare-fits, (stands .lengths .directory-fits, (stands .lengths .cache-fits, right)))) in
-        ap (λ (o : Outcome RunReplied). o .value .reply) (run-tested g true requests words answers s .serves (ok, (((sizes, few), refl), (stands .sound, tt))))
+        let sizes : Right (state-sizes g s ++ run-sizes g requests words answers) = (
+          stands .lengths .chip-fits,
+          (stands .lengths .spare-fits, (stands .lengths .directory-fits, (stands .lengths .cache-fits, right))),
+        ) in
+        ap (λ (o : Outcome RunReplied). o .value .reply)
+        (run-tested g true requests words answers s .serves (ok, (((sizes, few), refl), (stands .sound, tt))))
         ∙ run-reply g requests (length requests) words answers s
 
   -- ---- the demands
@@ -195,10 +218,24 @@ module _ {g : Geometry} (ok : Accepted g) where
           lengths-kept = lengths-right g now (stands-now .lengths);
           one-for-each = one-for-each stands-now;
           allowed = λ c. call-leaves stands-now c .done .allowed;
-          clears = λ c. allowed-clears-each g (make g c now .did) now (stands-now .lengths) (call-leaves stands-now c .done .allowed);
+          clears = λ c. allowed-clears-each g (make g c now .did) now (stands-now .lengths)
+              (call-leaves stands-now c .done .allowed);
           reads-well = λ l buffer below long. read-well stands-now l buffer below (long .0);
           writes-well = λ l buffer below long. write-well stands-now l buffer below (long .0);
           runs-well = run-well stands-now;
           records-well = λ requests words answers i right few h.
               record-well stands-now true requests words answers (run-well stands-now requests words answers right few) i h;
         }
+
+  pub formats : (s : State) → Right (state-sizes g s) → Formats g s
+  unfolding format-steps give _>>=_
+  formats s right =
+      let is = format-tested g true s .serves (ok, ((right, refl), tt)) in
+      let stands = format-stands ok s (right-lengths g s right) in
+      record {
+        done = rw is refl;
+        sound = rw is (stands .sound);
+        lengths-kept = rw is (lengths-right g (format-steps g s .after) (stands .lengths));
+        nothing-held = λ l below. rw is (sym (stands .holds l below));
+        counts = rw is (format-counts g s);
+      }

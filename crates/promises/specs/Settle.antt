@@ -67,7 +67,8 @@ module _ {g : Geometry} (ok : Accepted g) where
       }
 
   module _ (w : List Mapping) (below-L : (l : ℕ) → Waits w l → l < g .L) where
-    of-page-latest-at : (n : ℕ) (w : List Mapping) (l place : ℕ) → translation-page g l ≡ n → latest (of-page g n w) l place ≡ latest w l place
+    of-page-latest-at : (n : ℕ) (w : List Mapping) (l place : ℕ) → translation-page g l ≡ n
+        → latest (of-page g n w) l place ≡ latest w l place
     of-page-latest-at n w l place e = ap (λ (t : ℕ). latest (of-page g t w) l place) (sym e) ∙ of-page-latest g w l place
 
     -- One translation page more.
@@ -80,7 +81,8 @@ module _ {g : Geometry} (ok : Accepted g) where
           index = u .index;
           below = λ l k e. last (translation-page g l) n e
               (λ low. u .elsewhere l k (omega arith) ∙ before .below l k low)
-              (λ at. u .here l k at ∙ of-page-latest-at n w l (stored-in g (a .after) l) at ∙ ap (latest w l) (before .above l k (omega arith)));
+              (λ at. u .here l k at ∙ of-page-latest-at n w l (stored-in g (a .after) l) at
+              ∙ ap (latest w l) (before .above l k (omega arith)));
           above = λ l k e. u .elsewhere l k (omega arith) ∙ before .above l k (omega arith);
           only = only-trans (before .only) (u .only);
           lengths = u .lengths;
@@ -105,7 +107,8 @@ module _ {g : Geometry} (ok : Accepted g) where
         let before = settled-below n s (omega arith) len index in
         let a = for n (λ t. update-touched g t (of-page g t w)) s in
         next-settled n s a (update-touched g n (of-page g n w) (a .after)) h before
-        (touched-law n (of-page g n w) (a .after) (before .lengths) (before .index) h (λ l q. let (at, waits) = of-page-waits g n w l q in (below-L l waits, at)))
+        (touched-law n (of-page g n w) (a .after) (before .lengths) (before .index) h
+        (λ l q. let (at, waits) = of-page-waits g n w l q in (below-L l waits, at)))
 
     pub settle-law : (s : State) → Lengths g s → Index-fits g s → Index-settled g w s (update-all g w s)
     unfolding update-all

@@ -61,14 +61,16 @@ module _ {g : Geometry} (ok : Accepted g) where
           sound = kept .sound;
           lengths = kept .lengths;
           holds = λ k h. stands .holds k h
-              ∙ sym (held-same ok s (read-steps g l buffer s .after) (stands .lengths) (kept .lengths) (stands .sound) (kept .sound) k h
+              ∙ sym (held-same ok s (read-steps g l buffer s .after) (stands .lengths) (kept .lengths) (stands .sound)
+              (kept .sound) k h
               (kept-contents (stands .sound) kept k h));
         }
 
     -- It answers with what the store says.
     pub read-tells : Tells (store l) (read-steps g l buffer s .value .reply) (read-steps g l buffer s .value .buffer)
     read-tells =
-        subst (λ h. Tells h (read-steps g l buffer s .value .reply) (read-steps g l buffer s .value .buffer)) (sym (stands .holds l below)) (reads .tells)
+        subst (λ h. Tells h (read-steps g l buffer s .value .reply) (read-steps g l buffer s .value .buffer))
+        (sym (stands .holds l below)) (reads .tells)
 
     module _ (long : length buffer ≡ g .W) where
       -- A write puts its buffer into the store.
@@ -95,20 +97,27 @@ module _ {g : Geometry} (ok : Accepted g) where
   -- ---- the calls
 
   -- A refusal leaves the state and the store.
-  pub refusal-leaves : {A : Type 0} {s : State} {store : Store} (store′ : Store) (x : A) (o : Outcome A) (n : ℕ) → Standing g s store → o ≡ give x s → n ≢ DONE
+  pub refusal-leaves : {A : Type 0} {s : State} {store : Store} (store′ : Store) (x : A) (o : Outcome A) (n : ℕ)
+      → Standing g s store → o ≡ give x s → n ≢ DONE
       → Leaves g s o (cond (eqb n DONE) store′ store)
   unfolding give
   refusal-leaves store′ x o n stands e refused =
       rw (e, ne-eqb n DONE refused) (record { stands = stands; done = done-none g flash-refl })
 
   module _ {s : State} {store : Store} (stands : Standing g s store) where
-    pub format-leaves : (boundary : Bool) → Leaves g s (format g boundary s) (cond (eqb (format g boundary s .value) DONE) (λ l. Nothing) store)
+    pub format-leaves : (boundary : Bool)
+        → Leaves g s (format g boundary s) (cond (eqb (format g boundary s .value) DONE) (λ l. Nothing) store)
     unfolding format-steps give _>>=_
     format-leaves boundary =
         let t = format-tested g boundary s in
         below? UNWRITTEN (format g boundary s .value)
-        (λ h. refusal-leaves (λ l. Nothing) (format g boundary s .value) (format g boundary s) (format g boundary s .value) stands (t .refuses h) (omega arith))
-        (λ h. rw (t .served h .1) (record { stands = format-stands s (stands .lengths); done = record { flash = format-steps-applied .law s; allowed = format-allowed g s } }))
+        (λ h. refusal-leaves (λ l. Nothing) (format g boundary s .value) (format g boundary s)
+        (format g boundary s .value) stands (t .refuses h) (omega arith))
+        (λ h. rw (t .served h .1)
+        (record {
+          stands = format-stands s (stands .lengths);
+          done = record { flash = format-steps-applied .law s; allowed = format-allowed g s };
+        }))
 
     pub check-leaves : (boundary : Bool) → Leaves g s (check g boundary s) store
     unfolding give
@@ -127,13 +136,16 @@ module _ {g : Geometry} (ok : Accepted g) where
           (λ h. rw (t .refuses h) (record { stands = stands; done = done-none g flash-refl }))
           (λ h.
           let below : l < g .L = t .served h .0 .1 .1 .1 .0 in
-          rw (t .served h .1) (record { stands = read-stands stands l buffer below; done = reads stands l buffer below .kept .done }))
+          rw (t .served h .1)
+          (record { stands = read-stands stands l buffer below; done = reads stands l buffer below .kept .done }))
 
-      pub write-leaves : Leaves g s (write g boundary l buffer s) (cond (eqb (write g boundary l buffer s .value .reply) DONE) (put l buffer store) store)
+      pub write-leaves : Leaves g s (write g boundary l buffer s)
+          (cond (eqb (write g boundary l buffer s .value .reply) DONE) (put l buffer store) store)
       write-leaves =
           let t = write-tested g boundary l buffer s in
           below? UNWRITTEN (write g boundary l buffer s .value .reply)
-          (λ h. refusal-leaves (put l buffer store) (replied buffer (write g boundary l buffer s .value .reply)) (write g boundary l buffer s) (write g boundary l buffer s .value .reply) stands (t .refuses h) (omega arith))
+          (λ h. refusal-leaves (put l buffer store) (replied buffer (write g boundary l buffer s .value .reply))
+          (write g boundary l buffer s) (write g boundary l buffer s .value .reply) stands (t .refuses h) (omega arith))
           (λ h.
           let below : l < g .L = t .served h .0 .1 .1 .1 .0 in
           let long : length buffer ≡ g .W = t .served h .0 .1 .0 .0 .1 .1 .1 .1 .0 in

@@ -55,7 +55,8 @@ module _ {g : Geometry} (ok : Accepted g) where
   unfolding set-words
   length-set-words [] words = refl
   length-set-words (m ∷ ms) words =
-      length-set-words ms (set words (translation-word g (m .logical)) (m .physical)) ∙ length-set words (translation-word g (m .logical)) (m .physical)
+      length-set-words ms (set words (translation-word g (m .logical)) (m .physical))
+      ∙ length-set words (translation-word g (m .logical)) (m .physical)
 
   -- The word of a logical page of translation page t is its latest mapping's.
   pub set-words-at : (t : ℕ) (ms : List Mapping) (words : List ℕ) → Mappings-of g t ms → length words ≡ g .W

@@ -60,7 +60,8 @@ answer-above k (r ∷ rs) o h =
     (λ e. rw e (let ih = answer-above (r .number) rs (o .1) (rw e at h) in omega (arith, o .0)))
 
 -- Each number is answered exactly where it is given, and DONE where no reason applies.
-pub answered-exactly : (k : ℕ) (rs : List Reason) → Rising k rs → (n : ℕ) → n ≢ DONE → (first-applying (tests-of rs) ≡ n) ↔ Given rs n
+pub answered-exactly : (k : ℕ) (rs : List Reason) → Rising k rs → (n : ℕ) → n ≢ DONE
+    → (first-applying (tests-of rs) ≡ n) ↔ Given rs n
 unfolding first-applying
 answered-exactly k [] o n d = (λ e. absurd (d (sym e)), λ h. absurd h)
 answered-exactly k (r ∷ rs) o n d =
@@ -89,7 +90,8 @@ done-exactly rs o = go DONE rs o
         (λ t. let ih = go (r .number) rs (o .1) in rw t (λ q. (failed r t, ih .0 q), λ h. ih .1 (h .1)))
 
 -- A call that tests first: `o` is what `admit` makes of the reasons, the refusal and the steps from state s.
-pub record Tested {A : Type 0} (rs : List Reason) (reply : A → ℕ) (refused : ℕ → A) (steps : Step A) (s : State) (o : Outcome A) : Type 0 where
+pub record Tested {A : Type 0} (rs : List Reason) (reply : A → ℕ) (refused : ℕ → A) (steps : Step A) (s : State)
+    (o : Outcome A) : Type 0 where
   -- Each refusal is given exactly where it is to be given; other numbers above UNWRITTEN never are.
   pub answers : (n : ℕ) → UNWRITTEN < n → (reply (o .value) ≡ n) ↔ Given rs n
   -- A refusal is its number and nothing else: the state is as it was, and there are no operations.
@@ -98,7 +100,8 @@ pub record Tested {A : Type 0} (rs : List Reason) (reply : A → ℕ) (refused :
   pub serves : Admitted rs → o ≡ steps s
   pub served : reply (o .value) ≤ UNWRITTEN → Admitted rs × (o ≡ steps s)
 
-admit-serves : {A : Type 0} (ts : List Test) (refused : ℕ → A) (steps : Step A) → first-applying ts ≡ DONE → admit ts refused steps ≡ steps
+admit-serves : {A : Type 0} (ts : List Test) (refused : ℕ → A) (steps : Step A) → first-applying ts ≡ DONE
+    → admit ts refused steps ≡ steps
 unfolding admit
 admit-serves ts refused steps e = rw (eq-eqb (first-applying ts) DONE e)
 
@@ -107,7 +110,8 @@ admit-refuses : {A : Type 0} (ts : List Test) (refused : ℕ → A) (steps : Ste
 unfolding admit
 admit-refuses ts refused steps e = rw (ne-eqb (first-applying ts) DONE e)
 
-module _ {A : Type 0} (rs : List Reason) (rising : Rising UNWRITTEN rs) (reply : A → ℕ) (refused : ℕ → A) (steps : Step A) (s : State)
+module _ {A : Type 0} (rs : List Reason) (rising : Rising UNWRITTEN rs) (reply : A → ℕ) (refused : ℕ → A) (steps : Step A)
+    (s : State)
     (numbered : (n : ℕ) → reply (refused n) ≡ n) (within : reply (steps s .value) ≤ UNWRITTEN) where
   from-done : Rising DONE rs
   from-done = go rs rising
@@ -128,7 +132,10 @@ module _ {A : Type 0} (rs : List Reason) (rising : Rising UNWRITTEN rs) (reply :
       admitted e =
           rw (admit-serves (tests-of rs) refused steps e)
           record {
-            answers = λ m h. (λ q. absurd (omega arith), λ x. absurd (omega (arith, answered-exactly UNWRITTEN rs rising m (omega arith) .1 x)));
+            answers = λ m h. (
+              λ q. absurd (omega arith),
+              λ x. absurd (omega (arith, answered-exactly UNWRITTEN rs rising m (omega arith) .1 x)),
+            );
             refuses = λ h. absurd (omega arith);
             serves = λ _. refl;
             served = λ _. (done-exactly rs from-done .0 e, refl);

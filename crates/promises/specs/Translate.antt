@@ -116,7 +116,11 @@ module _ {g : Geometry} (s : State) (len : Lengths g s) (sound : Sound g s) (i :
 
   -- The last entry goes.
   forgotten : suc i ≡ s .small .used → (o : Outcome (Unit {0})) → Can-go g i s o
-      → Free g s (record { value = forget i (o .after) .value; after = forget i (o .after) .after; did = o .did ++ forget i (o .after) .did })
+      → Free g s (record {
+        value = forget i (o .after) .value;
+        after = forget i (o .after) .after;
+        did = o .did ++ forget i (o .after) .did;
+      })
   forgotten last o go =
       let m = cached g s in
       let f = forget i (o .after) in
@@ -125,7 +129,8 @@ module _ {g : Geometry} (s : State) (len : Lengths g s) (sound : Sound g s) (i :
       let pages = same-trans (go .only .data-pages) (step-pages step) in
       record {
         kept = record {
-          sound = kept-sound sound (step-index step (go .index)) (record { entries = step .holds .fits; agree = d .places .agree }) pages
+          sound = kept-sound sound (step-index step (go .index))
+              (record { entries = step .holds .fits; agree = d .places .agree }) pages
               (ap (open-block Data) (step .small) ∙ ap (open-block Data) (go .only .small))
               (ap (next-offset Data) (step .small) ∙ ap (next-offset Data) (go .only .small))
               (d .places .places);
@@ -152,12 +157,17 @@ module _ {g : Geometry} (ok : Accepted g) where
       below? used (g .C)
       (λ h. rw (lt-ltb used (g .C) h) (record { kept = kept-none tt sound len; room = h; missing = λ k e. e }))
       (λ h. rw (le-ltb used (g .C) h)
-      (forgotten s len sound i (omega (arith, ok .C-from)) (omega (arith, ok .C-from)) (cond (is-changed i (s .cache)) (write-back g i) nothing s)
+      (forgotten s len sound i (omega (arith, ok .C-from)) (omega (arith, ok .C-from))
+      (cond (is-changed i (s .cache)) (write-back g i) nothing s)
       (can-go s len sound i (omega (arith, ok .C-from)) ok)))
 
   -- Where l is not cached: an entry is made free, and what flash stores for l enters.
   fetched : (l : ℕ) (s : State) → l < g .L → cached g s l ≡ Miss → (o : Outcome (Unit {0})) → Free g s o
-      → Translated g l s (record { value = fetch g l (o .after) .value; after = fetch g l (o .after) .after; did = o .did ++ fetch g l (o .after) .did })
+      → Translated g l s (record {
+        value = fetch g l (o .after) .value;
+        after = fetch g l (o .after) .after;
+        did = o .did ++ fetch g l (o .after) .did;
+      })
   fetched l s below miss o free =
       let s₁ = o .after in
       let m = cached g s₁ in
@@ -166,7 +176,8 @@ module _ {g : Geometry} (ok : Accepted g) where
       let handed = fetch-law g s₁ m holds (ok .W-from) l (free .room) (free .missing l miss) below in
       let places = enter-keeps-places g s₁ m holds (free .kept .sound .rule-7) l (stored-in g s₁ l)
       (handed .step) (free .missing l miss) refl in
-      let entered : Kept g 1 s₁ (fetch g l s₁) = cache-kept page (free .kept .sound) (free .kept .lengths) (handed .step) places (page-read-cost page) in
+      let entered : Kept g 1 s₁ (fetch g l s₁) = cache-kept page (free .kept .sound) (free .kept .lengths) (handed .step) places
+      (page-read-cost page) in
       record { kept = within (2 * g .P + 2) (omega arith) (kept-then o (fetch g l s₁) (free .kept) entered); rank = handed .rank }
 
   pub translate-law : (l : ℕ) (s : State) → Lengths g s → Sound g s → l < g .L → Translated g l s (translate g l s)
@@ -176,7 +187,8 @@ module _ {g : Geometry} (ok : Accepted g) where
       below? i (g .C)
       (λ h. rw (lt-ltb i (g .C) h) (touched i (rank-found g (s .cache) (s .small .used) l h)))
       (λ h. rw (le-ltb i (g .C) h)
-      (fetched l s below (cache-holds g s len (cache-of sound) .misses l (rank-missing g (s .cache) (s .small .used) l (sound .rule-5 .at-most) h))
+      (fetched l s below (cache-holds g s len (cache-of sound) .misses l
+      (rank-missing g (s .cache) (s .small .used) l (sound .rule-5 .at-most) h))
       (drop-if-full g s) (dropped-law s len sound)))
     where
       touched : (i : ℕ) → Has-rank (s .cache) (s .small .used) l i → Translated g l s (touch i s)

@@ -52,7 +52,8 @@ record Begun (g : Geometry) (e : Entry) (s : State) (o : Outcome (List ℕ)) : T
   done : Done g s (o .did) (o .after)
   costs : cost (o .did) ≤ 1
 
-begun-law : (g : Geometry) (t : ℕ) (e : Entry) (s : State) → Lengths g s → Names g Translation (s .spare) t e → Begun g e s (begun g e s)
+begun-law : (g : Geometry) (t : ℕ) (e : Entry) (s : State) → Lengths g s → Names g Translation (s .spare) t e
+    → Begun g e s (begun g e s)
 unfolding begun read-page perform look give counted apply _>>=_
 begun-law g t (Place p) s len names =
     record {
@@ -86,17 +87,25 @@ record Page-set (g : Geometry) (t : ℕ) (words : List ℕ) (s : State) (o : Out
   done : Done g s (o .did) (o .after)
   costs : cost (o .did) ≡ 1
 
-module _ (g : Geometry) (t : ℕ) (words : List ℕ) (s : State) (len : Lengths g s) (holds : Holds g Translation s (in-directory (s .directory))) (below : t < M g) where
+module _ (g : Geometry) (t : ℕ) (words : List ℕ) (s : State) (len : Lengths g s)
+    (holds : Holds g Translation s (in-directory (s .directory))) (below : t < M g) where
   -- Program and mark have been made, and the directory names the new page.
   named-law : (q : Outcome ℕ) (o : Outcome (Unit {0})) → Page-written g Translation t words (in-directory (s .directory)) s q o
-      → Page-set g t words s (record { value = tt; after = with-directory (set (o .after .directory) t (q .value)) (o .after); did = q .did ++ (o .did ++ []) })
+      → Page-set g t words s
+      (record {
+        value = tt;
+        after = with-directory (set (o .after .directory) t (q .value)) (o .after);
+        did = q .did ++ (o .did ++ []);
+      })
   named-law q o w =
       record {
         pages =
             record {
-              fits = subst (λ x. Region-fits g Translation (o .after .chip) (o .after .spare) (open-block Translation x) (next-offset Translation x))
+              fits = subst (λ x. Region-fits g Translation (o .after .chip) (o .after .spare) (open-block Translation x)
+                  (next-offset Translation x))
                   (sym (w .small)) (w .replacement .fits);
-              besides = subst (λ x. Besides g Translation (o .after .spare) (open-block Translation x)) (sym (w .small)) (w .replacement .besides (holds .besides));
+              besides = subst (λ x. Besides g Translation (o .after .spare) (open-block Translation x)) (sym (w .small))
+                  (w .replacement .besides (holds .besides));
               maps = w .replacement .maps view renames;
             };
         written = w .replacement .written view renames;
@@ -105,7 +114,8 @@ module _ (g : Geometry) (t : ℕ) (words : List ℕ) (s : State) (len : Lengths 
             record {
               data-pages = w .replacement .elsewhere;
               cache = w .cache;
-              small = w .small ∙ ap (λ x. with-open Translation (x .open-translation) (x .translation-offset) (s .small)) (sym (w .small));
+              small = w .small ∙ ap (λ x. with-open Translation (x .open-translation) (x .translation-offset) (s .small))
+                  (sym (w .small));
             };
         lengths =
             record {
@@ -125,7 +135,8 @@ module _ (g : Geometry) (t : ℕ) (words : List ℕ) (s : State) (len : Lengths 
       renames =
           record {
             there = getD-set-same (o .after .directory) t (q .value) none (omega (arith, w .lengths .directory-fits)) ∙ w .value;
-            elsewhere = λ j h apart. getD-set-other (o .after .directory) t j (q .value) none apart ∙ ap (λ d. getD d j none) (w .directory);
+            elsewhere = λ j h apart. getD-set-other (o .after .directory) t j (q .value) none apart
+                ∙ ap (λ d. getD d j none) (w .directory);
           }
 
   writing-law : (former : Entry) → Accepted g → next-offset Translation (s .small) < g .P → length words ≡ g .W
@@ -133,7 +144,8 @@ module _ (g : Geometry) (t : ℕ) (words : List ℕ) (s : State) (len : Lengths 
   unfolding writing directory-names-it set-directory _>>=_
   writing-law former ok room long e =
       named-law (program-next g Translation t words s) (mark-old g former (program-next g Translation t words s .after))
-      (page-written g Translation t words (in-directory (s .directory)) s ok len long (holds .fits) room (holds .maps) below former e)
+      (page-written g Translation t words (in-directory (s .directory)) s ok len long (holds .fits) room
+      (holds .maps) below former e)
 
 -- ---- update
 
@@ -151,7 +163,8 @@ pub record Updated (g : Geometry) (t : ℕ) (ms : List Mapping) (bound : ℕ) (s
   pub done : Done g s (o .did) (o .after)
   pub costs : cost (o .did) ≤ bound
 
-module _ {g : Geometry} (ok : Accepted g) (t : ℕ) (ms : List Mapping) (s : State) (index : Index-fits g s) (below : t < M g) (of-t : Mappings-of g t ms) where
+module _ {g : Geometry} (ok : Accepted g) (t : ℕ) (ms : List Mapping) (s : State) (index : Index-fits g s) (below : t < M g)
+    (of-t : Mappings-of g t ms) where
   -- Room made, the words begun with, and the page written: what flash stores then.
   together : (room : Outcome (Unit {0})) (b : Outcome (List ℕ)) (o : Outcome (Unit {0})) → Translation-room g s room
       → Begun g (named t (room .after .directory)) (room .after) b → Page-set g t (set-words g ms (b .value)) (b .after) o
@@ -163,7 +176,8 @@ module _ {g : Geometry} (ok : Accepted g) (t : ℕ) (ms : List Mapping) (s : Sta
             ∙ ap (λ (words : List ℕ). word-in words l) (page .written)
             ∙ set-words-at ok t ms (b .value) of-t (begins .long) l e
             ∙ ap (latest ms l)
-            (begun-word (translation-word g l) (word-below ok l) ∙ ap (λ (k : ℕ). word-in (table g (s .chip) (s .directory) k) l) (sym e)
+            (begun-word (translation-word g l) (word-below ok l)
+            ∙ ap (λ (k : ℕ). word-in (table g (s .chip) (s .directory) k) l) (sym e)
             ∙ sym (stored-is ok (s .chip) (s .directory) l));
         elsewhere = λ l h e. stored-is ok (o .after .chip) (o .after .directory) l
             ∙ ap (λ (words : List ℕ). word-in words l) (kept (translation-page g l) (page-below ok l h) e)
@@ -171,7 +185,15 @@ module _ {g : Geometry} (ok : Accepted g) (t : ℕ) (ms : List Mapping) (s : Sta
         only = only-trans (r .only) (subst (λ x. Translation-only g x (o .after)) (begins .same) (page .only));
         lengths = page .lengths;
         done = done-then (r .done) (done-then (begins .done) (page .done));
-        costs = omega (arith, cost-++ (room .did) (b .did ++ o .did), cost-++ (b .did) (o .did), r .costs, begins .costs, page .costs, ok .P-from);
+        costs = omega (
+          arith,
+          cost-++ (room .did) (b .did ++ o .did),
+          cost-++ (b .did) (o .did),
+          r .costs,
+          begins .costs,
+          page .costs,
+          ok .P-from,
+        );
       }
     where
       word-in : List ℕ → ℕ → ℕ
@@ -181,7 +203,8 @@ module _ {g : Geometry} (ok : Accepted g) (t : ℕ) (ms : List Mapping) (s : Sta
       table′ k = table g (o .after .chip) (o .after .directory) k
 
       kept : (k : ℕ) → k < M g → k ≢ t → table′ k ≡ table g (s .chip) (s .directory) k
-      kept k h apart = page .keeps k h apart ∙ ap (λ (x : State). table g (x .chip) (x .directory) k) (begins .same) ∙ r .keeps k h
+      kept k h apart = page .keeps k h apart ∙ ap (λ (x : State). table g (x .chip) (x .directory) k) (begins .same)
+          ∙ r .keeps k h
 
       begun-word : (i : ℕ) → i < g .W → getD (b .value) i none ≡ getD (table g (s .chip) (s .directory) t) i none
       begun-word i h = begins .word i h ∙ ap (λ (words : List ℕ). getD words i none) (r .keeps t below)
@@ -206,9 +229,11 @@ module _ {g : Geometry} (ok : Accepted g) (t : ℕ) (ms : List Mapping) (s : Sta
       together room b (writing g t former (set-words g ms (b .value)) (b .after)) r begins
       (written room r (b .after) (begins .same) (set-words g ms (b .value)) (length-set-words ok ms (b .value) ∙ begins .long))
     where
-      written : (room : Outcome (Unit {0})) → Translation-room g s room → (x : State) → x ≡ room .after → (words : List ℕ) → length words ≡ g .W
+      written : (room : Outcome (Unit {0})) → Translation-room g s room → (x : State) → x ≡ room .after → (words : List ℕ)
+          → length words ≡ g .W
           → Page-set g t words x (writing g t (named t (room .after .directory)) words x)
       written room r x e words long =
-          writing-law g t words x (subst (Lengths g) (sym e) (r .lengths)) (subst (λ y. Holds g Translation y (in-directory (y .directory))) (sym e) (r .holds)) below
+          writing-law g t words x (subst (Lengths g) (sym e) (r .lengths))
+          (subst (λ y. Holds g Translation y (in-directory (y .directory))) (sym e) (r .holds)) below
           (named t (room .after .directory)) ok (subst (λ y. next-offset Translation (y .small) < g .P) (sym e) (r .room)) long
           (ap (λ y. named t (y .directory)) e)

@@ -50,14 +50,16 @@ record Placed (g : Geometry) (l : ℕ) (buffer : List ℕ) (s : State) (after : 
   sound : Sound g after
   lengths : Lengths g after
   written : contents g (after .chip) (decode (current g after l)) ≡ buffer
-  keeps : (k : ℕ) → k < g .L → k ≢ l → contents g (after .chip) (decode (current g after k)) ≡ contents g (s .chip) (decode (current g s k))
+  keeps : (k : ℕ) → k < g .L → k ≢ l
+      → contents g (after .chip) (decode (current g after k)) ≡ contents g (s .chip) (decode (current g s k))
 
 record Placing (g : Geometry) (l : ℕ) (buffer : List ℕ) (s : State) (o : Outcome Replied) : Type 0 where
   placed : Placed g l buffer s (o .after)
   done : Done g s (o .did) (o .after)
   costs : cost (o .did) ≡ 1
 
-module _ {g : Geometry} (ok : Accepted g) (l i : ℕ) (buffer : List ℕ) (s : State) (len : Lengths g s) (holds : Holds g Data s (current g s))
+module _ {g : Geometry} (ok : Accepted g) (l i : ℕ) (buffer : List ℕ) (s : State) (len : Lengths g s)
+    (holds : Holds g Data s (current g s))
     (inv : Follows g l i [] s) (below : l < g .L) where
   -- After program and mark the entry is set: it names the new page.
   entry-set : (q : Outcome ℕ) (o : Outcome (Unit {0})) → Page-written g Data l buffer (current g s) s q o
@@ -67,8 +69,10 @@ module _ {g : Geometry} (ok : Accepted g) (l i : ℕ) (buffer : List ℕ) (s : S
       record {
         sound = sound-from (follows .index)
             (record {
-              fits = subst (λ x. Region-fits g Data (o .after .chip) (o .after .spare) (open-block Data x) (next-offset Data x)) (sym (w .small)) (w .replacement .fits);
-              besides = subst (λ x. Besides g Data (o .after .spare) (open-block Data x)) (sym (w .small)) (w .replacement .besides (holds .besides));
+              fits = subst (λ x. Region-fits g Data (o .after .chip) (o .after .spare) (open-block Data x) (next-offset Data x))
+                  (sym (w .small)) (w .replacement .fits);
+              besides = subst (λ x. Besides g Data (o .after .spare) (open-block Data x)) (sym (w .small))
+                  (w .replacement .besides (holds .besides));
               maps = w .replacement .maps (current g s₄) renames;
             })
             (record { entries = set .step .holds .fits; agree = places .agree });
@@ -87,22 +91,26 @@ module _ {g : Geometry} (ok : Accepted g) (l i : ℕ) (buffer : List ℕ) (s : S
       s₄ = set-entry i (q .value) (o .after) .after
 
       elsewhere : Same-elsewhere g Data s (o .after)
-      elsewhere = elsewhere-with (open-block Data (s .small)) (suc (next-offset Data (s .small))) (w .replacement .elsewhere) (w .directory) (w .cache) (w .small)
+      elsewhere = elsewhere-with (open-block Data (s .small)) (suc (next-offset Data (s .small))) (w .replacement .elsewhere)
+          (w .directory) (w .cache) (w .small)
 
       follows : Follows g l i [] (o .after)
       follows = cache-follower ok l i .kept [] s (o .after) len (w .lengths) elsewhere inv
 
       set : Ranks-kept g (o .after) (set-entry i (q .value) (o .after)) (updated (cached g (o .after)) l (Hit (q .value) 1))
-      set = set-entry-law g (o .after) (cached g (o .after)) (cache-holds g (o .after) (w .lengths) (follows .cache)) l i (q .value) (follows .rank)
+      set = set-entry-law g (o .after) (cached g (o .after)) (cache-holds g (o .after) (w .lengths) (follows .cache)) l i
+          (q .value) (follows .rank)
 
       places : Place-set g l (q .value) (o .after) (set-entry i (q .value) (o .after) .after)
-      places = set-entry-sets-place g (o .after) (cached g (o .after)) (cache-holds g (o .after) (w .lengths) (follows .cache)) (follows .cache .agree) l (q .value) (set .step)
+      places = set-entry-sets-place g (o .after) (cached g (o .after)) (cache-holds g (o .after) (w .lengths) (follows .cache))
+          (follows .cache .agree) l (q .value) (set .step)
 
       renames : Renames (g .L) l (next-page g Data s) (current g s) (current g (set-entry i (q .value) (o .after) .after))
       renames =
           record {
             there = places .here ∙ w .value;
-            elsewhere = λ k h apart. places .elsewhere k h apart ∙ cache-follower ok l i .seen [] s (o .after) len (w .lengths) elsewhere inv k h;
+            elsewhere = λ k h apart. places .elsewhere k h apart
+                ∙ cache-follower ok l i .seen [] s (o .after) len (w .lengths) elsewhere inv k h;
           }
 
   -- The page that is marked is the one that the entry names now.
@@ -115,7 +123,8 @@ module _ {g : Geometry} (ok : Accepted g) (l i : ℕ) (buffer : List ℕ) (s : S
   placing-law room long =
       let q = program-next g Data l buffer s in
       let old = decode (physical-at i (q .after .cache)) in
-      let w = page-written g Data l buffer (current g s) s ok len long (holds .fits) room (holds .maps) below old (ap decode (sym old-page)) in
+      let w = page-written g Data l buffer (current g s) s ok len long (holds .fits) room (holds .maps) below old
+      (ap decode (sym old-page)) in
       let m = mark-old g old (q .after) in
       record {
         placed = entry-set q m w;
@@ -139,7 +148,8 @@ write-costs : (P : ℕ) → 1 ≤ P → 2 * P + 2 + (2 * (P - 1) + (2 * P + 1) *
 write-costs zero h = absurd (omega arith)
 write-costs (suc p) h = let e : suc p - 1 ≡ p = omega arith in rw e (omega arith)
 
-module _ {g : Geometry} (ok : Accepted g) (l : ℕ) (buffer : List ℕ) (s : State) (len : Lengths g s) (sound : Sound g s) (below : l < g .L) (long : length buffer ≡ g .W) where
+module _ {g : Geometry} (ok : Accepted g) (l : ℕ) (buffer : List ℕ) (s : State) (len : Lengths g s) (sound : Sound g s)
+    (below : l < g .L) (long : length buffer ≡ g .W) where
   together : (t : Outcome ℕ) (r : Outcome (Unit {0})) (o : Outcome Replied) → Translated g l s t
       → Room-made g Data (update-bound g) (place-while g) (Follows g l (t .value)) (t .after) r
       → Placing g l buffer (r .after) o
@@ -172,7 +182,8 @@ module _ {g : Geometry} (ok : Accepted g) (l : ℕ) (buffer : List ℕ) (s : Sta
       let i = t .value in
       let s₁ = t .after in
       let sound₁ = a .kept .sound in
-      let inv : Follows g l i [] s₁ = record { index = index-of sound₁; cache = cache-of sound₁; waiting = none-waits; rank = a .rank } in
+      let inv : Follows g l i [] s₁ =
+      record { index = index-of sound₁; cache = cache-of sound₁; waiting = none-waits; rank = a .rank } in
       let r = make-room g Data (cache-follows g) s₁ in
       let b = make-room-law (cache-follower ok l i) ok s₁ (a .kept .lengths) (data-of sound₁) inv in
       together t r (placing g l i buffer (r .after)) a b
