@@ -1,5 +1,5 @@
 -- Demand 1, proved: each call's law of Tests.antt, read off number by number.
-use Prim.Native.Nat.{ℕ, _*_, _≤_, _<_}
+use Prim.Native.Nat.{ℕ, zero, suc, _*_, _≤_, _<_}
 use mathlib.Core.Path.{_≡_, refl, _∙_, ap}
 use mathlib.Core.Logic.{_≢_, _↔_, _⊎_, inl, inr, Iff·rfl, Iff·trans}
 use mathlib.Core.Bool.{Bool}
@@ -9,12 +9,12 @@ use lib.ListN.{length, getD}
 use borrow.Author.Tests.{ne-eqb}
 use Rattle.scope.specs.Geometry.{Geometry}
 use Rattle.scope.specs.Lent.{none, State, Request}
-use Rattle.scope.specs.Operations.{Outcome, Step, give}
+use Rattle.scope.specs.Operations.{Operation, _>>=_, Outcome, Step, give}
 use Rattle.scope.specs.Replies.{DONE, UNWRITTEN, GEOMETRY, LENGTH, DAMAGED, KIND, PAGE}
 use Rattle.scope.specs.Requests.{replied, read-steps}
-use Rattle.scope.specs.Calls.{no-request, part, serve-records, check, read, write, run}
+use Rattle.scope.specs.Calls.{RunReplied, no-request, part, serve-records, check, read, write, run}
 use Rattle.flash.specs.Cases.{same?, below?}
-use Rattle.promises.specs.Demands.{Grounds, Refuses, Unchanged, Refusal, Demand-1, Demand-1-record, before-record}
+use Rattle.promises.specs.Demands.{own, own-operations, Grounds, Refuses, Unchanged, Refusal, Demand-1, Demand-1-record, before-record}
 use Rattle.promises.specs.Tests.{Reason, Given, Tested}
 use Rattle.promises.specs.Refusals.{read-reply, write-reply, record-tested, format-tested, check-tested, read-tested, write-tested, run-tested}
 use Rattle.promises.specs.Records.{answer-of, record-stores, final-answer, kept-words}
@@ -133,6 +133,16 @@ module _ (g : Geometry) (boundary : Bool) (requests : List Request) (words answe
       ap (λ o. getD (o .value .answers) i none) (run-is-records e)
       ∙ final-answer g requests words answers s (length requests) i h (omega (arith, run-fits e .1))
 
+  -- The run's operations are its records', in order.
+  records-operations : (n : ℕ) → before-record g requests words answers s n .did ≡ own-operations g requests words answers s n
+  unfolding serve-records give _>>=_
+  records-operations zero = refl
+  records-operations (suc n) = ap (λ (did : List Operation). did ++ own g requests words answers s n .did) (records-operations n)
+
+  run-operations : run g boundary requests words answers s .value .reply ≡ DONE
+      → run g boundary requests words answers s .did ≡ own-operations g requests words answers s (length requests)
+  run-operations e = ap (λ (o : Outcome RunReplied). o .did) (run-is-records e) ∙ records-operations (length requests)
+
   record-of-run : (i : ℕ) → run g boundary requests words answers s .value .reply ≡ DONE → i < length requests
       → Demand-1-record g requests words answers s (run g boundary requests words answers s) i
   record-of-run i e h =
@@ -203,5 +213,6 @@ module _ (g : Geometry) (s : State) where
             (refuses (run-tested g boundary requests words answers s) (omega arith));
         run-unchanged = λ boundary requests words answers. run-unchanged g boundary requests words answers s;
         record-of-run = λ boundary requests words answers. record-of-run g boundary requests words answers s;
+        run-operations = λ boundary requests words answers. run-operations g boundary requests words answers s;
         empty-run = empty-run;
       }

@@ -90,6 +90,12 @@ own g requests words answers s i =
     let before = before-record g requests words answers s i in
     serve-record g i (getD requests i no-request) (before .value) (before .after)
 
+-- The operations of the first n records, in order.
+abbrev pub own-operations : Geometry → List Request → List ℕ → List ℕ → State → ℕ → List Operation
+own-operations g requests words answers s zero = []
+own-operations g requests words answers s (suc n) =
+    own-operations g requests words answers s n ++ own g requests words answers s n .did
+
 -- Of record i of a run that is not itself refused: "each record gets its own number and the run goes on".
 pub record Demand-1-record (g : Geometry) (requests : List Request) (words answers : List ℕ) (s : State) (o : Outcome RunReplied)
     (i : ℕ) : Type 0 where
@@ -137,6 +143,10 @@ pub record Demand-1 (g : Geometry) (s : State) : Type 0 where
   pub record-of-run : (boundary : Bool) (requests : List Request) (words answers : List ℕ) (i : ℕ) →
       let o = run g boundary requests words answers s in
       o .value .reply ≡ DONE → i < length requests → Demand-1-record g requests words answers s o i
+  -- "The sums of its records' counts": the run's operations are its records', in order.
+  pub run-operations : (boundary : Bool) (requests : List Request) (words answers : List ℕ) →
+      let o = run g boundary requests words answers s in
+      o .value .reply ≡ DONE → o .did ≡ own-operations g requests words answers s (length requests)
   -- "An empty run changes nothing"; its tests are those of every run.
   pub empty-run : (boundary : Bool) (words answers : List ℕ) →
       let o = run g boundary [] words answers s in

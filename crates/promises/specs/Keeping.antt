@@ -80,7 +80,7 @@ kept-contents {g = g} {s = s} {o = o} sound h l below =
     ∙ contents-same (h .pages) l (decode (current g s l)) (sound .rule-6 .current-place l below)
 
 -- A map that names what another names.
-pub same-map : {g : Geometry} {chip spare : List ℕ} {opened offset : ℕ} {view view′ : ℕ → ℕ}
+same-map : {g : Geometry} {chip spare : List ℕ} {opened offset : ℕ} {view view′ : ℕ → ℕ}
     → ((l : ℕ) → l < g .L → view′ l ≡ view l)
     → Region-holds g Data chip spare opened offset view → Region-holds g Data chip spare opened offset view′
 same-map same holds =

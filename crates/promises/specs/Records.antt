@@ -74,7 +74,7 @@ answer-at-most g i q words s =
     (λ h. rw (t .served h .1) (serve-at-most g q (part g i words) s (part-at-most g i words)))
 
 -- "The words of an UNWRITTEN or refused read stay", and so do a write's.
-pub answer-keeps : (g : Geometry) (i : ℕ) (q : Request) (words : List ℕ) (s : State)
+answer-keeps : (g : Geometry) (i : ℕ) (q : Request) (words : List ℕ) (s : State)
     → (answered g i q words s .value .reply ≢ DONE) ⊎ (q .kind ≢ 0) → answered g i q words s .value .buffer ≡ part g i words
 unfolding serve give
 answer-keeps g i q words s h =
@@ -120,7 +120,7 @@ sets-same (suc n) l i =
     (λ h. ap (λ (vs : List ℕ). sets l i (take (suc n) vs)) (drop-of-length-le l h))
 
 -- Words stored in part j, at most W, leave the other parts.
-pub part-elsewhere : (g : Geometry) (i j : ℕ) (words buffer : List ℕ) → i ≢ j → length buffer ≤ g .W
+part-elsewhere : (g : Geometry) (i j : ℕ) (words buffer : List ℕ) → i ≢ j → length buffer ≤ g .W
     → part g i (sets words (j * g .W) buffer) ≡ part g i words
 part-elsewhere g i j words buffer ne h =
     words-same g i words (sets words (j * g .W) buffer) (length-sets words (j * g .W) buffer)
@@ -143,7 +143,7 @@ part-here g i words buffer h k =
 
 module _ (g : Geometry) (requests : List Request) (words answers : List ℕ) (s : State) where
   -- What is lent and the state, once record n has answered.
-  pub next-record : (n : ℕ) → before-record g requests words answers s (suc n) .value ≡ own g requests words answers s n .value
+  next-record : (n : ℕ) → before-record g requests words answers s (suc n) .value ≡ own g requests words answers s n .value
   unfolding serve-records _>>=_
   next-record n = refl
 
@@ -158,7 +158,7 @@ module _ (g : Geometry) (requests : List Request) (words answers : List ℕ) (s 
       let before = before-record g requests words answers s n in
       answer-at-most g n (getD requests n no-request) (before .value .words) (before .after)
 
-  pub length-answers : (n : ℕ) → length (before-record g requests words answers s n .value .answers) ≡ length answers
+  length-answers : (n : ℕ) → length (before-record g requests words answers s n .value .answers) ≡ length answers
   unfolding serve-records give
   length-answers zero = refl
   length-answers (suc n) =

@@ -104,7 +104,7 @@ module _ {g : Geometry} (ok : Accepted g) where
           writes = λ _ _. (is-done, rw e (w .costs));
         }
 
-    pub record-answers : Answers g i q words s store
+    record-answers : Answers g i q words s store
     unfolding serve
     record-answers =
         let t = record-tested g i q words s in

@@ -44,10 +44,10 @@ Rising k [] = Unit {0}
 Rising k (r ∷ rs) = (k < r .number) × Rising (r .number) rs
 
 -- A test that fails has its reason passed.
-pub failed : (r : Reason) → r .test ≡ false → r .Passes
+failed : (r : Reason) → r .test ≡ false → r .Passes
 failed r e = r .passes .holds (rw e)
 
-pub not-failed : (r : Reason) → r .Passes → r .test ≡ false
+not-failed : (r : Reason) → r .Passes → r .test ≡ false
 not-failed r h = on (r .test) (λ e. clash (r .passes .passes h) (rw e)) (λ e. e)
 
 -- The answer is DONE or the number of one of the tests, all of which are above k.
