@@ -11,12 +11,12 @@ use Rattle.scope.specs.Geometry.{Geometry}
 use Rattle.scope.specs.Lent.{none, State, Request}
 use Rattle.scope.specs.Operations.{Operation, _>>=_, Outcome, Step, give}
 use Rattle.scope.specs.Replies.{DONE, UNWRITTEN, GEOMETRY, LENGTH, DAMAGED, KIND, PAGE}
-use Rattle.scope.specs.Requests.{replied, read-steps}
+use Rattle.scope.specs.Requests.{format-steps, replied, read-steps}
 use Rattle.scope.specs.Calls.{RunReplied, no-request, part, serve-records, check, read, write, run}
 use Rattle.flash.specs.Cases.{same?, below?}
 use Rattle.promises.specs.Demands.{own, own-operations, Grounds, Refuses, Unchanged, Refusal, Demand-1, Demand-1-record, before-record}
 use Rattle.promises.specs.Tests.{Reason, Given, Tested}
-use Rattle.promises.specs.Refusals.{read-reply, write-reply, record-tested, format-tested, check-tested, read-tested, write-tested, run-tested}
+use Rattle.promises.specs.Refusals.{run-reply, read-reply, write-reply, record-tested, format-tested, check-tested, read-tested, write-tested, run-tested}
 use Rattle.promises.specs.Records.{answer-of, record-stores, final-answer, kept-words}
 
 -- No reason has a number above PAGE.
@@ -61,6 +61,11 @@ module _ {A : Type 0} {rs : List Reason} {reply : A → ℕ} {refused : ℕ → 
   unchanged : Refusal (reply (o .value)) → Unchanged s o
   unfolding give
   unchanged h = record { state = ap (λ o. o .after) (t .refuses h); operations = ap (λ o. o .did) (t .refuses h) }
+
+  -- Where it is not refused it answers what its steps do.
+  replies : (n : ℕ) → reply (steps s .value) ≡ n → ¬ (Refusal (reply (o .value))) → reply (o .value) ≡ n
+  replies n e h =
+      below? UNWRITTEN (reply (o .value)) (λ k. absurd (h k)) (λ k. ap (λ (x : Outcome A). reply (x .value)) (t .served k .1) ∙ e)
 
 -- The same grounds, said otherwise.
 renamed : {n : ℕ} {a b : Grounds} → (a .geometry ↔ b .geometry) → (a .lengths ↔ b .lengths) → (a .damaged ↔ b .damaged)
@@ -188,6 +193,7 @@ module _ (g : Geometry) (s : State) where
       record { state = ap (λ o. o .after) is; operations = ap (λ o. o .did) is })
 
   pub demand-1 : Demand-1 g s
+  unfolding format-steps give _>>=_
   demand-1 =
       record {
         format-refuses = λ boundary.
@@ -213,6 +219,13 @@ module _ (g : Geometry) (s : State) where
             (refuses (run-tested g boundary requests words answers s) (omega arith));
         run-unchanged = λ boundary requests words answers. run-unchanged g boundary requests words answers s;
         record-of-run = λ boundary requests words answers. record-of-run g boundary requests words answers s;
+        format-done = λ boundary. replies (format-tested g boundary s) DONE refl;
+        check-done = λ boundary. replies (check-tested g boundary s) DONE refl;
+        write-done = λ boundary l buffer.
+            replies (write-tested g boundary l buffer s) DONE (ap (λ r. r .reply) (write-reply g l buffer s));
+        run-done = λ boundary requests words answers.
+            replies (run-tested g boundary requests words answers s) DONE
+            (run-reply g requests (length requests) words answers s);
         run-operations = λ boundary requests words answers. run-operations g boundary requests words answers s;
         empty-run = empty-run;
       }

@@ -143,6 +143,15 @@ pub record Demand-1 (g : Geometry) (s : State) : Type 0 where
   pub record-of-run : (boundary : Bool) (requests : List Request) (words answers : List ℕ) (i : ℕ) →
       let o = run g boundary requests words answers s in
       o .value .reply ≡ DONE → i < length requests → Demand-1-record g requests words answers s o i
+  -- UNWRITTEN is a read's answer: the others are DONE where they aren't refused.
+  pub format-done : (boundary : Bool) → ¬ (Refusal (format g boundary s .value)) → format g boundary s .value ≡ DONE
+  pub check-done : (boundary : Bool) → ¬ (Refusal (check g boundary s .value)) → check g boundary s .value ≡ DONE
+  pub write-done : (boundary : Bool) (l : ℕ) (buffer : List ℕ) →
+      let reply = write g boundary l buffer s .value .reply in
+      ¬ (Refusal reply) → reply ≡ DONE
+  pub run-done : (boundary : Bool) (requests : List Request) (words answers : List ℕ) →
+      let reply = run g boundary requests words answers s .value .reply in
+      ¬ (Refusal reply) → reply ≡ DONE
   -- "The sums of its records' counts": the run's operations are its records', in order.
   pub run-operations : (boundary : Bool) (requests : List Request) (words answers : List ℕ) →
       let o = run g boundary requests words answers s in

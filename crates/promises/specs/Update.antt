@@ -1,6 +1,6 @@
 -- Update: the law of the one step that writes translation pages. It keeps the index, sets what flash stores for its mappings, leaves
 -- the data region, the cache and the rest of the small record, and costs at most 2P+1.
-use Prim.Native.Nat.{ℕ, _+_, _*_, _≤_, _<_}
+use Prim.Native.Nat.{ℕ, suc, _+_, _*_, _≤_, _<_}
 use mathlib.Core.Path.{_≡_, refl, sym, _∙_, ap, subst}
 use mathlib.Core.Logic.{_≢_}
 use mathlib.Core.List.{List, [], _++_}
@@ -9,7 +9,7 @@ use lib.ListN.{length, getD, set, length-set, length-replicate, getD-replicate}
 use lib.Seq.{getD-set-same, getD-set-other}
 use Rattle.scope.specs.Geometry.{Geometry, Accepted, M}
 use Rattle.scope.specs.Lent.{none, Entry, Place, Nowhere, State, Mapping, named, with-directory, translation-page, translation-word}
-use Rattle.scope.specs.Regions.{Translation}
+use Rattle.scope.specs.Regions.{Region, owners, Translation}
 use Rattle.scope.specs.SmallRecord.{open-block, next-offset, with-open}
 use Rattle.scope.specs.Sound.{Names}
 use Rattle.scope.specs.Operations.{Read, Outcome, Step, apply, give, look, perform, set-directory, counted, _>>=_}
@@ -20,7 +20,8 @@ use Rattle.flash.specs.Words.{Lengths, length-words-of}
 use Rattle.flash.specs.Places.{page-on-chip}
 use Rattle.flash.specs.SamePages.{same-refl, same-trans}
 use Rattle.flash.specs.Listed.{cost, cost-++, cost-none}
-use Rattle.region.specs.Holds.{Holds, Region-fits, Besides, Renames, contents}
+use Rattle.region.specs.Holds.{Holds, Besides, Renames, contents}
+use Rattle.region.specs.Elsewhere.{open-with, offset-with}
 use Rattle.region.specs.Done.{Done, done-none, done-one, done-then}
 use Rattle.region.specs.NextPage.{next-page, Page-written, page-written}
 use Rattle.region.specs.DirectoryFollows.{in-directory, Translation-only, Translation-room, translation-room-law}
@@ -41,6 +42,22 @@ only-trans a b =
       cache = b .cache ∙ a .cache;
       small = b .small ∙ ap (with-open Translation _ _) (a .small);
     }
+
+-- A page has been written, and the region holds under the map that names it.
+pub written-holds : {g : Geometry} {r : Region} {k : ℕ} {words : List ℕ} {view : ℕ → ℕ} {s : State} {q : Outcome ℕ}
+    {o : Outcome (Unit {0})}
+    → Page-written g r k words view s q o → Besides g r (s .spare) (open-block r (s .small))
+    → (view′ : ℕ → ℕ) → Renames (owners g r) k (next-page g r s) view view′ → Holds g r (o .after) view′
+written-holds {r = r} {s = s} {o = o} w besides view′ renames =
+    let opened = ap (open-block r) (w .small)
+    ∙ open-with r (open-block r (s .small)) (suc (next-offset r (s .small))) (s .small) in
+    let offset = ap (next-offset r) (w .small)
+    ∙ offset-with r (open-block r (s .small)) (suc (next-offset r (s .small))) (s .small) in
+    rw (opened, offset) (record {
+      fits = w .replacement .fits;
+      besides = w .replacement .besides besides;
+      maps = w .replacement .maps view′ renames;
+    })
 
 -- ---- the page read, or begun with
 
@@ -99,15 +116,7 @@ module _ (g : Geometry) (t : ℕ) (words : List ℕ) (s : State) (len : Lengths 
       })
   named-law q o w =
       record {
-        pages =
-            record {
-              fits = subst (λ x. Region-fits g Translation (o .after .chip) (o .after .spare) (open-block Translation x)
-                  (next-offset Translation x))
-                  (sym (w .small)) (w .replacement .fits);
-              besides = subst (λ x. Besides g Translation (o .after .spare) (open-block Translation x)) (sym (w .small))
-                  (w .replacement .besides (holds .besides));
-              maps = w .replacement .maps view renames;
-            };
+        pages = written-holds w (holds .besides) view renames;
         written = w .replacement .written view renames;
         keeps = w .replacement .keeps view renames;
         only =

@@ -1,7 +1,7 @@
 -- Write: translate, make room, program the next page, mark the one that the entry names now, and set the entry. The page then holds
 -- the buffer's words and every other page what it held, and it costs at most (2P+1)(P+1).
 use Prim.Native.Nat.{ℕ, zero, suc, _+_, _*_, _-_, _≤_, _<_}
-use mathlib.Core.Path.{_≡_, refl, sym, _∙_, ap, subst}
+use mathlib.Core.Path.{_≡_, refl, sym, _∙_, ap}
 use mathlib.Core.Logic.{_≢_}
 use mathlib.Core.List.{List, [], _++_}
 use native.Mathlib.Omega.{arith}
@@ -19,7 +19,7 @@ use Rattle.scope.specs.Requests.{Replied, replied, write-steps}
 use Rattle.scope.specs.Sound.{current, Sound}
 use Rattle.flash.specs.Words.{Lengths}
 use Rattle.flash.specs.Listed.{cost, cost-++, cost-none}
-use Rattle.region.specs.Holds.{Holds, Region-fits, Besides, Renames, contents}
+use Rattle.region.specs.Holds.{Holds, Renames, contents}
 use Rattle.region.specs.Elsewhere.{Same-elsewhere, elsewhere-with}
 use Rattle.region.specs.Done.{Done, done-none, done-then}
 use Rattle.region.specs.Follower.{Room-made}
@@ -30,7 +30,7 @@ use Rattle.cache.specs.Steps.{Ranks-kept, set-entry-law}
 use Rattle.cache.specs.Current.{Place-set, set-entry-sets-place}
 use Rattle.promises.specs.Demands.{Words, held, write-bound}
 use Rattle.promises.specs.Parts.{index-of, data-of, cache-of, sound-from, cached, cache-holds}
-use Rattle.promises.specs.Update.{update-bound}
+use Rattle.promises.specs.Update.{written-holds, update-bound}
 use Rattle.promises.specs.Follow.{place-while, Follows, none-waits, cache-follower}
 use Rattle.promises.specs.Keeping.{kept-contents}
 use Rattle.promises.specs.HeldWords.{held-same, held-is}
@@ -68,13 +68,7 @@ module _ {g : Geometry} (ok : Accepted g) (l i : ℕ) (buffer : List ℕ) (s : S
   entry-set q o w =
       record {
         sound = sound-from (follows .index)
-            (record {
-              fits = subst (λ x. Region-fits g Data (o .after .chip) (o .after .spare) (open-block Data x) (next-offset Data x))
-                  (sym (w .small)) (w .replacement .fits);
-              besides = subst (λ x. Besides g Data (o .after .spare) (open-block Data x)) (sym (w .small))
-                  (w .replacement .besides (holds .besides));
-              maps = w .replacement .maps (current g s₄) renames;
-            })
+            (written-holds w (holds .besides) (current g s₄) renames)
             (record { entries = set .step .holds .fits; agree = places .agree });
         lengths =
             record {
