@@ -5,13 +5,14 @@
 use Prim.Native.Nat.{ℕ, zero, suc, _+_, _*_, _≤_, _<_}
 use mathlib.Core.Path.{_≡_}
 use mathlib.Core.Logic.{_≢_, _↔_, _⊎_}
-use mathlib.Core.Bool.{Bool, true, false, cond, _&&_}
+use mathlib.Core.Bool.{Bool, true, false, not, cond, _&&_}
 use mathlib.Core.List.{List, [], _∷_, _++_}
 use lib.Dec.{eqb}
 use lib.ListN.{length, getD}
+use Rattle.scope.specs.Counting.{count}
 use Rattle.scope.specs.Geometry.{Geometry, Accepted}
-use Rattle.scope.specs.Lent.{none, valid, Entry, Place, Nowhere, decode, State, Request, most-requests, words-of, state-of, owner-of}
-use Rattle.scope.specs.Regions.{Data, Has-page}
+use Rattle.scope.specs.Lent.{none, valid, Entry, Place, Nowhere, decode, State, Request, most-requests, words-of, state-of, owner-of, is-valid}
+use Rattle.scope.specs.Regions.{Data, region-pages, Has-page}
 use Rattle.scope.specs.Sound.{Sound, Written, current}
 use Rattle.scope.specs.Operations.{Operation, Outcome, counted}
 use Rattle.scope.specs.Replies.{DONE, UNWRITTEN, GEOMETRY, LENGTH, DAMAGED, KIND, PAGE, Size}
@@ -273,6 +274,7 @@ pub record One-for-each (g : Geometry) (s : State) : Type 0 where
       → owner-of p (s .spare) ≡ owner-of q (s .spare) → p ≡ q
   pub written : (p : ℕ) → Has-page g Data p → state-of p (s .spare) ≡ valid
       → (owner-of p (s .spare) < g .L) × Written g s (owner-of p (s .spare))
+  pub as-many : count (region-pages g Data) (λ p. is-valid p (s .spare)) ≡ count (g .L) (λ l. not (eqb (current g s l) none))
 
 abbrev pub read-bound : Geometry → ℕ
 read-bound g = 2 * g .P + 3

@@ -20,6 +20,7 @@ pub mod Read
 pub mod Write
 pub mod Formatted
 -- Demands 2 and 3.
+pub mod OneForEach
 pub mod Standing
 pub mod RunStands
 pub mod Sequences

@@ -1,27 +1,26 @@
 -- Demands 2 and 3 over any list of calls: the store stands by the state after each of them, by the laws of the calls.
 use Prim.Native.Nat.{ℕ, _*_, _≤_, _<_}
-use mathlib.Core.Path.{_≡_, refl, sym, _∙_, ap, subst}
+use mathlib.Core.Path.{_≡_, refl, sym, _∙_, ap}
 use mathlib.Core.Logic.{inl, inr, ⊎-elim}
 use mathlib.Core.Bool.{Bool, true}
 use mathlib.Core.List.{List, [], _∷_, _++_, append-nil}
 use native.Mathlib.Omega.{arith}
 use native.Mathlib.Nat.{mul-le-mul-right}
 use lib.ListN.{length, getD}
-use borrow.Author.Tests.{ne-eqb}
 use Rattle.scope.specs.Geometry.{Geometry, Accepted}
-use Rattle.scope.specs.Lent.{none, valid, Entry, Place, Nowhere, decode, State, Request, most-requests, state-of, owner-of}
-use Rattle.scope.specs.Regions.{Data, Has-page}
+use Rattle.scope.specs.Lent.{none, State, Request, most-requests}
 use Rattle.scope.specs.Operations.{Outcome, give, _>>=_}
 use Rattle.scope.specs.Replies.{DONE, UNWRITTEN}
 use Rattle.scope.specs.Requests.{Replied, format-steps}
 use Rattle.scope.specs.Calls.{state-sizes, buffer-sizes, run-sizes, RunReplied, part, no-request, read, write, run}
-use Rattle.scope.specs.Sound.{Names, Written, current, Sound}
+use Rattle.scope.specs.Sound.{Sound}
 use Rattle.flash.specs.Cases.{below?}
 use Rattle.flash.specs.Clearing.{allowed-clears-each}
-use Rattle.promises.specs.Demands.{Right, Call, Format, Check, Read-page, Write-page, Run, make, after-calls, history, remembered, noted, noted-records, Words, Store, held, Tells, Refusal, own, before-record, One-for-each, Reads-well, Writes-well, Demand-2, Demand-3, Formats}
+use Rattle.promises.specs.Demands.{Right, Call, Format, Check, Read-page, Write-page, Run, make, after-calls, history, remembered, noted, noted-records, Words, Store, held, Tells, Refusal, own, before-record, Reads-well, Writes-well, Demand-2, Demand-3, Formats}
 use Rattle.promises.specs.Refusals.{format-tested, record-tested, read-tested, write-tested, run-tested, run-reply, write-reply}
 use Rattle.promises.specs.Records.{answer-of, record-stores, final-words, part-here, length-words}
 use Rattle.promises.specs.Demand1.{run-is-records, run-fits, record-answer}
+use Rattle.promises.specs.OneForEach.{one-for-each}
 use Rattle.promises.specs.Standing.{format-stands, Standing, Leaves, lengths-right, right-lengths, reads, read-tells, format-leaves, check-leaves, read-leaves, write-leaves}
 use Rattle.promises.specs.Formatted.{format-counts}
 use Rattle.promises.specs.HeldWords.{held-long}
@@ -76,29 +75,6 @@ module _ {g : Geometry} (ok : Accepted g) where
       write-well =
           let e = write-tested g true l buffer s .serves (ok, ((admits, refl), (stands .sound, (below, tt)))) in
           rw (e, write-reply g l buffer s) (refl, write-law ok l buffer s (stands .lengths) (stands .sound) below long .costs)
-
-    -- "The valid data pages are one for each written logical page."
-    one-for-each : One-for-each g s
-    one-for-each =
-        record {
-          page-of = λ l below w. go l w (decode (current g s l)) refl (stands .sound .rule-6 .current-place l below);
-          one = stands .sound .rule-2 Data;
-          written = λ p here is-valid.
-              let below = stands .sound .rule-1 Data p here .owned (λ e. omega arith) in (
-                below,
-                λ e.
-                    subst (λ (x : ℕ). Names g Data (s .spare) (owner-of p (s .spare)) (decode x)) e
-                    (stands .sound .rule-6 .current-place (owner-of p (s .spare)) below) p here is-valid refl,
-              );
-        }
-      where
-        go : (l : ℕ) → Written g s l → (x : Entry) → decode (current g s l) ≡ x → Names g Data (s .spare) l x
-            → (p : ℕ) × Has-page g Data p × (state-of p (s .spare) ≡ valid) × (owner-of p (s .spare) ≡ l)
-        go l w (Place p) e names = (p, names .0, names .1, names .2)
-        go l w Nowhere e names =
-            let z : Place (current g s l) ≡ Nowhere = rw (ne-eqb (current g s l) none w) at e in
-            let y : _≡_ {A = ℕ} 0 1 = cc in
-            absurd (omega arith)
 
     -- ---- a further run
 
@@ -164,8 +140,8 @@ module _ {g : Geometry} (ok : Accepted g) where
           (answers-here .tells below kind .0)
 
       -- A record's own operations are its answer's.
-      own-operations : own g requests words answers s i .did ≡ a .did
-      own-operations =
+      own-did : own g requests words answers s i .did ≡ a .did
+      own-did =
           let before = before-record g requests words answers s i in
           record-stores g i q (before .value) (before .after) .operations ∙ append-nil (a .did)
 
@@ -174,7 +150,7 @@ module _ {g : Geometry} (ok : Accepted g) where
           let did = own g requests words answers s i .did in
           (q .kind ≡ 0 → Reads-well g reply did) × (q .kind ≡ 1 → Writes-well g reply did)
       record-well below =
-          rw (reply-is, own-operations) (
+          rw (reply-is, own-did) (
             λ kind.
                 let (tells, costs) = answers-here .tells below kind in
                 (⊎-elim (λ d. inl (d .0)) (λ d. inr (d .0)) tells, costs),
@@ -216,7 +192,7 @@ module _ {g : Geometry} (ok : Accepted g) where
         record {
           sound = stands-now .sound;
           lengths-kept = lengths-right g now (stands-now .lengths);
-          one-for-each = one-for-each stands-now;
+          one-for-each = one-for-each (stands-now .sound);
           allowed = λ c. call-leaves stands-now c .done .allowed;
           clears = λ c. allowed-clears-each g (make g c now .did) now (stands-now .lengths)
               (call-leaves stands-now c .done .allowed);
