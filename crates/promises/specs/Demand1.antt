@@ -17,7 +17,7 @@ use Rattle.flash.specs.Cases.{same?, below?}
 use Rattle.promises.specs.Demands.{own, own-operations, Grounds, Refuses, Unchanged, Refusal, Demand-1, Demand-1-record, before-record}
 use Rattle.promises.specs.Tests.{Reason, Given, Tested}
 use Rattle.promises.specs.Refusals.{run-reply, read-reply, write-reply, record-tested, format-tested, check-tested, read-tested, write-tested, run-tested}
-use Rattle.promises.specs.Records.{answer-of, record-stores, final-answer, kept-words}
+use Rattle.promises.specs.Records.{answer-of, record-stores, final-answer, own-keeps, kept-words}
 
 -- No reason has a number above PAGE.
 abbrev Numbered : List Reason → Type 0
@@ -163,6 +163,8 @@ module _ (g : Geometry) (boundary : Bool) (requests : List Request) (words answe
         unchanged = λ r.
             let u = unchanged t (rw is at r) in
             record { state = stored .state ∙ u .state; operations = stored .operations ∙ ap (λ did. did ++ []) (u .operations) };
+        stores-answer = rw is (stored .answers);
+        stores-no-words = λ r. own-keeps g requests words answers s i (inl (λ d. omega (arith, is)));
         keeps-unless-read = λ n. end ∙ kept-words g requests words answers s (length requests) i h (inr n);
         keeps-unless-done = λ n. end ∙ kept-words g requests words answers s (length requests) i h (inl (rw is at n));
       }

@@ -8,7 +8,7 @@ use mathlib.Core.Logic.{_≢_, _↔_, _⊎_}
 use mathlib.Core.Bool.{Bool, true, false, not, cond, _&&_}
 use mathlib.Core.List.{List, [], _∷_, _++_}
 use lib.Dec.{eqb}
-use lib.ListN.{length, getD}
+use lib.ListN.{length, getD, set}
 use Rattle.scope.specs.Counting.{count}
 use Rattle.scope.specs.Geometry.{Geometry, Accepted}
 use Rattle.scope.specs.Lent.{none, valid, Entry, Place, Nowhere, decode, State, Request, most-requests, words-of, state-of, owner-of, is-valid}
@@ -103,6 +103,11 @@ pub record Demand-1-record (g : Geometry) (requests : List Request) (words answe
   pub refuses : Refuses (getD (o .value .answers) i none) (record-grounds g (getD requests i no-request))
   pub unchanged : Refusal (getD (o .value .answers) i none)
       → Unchanged (before-record g requests words answers s i .after) (own g requests words answers s i)
+  -- "Unchanged but its answer": it stores that one alone, and a refused one no words.
+  pub stores-answer : own g requests words answers s i .value .answers
+      ≡ set (before-record g requests words answers s i .value .answers) i (getD (o .value .answers) i none)
+  pub stores-no-words : Refusal (getD (o .value .answers) i none)
+      → own g requests words answers s i .value .words ≡ before-record g requests words answers s i .value .words
   -- "The words of an UNWRITTEN or refused read stay", and so do a write's.
   pub keeps-unless-read : getD requests i no-request .kind ≢ 0 → part g i (o .value .words) ≡ part g i words
   pub keeps-unless-done : getD (o .value .answers) i none ≢ DONE → part g i (o .value .words) ≡ part g i words

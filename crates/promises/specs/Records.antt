@@ -214,16 +214,17 @@ module _ (g : Geometry) (requests : List Request) (words answers : List ℕ) (s 
       ∙ final-words n i b)
       (λ e. rw e)
 
-  -- A record that keeps its words keeps those lent.
+  -- A record that keeps its words leaves the data buffer, and so has the words that were lent.
+  pub own-keeps : (i : ℕ) → (answer-of g requests words answers s i .value .reply ≢ DONE) ⊎ (getD requests i no-request .kind ≢ 0)
+      → own g requests words answers s i .value .words ≡ before-record g requests words answers s i .value .words
+  own-keeps i k =
+      let before = before-record g requests words answers s i in
+      own-stores i .words
+      ∙ ap (λ (buffer : List ℕ). sets (before .value .words) (i * g .W) buffer)
+      (answer-keeps g i (getD requests i no-request) (before .value .words) (before .after) k)
+      ∙ sets-same (g .W) (before .value .words) (i * g .W)
+
   pub kept-words : (n i : ℕ) → i < n
       → (answer-of g requests words answers s i .value .reply ≢ DONE) ⊎ (getD requests i no-request .kind ≢ 0)
       → part g i (before-record g requests words answers s n .value .words) ≡ part g i words
-  kept-words n i h k =
-      let before = before-record g requests words answers s i in
-      final-words n i h
-      ∙ ap (part g i)
-      (own-stores i .words
-      ∙ ap (λ (buffer : List ℕ). sets (before .value .words) (i * g .W) buffer)
-      (answer-keeps g i (getD requests i no-request) (before .value .words) (before .after) k)
-      ∙ sets-same (g .W) (before .value .words) (i * g .W))
-      ∙ words-before i i (omega arith)
+  kept-words n i h k = final-words n i h ∙ ap (part g i) (own-keeps i k) ∙ words-before i i (omega arith)
