@@ -10,11 +10,13 @@ use Rattle.soundness.proofs.blocks.blocks_fit.Statement.{statement}
 use Rattle.soundness.proofs.blocks.blocks_fit.Tie as tie
 
 data-tested : (c : tie.After-region-fits)
-    → c .region-fits .result
-    ≡ blocks-fit (geometry (c .before .before .before .before .before .before .args .g)) Data (c .before .before .before .before .before .before .args .spare .now) (c .before .before .before .before .before .before .args .small .«open_data») (c .before .before .before .before .before .before .args .small .«data_offset»)
+    → let a = c .before .before .before .before .before .before .args in
+    c .region-fits .result
+    ≡ blocks-fit (geometry (a .g)) Data (a .spare .now) (a .small .«open_data») (a .small .«data_offset»)
 data-tested c =
+    let a = c .before .before .before .before .before .before .args in
     c .region-fits .ensures
-    ∙ fits-region (geometry (c .before .before .before .before .before .before .args .g)) Data (c .before .before .before .before .before .before .args .spare .now) (c .before .before .before .before .before .before .args .small .«open_data») (c .before .before .before .before .before .before .args .small .«data_offset»)
+    ∙ fits-region (geometry (a .g)) Data (a .spare .now) (a .small .«open_data») (a .small .«data_offset»)
 
 cast-p : tie.Need-cast-p
 cast-p c = search needs
@@ -48,8 +50,9 @@ region-fits-requires-2 c κs = search needs
 
 returns-2 : tie.Need-returns-2
 returns-2 c =
+    let a = c .before .before .before .before .before .before .before .before .before .before .before .args in
     first-passed (data-tested (c .before .before .before .before .before)) (c .before .before .before .before .if1 .left)
-    (c .region-fits2 .ensures ∙ fits-region (geometry (c .before .before .before .before .before .before .before .before .before .before .before .args .g)) Translation (c .before .before .before .before .before .before .before .before .before .before .before .args .spare .now) (c .before .before .before .before .before .before .before .before .before .before .before .args .small .«open_translation») (c .before .before .before .before .before .before .before .before .before .before .before .args .small .«translation_offset»))
+    (c .region-fits2 .ensures ∙ fits-region (geometry (a .g)) Translation (a .spare .now) (a .small .«open_translation») (a .small .«translation_offset»))
 
 pub blocks-fit-spec : {M : Type 1} → statement M
 blocks-fit-spec =

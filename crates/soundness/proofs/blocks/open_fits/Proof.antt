@@ -13,7 +13,8 @@ count-state-requires c κs = search needs
 
 returns : tie.Need-returns
 returns c =
-    rw (open-counted (c .before .before .before .args .p) (c .before .before .before .args .spare .now) (c .before .before .before .args .opened) (c .before .before .before .args .offset) (c .before .before .before .pre .1), ← c .before .count-state .ensures, ne-eqb _ _ (c .if1 .taken))
+    let a = c .before .before .before .args in
+    rw (open-counted (a .p) (a .spare .now) (a .opened) (a .offset) (c .before .before .before .pre .1), ← c .before .count-state .ensures, ne-eqb _ _ (c .if1 .taken))
 
 sub-rest : tie.Need-sub-rest
 sub-rest c = search needs
@@ -26,7 +27,8 @@ count-state-requires-2 c κs = search needs
 
 returns-2 : tie.Need-returns-2
 returns-2 c =
-    rw (open-counted (c .before .before .before .before .args .p) (c .before .before .before .before .args .spare .now) (c .before .before .before .before .args .opened) (c .before .before .before .before .args .offset) (c .before .before .before .before .pre .1), ← c .before .before .count-state .ensures, eq-eqb _ _ (c .before .if1 .left), ← c .count-state2 .ensures)
+    let a = c .before .before .before .before .args in
+    rw (open-counted (a .p) (a .spare .now) (a .opened) (a .offset) (c .before .before .before .before .pre .1), ← c .before .before .count-state .ensures, eq-eqb _ _ (c .before .if1 .left), ← c .count-state2 .ensures)
 
 pub open-fits-spec : {M : Type 1} → statement M
 open-fits-spec =

@@ -16,7 +16,8 @@ abbrev μ-loop : tie.MeasureT-loop
 
 -- A turn's block, where it is none or all erased, is swept.
 turn : (c : tie.Else1 Inv-loop μ-loop)
-    → Swept (c .before .before .before .before .before .before .args .p) (c .before .before .before .before .before .before .args .first) (c .before .before .before .before .before .before .args .spare .now) (c .before .before .before .before .before .before .args .opened) (c .before .before .before .before .loop .i + 1) (c .before .before .before .before .loop .total + c .before .before .erased-besides .result)
+    → let a = c .before .before .before .before .before .before .args in
+    Swept (a .p) (a .first) (a .spare .now) (a .opened) (c .before .before .before .before .loop .i + 1) (c .before .before .before .before .loop .total + c .before .before .erased-besides .result)
 turn c =
     swept-more _ _ _ _ _ _ _ (c .before .before .before .before .before .before .pre .0) (c .before .before .before .before .loop .inv .1) (c .before .before .erased-besides .ensures)
     (passed (c .before .none-or-all .ensures) (c .if1 .left))
@@ -26,11 +27,13 @@ loop-holds c = (omega arith, swept-none _ _ _ _)
 
 add-erased-besides : tie.Need-add-erased-besides Inv-loop μ-loop
 add-erased-besides c =
-    omega (arith, blocks-inside (c .before .before .before .args .p) (c .before .before .before .args .first) (c .before .before .before .args .n) _ (c .before .before .before .pre .0) (c .before .before .before .pre .1))
+    let a = c .before .before .before .args in
+    omega (arith, blocks-inside (a .p) (a .first) (a .n) _ (c .before .before .before .pre .0) (c .before .before .before .pre .1))
 
 erased-besides-requires : tie.Need-erased-besides-requires Inv-loop μ-loop
 erased-besides-requires c κs =
-    block-inside (c .before .before .before .args .p) (c .before .before .before .args .first) (c .before .before .before .args .n) (c .before .before .before .args .first + c .before .loop .i) _ (omega arith) (c .before .before .before .pre .1)
+    let a = c .before .before .before .args in
+    block-inside (a .p) (a .first) (a .n) (a .first + c .before .loop .i) _ (omega arith) (c .before .before .before .pre .1)
 
 none-or-all-requires : tie.Need-none-or-all-requires Inv-loop μ-loop
 none-or-all-requires c κs = search needs
@@ -41,7 +44,8 @@ returns c =
 
 add-total : tie.Need-add-total Inv-loop μ-loop
 add-total c =
-    let more : (c .before .before .before .before .loop .i + 1) * c .before .before .before .before .before .before .args .p ≤ (c .before .before .before .before .before .before .args .first + c .before .before .before .before .before .before .args .n) * c .before .before .before .before .before .before .args .p = mul-le-mul-right (c .before .before .before .before .before .before .args .p) (omega arith) in
+    let a = c .before .before .before .before .before .before .args in
+    let more : (c .before .before .before .before .loop .i + 1) * a .p ≤ (a .first + a .n) * a .p = mul-le-mul-right (a .p) (omega arith) in
     omega (arith, turn c .small, c .before .before .before .before .before .before .pre .1)
 
 add-i : tie.Need-add-i Inv-loop μ-loop

@@ -12,7 +12,9 @@ unfolding fits
 returns c = simp (lt-leb _ _ (c .if1 .taken))
 
 add-if2 : tie.Need-add-if2
-add-if2 c = omega (arith, blocks-inside (c .before .before .args .p) (c .before .before .args .first) (c .before .before .args .n) _ (c .before .before .pre .0) (c .before .before .pre .1))
+add-if2 c =
+    let a = c .before .before .args in
+    omega (arith, blocks-inside (a .p) (a .first) (a .n) _ (c .before .before .pre .0) (c .before .before .pre .1))
 
 returns-2 : tie.Need-returns-2
 unfolding fits
@@ -23,7 +25,9 @@ unfolding fits
 returns-3 c = simp (le-leb _ _ (c .before .before .if1 .left), lt-ltb _ _ (c .before .if2 .left), lt-leb _ _ (c .if3 .taken))
 
 open-fits-requires : tie.Need-open-fits-requires
-open-fits-requires c κs = (block-inside (c .before .before .before .before .args .p) (c .before .before .before .before .args .first) (c .before .before .before .before .args .n) (c .before .before .before .before .args .opened) _ (c .before .if2 .left) (c .before .before .before .before .pre .1), c .if3 .left)
+open-fits-requires c κs =
+    let a = c .before .before .before .before .args in
+    (block-inside (a .p) (a .first) (a .n) (a .opened) _ (c .before .if2 .left) (c .before .before .before .before .pre .1), c .if3 .left)
 
 returns-4 : tie.Need-returns-4
 unfolding fits

@@ -17,17 +17,24 @@ use Rattle.soundness.proofs.geometry.sizes_right.Tie as tie
 
 -- ---- the sizes, where the code compares them
 
-chip-should : (c : tie.After-struct-known) → c .before .chip-pages .result * c .before .before .args .g .w ≡ chip-size (geometry (c .before .before .args .g))
+chip-should : (c : tie.After-struct-known) → let a = c .before .before .args in
+    c .before .chip-pages .result * a .g .w ≡ chip-size (geometry (a .g))
 chip-should c = ap (λ (n : ℕ). n * c .before .before .args .g .w) (c .before .chip-pages .ensures)
 
-chip-right : (c : tie.Else1) → eqb (c .before .before .before .args .chip) (chip-size (geometry (c .before .before .before .args .g))) ≡ true
-chip-right c = eq-eqb (c .before .before .before .args .chip) (chip-size (geometry (c .before .before .before .args .g))) (c .if1 .left ∙ chip-should (c .before))
+chip-right : (c : tie.Else1) → let a = c .before .before .before .args in
+    eqb (a .chip) (chip-size (geometry (a .g))) ≡ true
+chip-right c =
+    let a = c .before .before .before .args in
+    eq-eqb (a .chip) (chip-size (geometry (a .g))) (c .if1 .left ∙ chip-should (c .before))
 
 spare-should : (c : tie.Else1) → c .before .before .chip-pages .result * 2 ≡ spare-size (geometry (c .before .before .before .args .g))
 spare-should c = ap (λ (n : ℕ). n * 2) (c .before .before .chip-pages .ensures)
 
-spare-right : (c : tie.Else2) → eqb (c .before .before .before .before .args .spare) (spare-size (geometry (c .before .before .before .before .args .g))) ≡ true
-spare-right c = eq-eqb (c .before .before .before .before .args .spare) (spare-size (geometry (c .before .before .before .before .args .g))) (c .if2 .left ∙ spare-should (c .before))
+spare-right : (c : tie.Else2) → let a = c .before .before .before .before .args in
+    eqb (a .spare) (spare-size (geometry (a .g))) ≡ true
+spare-right c =
+    let a = c .before .before .before .before .args in
+    eq-eqb (a .spare) (spare-size (geometry (a .g))) (c .if2 .left ∙ spare-should (c .before))
 
 -- ---- the needs
 

@@ -16,7 +16,9 @@ shared-slice-read-if1 : tie.Need-shared-slice-read-if1
 shared-slice-read-if1 c = search needs
 
 returns : tie.Need-returns
-returns c = noted-invalid (c .before .before .before .args .spare .now) (c .before .before .before .args .p) (c .before .before .before .args .window) (c .before .before .before .args .map .now) (c .before .before .before .pre) (c .if1 .taken)
+returns c =
+    let a = c .before .before .before .args in
+    noted-invalid (a .spare .now) (a .p) (a .window) (a .map .now) (c .before .before .before .pre) (c .if1 .taken)
 
 mul-owner : tie.Need-mul-owner
 mul-owner c = search needs
@@ -38,7 +40,8 @@ note-requires c κs = search needs
 
 returns-2 : tie.Need-returns-2
 returns-2 c =
-    noted-valid (c .before .before .before .before .before .before .args .spare .now) (c .before .before .before .before .before .before .args .p) (c .before .before .before .before .before .before .args .window) (c .before .before .before .before .before .before .args .map .now) (c .before .before .before .before .before .before .pre) (c .note .result) _ (c .before .before .before .if1 .left) (c .note .ensures)
+    let a = c .before .before .before .before .before .before .args in
+    noted-valid (a .spare .now) (a .p) (a .window) (a .map .now) (c .before .before .before .before .before .before .pre) (c .note .result) _ (c .before .before .before .if1 .left) (c .note .ensures)
 
 pub is-new-spec : {M : Type 1} → statement M
 is-new-spec =

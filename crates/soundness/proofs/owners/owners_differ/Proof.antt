@@ -12,9 +12,11 @@ use Rattle.soundness.specs.Owners.{differ-region, below-region}
 use Rattle.soundness.proofs.owners.owners_differ.Statement.{statement}
 use Rattle.soundness.proofs.owners.owners_differ.Tie as tie
 
-data-tested : (c : tie.After-region-differs) → c .region-differs .result ≡ owners-differ (geometry (c .before .before .before .before .before .args .g)) Data (c .before .before .before .before .before .args .spare .now)
+data-tested : (c : tie.After-region-differs) → let a = c .before .before .before .before .before .args in
+    c .region-differs .result ≡ owners-differ (geometry (a .g)) Data (a .spare .now)
 data-tested c =
-    c .region-differs .ensures ∙ differ-region (geometry (c .before .before .before .before .before .args .g)) Data (c .before .before .before .before .before .args .spare .now) 0 (sym (zero-mul (c .before .before .before .before .before .args .g .p)))
+    let a = c .before .before .before .before .before .args in
+    c .region-differs .ensures ∙ differ-region (geometry (a .g)) Data (a .spare .now) 0 (sym (zero-mul (a .g .p)))
 
 cast-first : tie.Need-cast-first
 cast-first c = search needs
@@ -30,7 +32,8 @@ cast-region-differs c = search needs
 
 region-differs-requires : tie.Need-region-differs-requires
 region-differs-requires c κs =
-    (omega (arith, c .before .before .before .before .pre .1 .0), below-region (geometry (c .before .before .before .before .args .g)) Data (c .before .before .before .before .args .spare .now) 0 (c .before .before .before .before .args .g .l) (sym (zero-mul (c .before .before .before .before .args .g .p))) refl (c .before .before .before .before .pre .1 .1 .0))
+    let a = c .before .before .before .before .args in
+    (omega (arith, c .before .before .before .before .pre .1 .0), below-region (geometry (a .g)) Data (a .spare .now) 0 (a .g .l) (sym (zero-mul (a .g .p))) refl (c .before .before .before .before .pre .1 .1 .0))
 
 returns : tie.Need-returns
 returns c = first-refused _ (data-tested (c .before)) (c .if1 .taken)
@@ -49,12 +52,14 @@ translation-pages-requires c κs = search needs
 
 region-differs-requires-2 : tie.Need-region-differs-requires-2
 region-differs-requires-2 c κs =
-    (omega (arith, c .before .before .before .before .before .before .before .before .before .pre .1 .0), below-region (geometry (c .before .before .before .before .before .before .before .before .before .args .g)) Translation (c .before .before .before .before .before .before .before .before .before .args .spare .now) (c .before .before .before .before .before .before .before .before .before .args .g .d * c .before .before .before .before .before .before .before .before .before .args .g .p) (c .translation-pages .result) refl (c .translation-pages .ensures) (c .before .before .before .before .before .before .before .before .before .pre .1 .1 .1))
+    let a = c .before .before .before .before .before .before .before .before .before .args in
+    (omega (arith, c .before .before .before .before .before .before .before .before .before .pre .1 .0), below-region (geometry (a .g)) Translation (a .spare .now) (a .g .d * a .g .p) (c .translation-pages .result) refl (c .translation-pages .ensures) (c .before .before .before .before .before .before .before .before .before .pre .1 .1 .1))
 
 returns-2 : tie.Need-returns-2
 returns-2 c =
+    let a = c .before .before .before .before .before .before .before .before .before .before .args in
     first-passed (data-tested (c .before .before .before .before .before)) (c .before .before .before .before .if1 .left)
-    (c .region-differs2 .ensures ∙ differ-region (geometry (c .before .before .before .before .before .before .before .before .before .before .args .g)) Translation (c .before .before .before .before .before .before .before .before .before .before .args .spare .now) (c .before .before .before .before .before .before .before .before .before .before .args .g .d * c .before .before .before .before .before .before .before .before .before .before .args .g .p) refl)
+    (c .region-differs2 .ensures ∙ differ-region (geometry (a .g)) Translation (a .spare .now) (a .g .d * a .g .p) refl)
 
 pub owners-differ-spec : {M : Type 1} → statement M
 owners-differ-spec =

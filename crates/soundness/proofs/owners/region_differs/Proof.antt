@@ -30,8 +30,9 @@ window-differs-requires c κs = search needs
 
 returns : tie.Need-returns Inv-loop μ-loop
 returns c =
-    all-stops _ (c .before .before .before .loop .window) (c .before .before .before .before .before .args .limit / 65536 + 1) (omega arith) (refused (c .before .window-differs .ensures) (c .if1 .taken))
-    ∙ in-windows (c .before .before .before .before .before .args .first) (c .before .before .before .before .before .args .spare .now) (c .before .before .before .before .before .args .n) (c .before .before .before .before .before .args .limit) (c .before .before .before .before .before .pre .1)
+    let a = c .before .before .before .before .before .args in
+    all-stops _ (c .before .before .before .loop .window) (a .limit / 65536 + 1) (omega arith) (refused (c .before .window-differs .ensures) (c .if1 .taken))
+    ∙ in-windows (a .first) (a .spare .now) (a .n) (a .limit) (c .before .before .before .before .before .pre .1)
 
 add-window : tie.Need-add-window Inv-loop μ-loop
 add-window c = search needs
@@ -45,8 +46,9 @@ loop-again c =
 
 returns-2 : tie.Need-returns-2 Inv-loop μ-loop
 returns-2 c =
-    all-done _ (c .before .loop .window) (c .before .before .before .args .limit / 65536 + 1) (omega arith) (omega arith) (c .before .loop .inv .1)
-    ∙ in-windows (c .before .before .before .args .first) (c .before .before .before .args .spare .now) (c .before .before .before .args .n) (c .before .before .before .args .limit) (c .before .before .before .pre .1)
+    let a = c .before .before .before .args in
+    all-done _ (c .before .loop .window) (a .limit / 65536 + 1) (omega arith) (omega arith) (c .before .loop .inv .1)
+    ∙ in-windows (a .first) (a .spare .now) (a .n) (a .limit) (c .before .before .before .pre .1)
 
 pub region-differs-spec : {M : Type 1} → statement M
 region-differs-spec =

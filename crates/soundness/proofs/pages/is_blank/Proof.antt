@@ -34,12 +34,13 @@ only-erased-requires c κs = search needs
 
 returns : tie.Need-returns
 returns c =
-    let w : ℕ = c .before .before .before .args .w in
-    let chip : List ℕ = c .before .before .before .args .chip .now in
-    let at : ℕ = c .before .before .before .args .p * w in
+    let a = c .before .before .before .args in
+    let w : ℕ = a .w in
+    let chip : List ℕ = a .chip .now in
+    let at : ℕ = a .p * w in
     c .only-erased .ensures
     ∙ ap (λ (n : ℕ). all (length (take n (drop at chip))) (is-erased-word (take n (drop at chip)))) (add-sub-cancel-left at w)
-    ∙ blank-part w chip (c .before .before .before .args .p) (c .before .before .before .pre)
+    ∙ blank-part w chip (a .p) (c .before .before .before .pre)
 
 pub is-blank-spec : {M : Type 1} → statement M
 is-blank-spec =

@@ -12,10 +12,12 @@ use Rattle.soundness.proofs.pages.pages_fit.Statement.{statement}
 use Rattle.soundness.proofs.pages.pages_fit.Tie as tie
 
 data-tested : (c : tie.After-region-fits)
-    → c .region-fits .result ≡ pages-fit (geometry (c .before .before .before .before .before .before .before .args .g)) Data (c .before .before .before .before .before .before .before .args .chip .now) (c .before .before .before .before .before .before .before .args .spare .now)
+    → let a = c .before .before .before .before .before .before .before .args in
+    c .region-fits .result ≡ pages-fit (geometry (a .g)) Data (a .chip .now) (a .spare .now)
 data-tested c =
+    let a = c .before .before .before .before .before .before .before .args in
     c .region-fits .ensures
-    ∙ fits-region (geometry (c .before .before .before .before .before .before .before .args .g)) Data (c .before .before .before .before .before .before .before .args .chip .now) (c .before .before .before .before .before .before .before .args .spare .now) 0 (c .before .before .before .before .before .before .before .args .g .l) (sym (zero-mul (c .before .before .before .before .before .before .before .args .g .p))) refl
+    ∙ fits-region (geometry (a .g)) Data (a .chip .now) (a .spare .now) 0 (a .g .l) (sym (zero-mul (a .g .p))) refl
 
 cast-w : tie.Need-cast-w
 cast-w c = search needs
@@ -55,9 +57,10 @@ region-fits-requires-2 c κs = search needs
 
 returns-2 : tie.Need-returns-2
 returns-2 c =
+    let a = c .before .before .before .before .before .before .before .before .before .before .before .before .args in
     first-passed (data-tested (c .before .before .before .before .before)) (c .before .before .before .before .if1 .left)
     (c .region-fits2 .ensures
-    ∙ fits-region (geometry (c .before .before .before .before .before .before .before .before .before .before .before .before .args .g)) Translation (c .before .before .before .before .before .before .before .before .before .before .before .before .args .chip .now) (c .before .before .before .before .before .before .before .before .before .before .before .before .args .spare .now) (c .before .before .before .before .before .before .before .before .before .before .before .before .args .g .d * c .before .before .before .before .before .before .before .before .before .before .before .before .args .g .p) (c .before .before .before .translation-pages .result) refl (c .before .before .before .translation-pages .ensures))
+    ∙ fits-region (geometry (a .g)) Translation (a .chip .now) (a .spare .now) (a .g .d * a .g .p) (c .before .before .before .translation-pages .result) refl (c .before .before .before .translation-pages .ensures))
 
 pub pages-fit-spec : {M : Type 1} → statement M
 pages-fit-spec =

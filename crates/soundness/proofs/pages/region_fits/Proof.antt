@@ -25,7 +25,8 @@ add-page-fits c = omega arith
 
 page-fits-requires : tie.Need-page-fits-requires Inv-loop μ-loop
 page-fits-requires c κs =
-    (omega (arith, piece-inside (c .before .before .before .before .args .w) (c .before .before .before .before .args .first + c .before .before .before .before .args .n) (c .before .before .before .before .args .first + c .before .loop .i) (omega arith), c .before .before .before .before .pre .0), omega arith)
+    let a = c .before .before .before .before .args in
+    (omega (arith, piece-inside (a .w) (a .first + a .n) (a .first + c .before .loop .i) (omega arith), c .before .before .before .before .pre .0), omega arith)
 
 returns : tie.Need-returns Inv-loop μ-loop
 returns c = all-stops _ (c .before .before .before .loop .i) (c .before .before .before .before .before .before .args .n) (omega arith) (refused (c .before .page-fits .ensures) (c .if1 .taken))
