@@ -28,6 +28,21 @@ counted-none : (c : Counts) → counts-add c (counted []) ≡ c
 unfolding counted
 counted-none c = counts-same (omega arith) (omega arith) (omega arith)
 
+-- ---- ends
+
+-- The same step under other names for what it leaves and for what it hands back.
+pub does-ends : {A : Type 0} {m : Step A} {s s′ s″ : State} {c c′ c″ : Counts} {x : A}
+    → Does m s c x s′ c′ → s′ ≡ s″ → c′ ≡ c″ → Does m s c x s″ c″
+does-ends a e q = record { value = a .value; after = a .after ∙ e; counting = a .counting ∙ q }
+
+pub does-value : {A : Type 0} {m : Step A} {s s′ : State} {c c′ : Counts} {x y : A} → Does m s c x s′ c′ → x ≡ y → Does m s c y s′ c′
+does-value a e = record { value = a .value ∙ e; after = a .after; counting = a .counting }
+
+-- States are equal by their five parts.
+pub state-same : {s t : State} → s .chip ≡ t .chip → s .spare ≡ t .spare → s .directory ≡ t .directory → s .cache ≡ t .cache
+    → s .small ≡ t .small → s ≡ t
+state-same a b c d e = λ i. record { chip = a i; spare = b i; directory = c i; cache = d i; small = e i }
+
 -- ---- nothing done
 
 module _ {A : Type 0} {s : State} {c : Counts} where

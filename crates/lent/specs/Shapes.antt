@@ -10,6 +10,7 @@ use Rattle.scope.specs.Operations.{Operation, Step, Counts, counts-add, counted
 use Rattle.flash.specs.Listed.{cost}
 use Rattle.lent.specs.Model.{state, counts}
 use Rattle.lent.specs.Does.{Does}
+use Rattle.lent.specs.DoesLaws.{one-read}
 
 -- Chip and spare, and what travels by value.
 abbrev pub Does-flash : {A : Type 0} → Step A → List ℕ → List ℕ → Work → A → List ℕ → List ℕ → Work → Type 0
@@ -17,6 +18,19 @@ Does-flash m chip spare w x chip′ spare′ w′ =
     (directory cache : List ℕ)
     → Does m (state chip spare directory cache (w .rec)) (counts (w .counts)) x
     (state chip′ spare′ directory cache (w′ .rec)) (counts (w′ .counts))
+
+-- The chip, or the spare, seen and left as it is, and what travels by value.
+abbrev pub Does-by-chip : {A : Type 0} → Step A → List ℕ → Work → A → Work → Type 0
+Does-by-chip m chip w x w′ =
+    (spare directory cache : List ℕ)
+    → Does m (state chip spare directory cache (w .rec)) (counts (w .counts)) x
+    (state chip spare directory cache (w′ .rec)) (counts (w′ .counts))
+
+abbrev pub Does-by-spare : {A : Type 0} → Step A → List ℕ → Work → A → Work → Type 0
+Does-by-spare m spare w x w′ =
+    (chip directory cache : List ℕ)
+    → Does m (state chip spare directory cache (w .rec)) (counts (w .counts)) x
+    (state chip spare directory cache (w′ .rec)) (counts (w′ .counts))
 
 -- The cache, and what travels by value.
 abbrev pub Does-cache : {A : Type 0} → Step A → List ℕ → Work → A → List ℕ → Work → Type 0
@@ -35,6 +49,14 @@ pub record Room-to-count (n : ℕ) (c : Counted) : Type 0 where
 pub room-after : (n k : ℕ) (c c′ : Counted) (os : List Operation) → Room-to-count (n + k) c → cost os ≤ k
     → counts-add (counts c) (counted os) ≡ counts c′ → Room-to-count n c′
 room-after n k c c′ os room most e =
+    record {
+      reads = omega (arith, room .reads, ap (λ (x : Counts). x .reads) e);
+      programs = omega (arith, room .programs, ap (λ (x : Counts). x .programs) e);
+      erases = omega (arith, room .erases, ap (λ (x : Counts). x .erases) e);
+    }
+
+pub room-after-read : (n : ℕ) (c c′ : Counted) → Room-to-count (n + 1) c → counts c′ ≡ one-read (counts c) → Room-to-count n c′
+room-after-read n c c′ room e =
     record {
       reads = omega (arith, room .reads, ap (λ (x : Counts). x .reads) e);
       programs = omega (arith, room .programs, ap (λ (x : Counts). x .programs) e);

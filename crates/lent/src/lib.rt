@@ -2,7 +2,9 @@
 // and the shape of every step's contract, stand in specs/.
 ghost use mathlib.Core.Path.{_≡_};
 ghost use Rattle.scope.specs.Lent.{decode};
-ghost use Rattle.lent.specs.Model.{entry};
+ghost use Rattle.lent.specs.Model.{counts, entry};
+ghost use Rattle.lent.specs.DoesLaws.{one-read, one-program, one-erase};
+ghost use Rattle.lent.specs.Shapes.{Room-to-count};
 
 // The six numbers of a geometry.
 pub struct Geometry {
@@ -63,4 +65,35 @@ pub fn decode(x: u32) -> Entry
     } else {
         Entry::Place(x)
     }
+}
+
+// One more read; one more program; one more erase.
+pub fn count_read(work: Work) -> Work
+    requires { ⌜ Room-to-count 1 (work .counts) ⌝ }
+    ensures { λ r. ⌜ (r .rec ≡ work .rec) × (counts (r .counts) ≡ one-read (counts (work .counts))) ⌝ }
+{
+    let mut next = work;
+    let n = work.counts.reads + 1;
+    next.counts.reads = n;
+    next
+}
+
+pub fn count_program(work: Work) -> Work
+    requires { ⌜ Room-to-count 1 (work .counts) ⌝ }
+    ensures { λ r. ⌜ (r .rec ≡ work .rec) × (counts (r .counts) ≡ one-program (counts (work .counts))) ⌝ }
+{
+    let mut next = work;
+    let n = work.counts.programs + 1;
+    next.counts.programs = n;
+    next
+}
+
+pub fn count_erase(work: Work) -> Work
+    requires { ⌜ Room-to-count 1 (work .counts) ⌝ }
+    ensures { λ r. ⌜ (r .rec ≡ work .rec) × (counts (r .counts) ≡ one-erase (counts (work .counts))) ⌝ }
+{
+    let mut next = work;
+    let n = work.counts.erases + 1;
+    next.counts.erases = n;
+    next
 }

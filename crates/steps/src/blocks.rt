@@ -2,6 +2,7 @@
 use lent::Geometry;
 use lent::Record;
 use lent::Region;
+use lent::Work;
 use words::blocks::erased_among;
 use words::blocks::fewest_valid_among;
 use words::blocks::lowest_erased_among;
@@ -10,7 +11,8 @@ ghost use Rattle.lent.specs.Model.{geometry, small, region};
 ghost use Rattle.scope.specs.Regions.{first-block, region-blocks};
 ghost use Rattle.scope.specs.SmallRecord.{open-block, next-offset, with-open};
 ghost use Rattle.scope.specs.Lent.{State};
-ghost use Rattle.scope.specs.Room.{erased-blocks, lowest-erased, victim};
+ghost use Rattle.scope.specs.Room.{erased-blocks, lowest-erased, victim, open-lowest};
+ghost use Rattle.lent.specs.Shapes.{Does-by-spare};
 ghost use Rattle.steps.specs.Whole.{Blocks-whole};
 
 pub fn first_block(g: Geometry, r: Region) -> u32
@@ -99,4 +101,18 @@ pub fn victim(g: Geometry, r: Region, spare: &[u32]) -> u32
     let n = region_blocks(g, r) as usize;
     let p = g.p as usize;
     (first + fewest_valid_among(spare, first, n, p)) as u32
+}
+
+// The lowest wholly erased block becomes the open one.
+pub fn open_lowest(g: Geometry, r: Region, spare: &[u32], work: Work) -> Work
+    requires { ⌜ Blocks-whole (geometry g) (region r) (now spare) ⌝ }
+    ensures { λ x. ⌜ Does-by-spare (open-lowest (geometry g) (region r)) (now (spare .entry)) work tt x ⌝ }
+{
+    let b = lowest_erased(g, r, spare);
+    let rec = work.rec;
+    let counts = work.counts;
+    Work {
+        rec: with_open(rec, r, b, 0),
+        counts,
+    }
 }

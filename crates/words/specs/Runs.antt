@@ -7,7 +7,7 @@ use native.Mathlib.Nat.{add-zero}
 use native.Mathlib.Numerals.{add-one}
 use native.Mathlib.Omega.{arith}
 use lib.ListN.{length, getD, set, take, drop, length-set, length-take, length-drop}
-use lib.Seq.{sets, sets-eq, take-suc, take-all, drop-length, set-comm, length-take-le, getD-take, getD-drop}
+use lib.Seq.{sets, sets-eq, set-set, take-suc, take-all, drop-length, set-comm, length-take-le, getD-take, getD-drop}
 use Rattle.flash.specs.Stores.{getD-sets-outside}
 
 -- Within the list it does not matter what a place past its end would read as.
@@ -28,6 +28,16 @@ set-before l i j [] v h = refl
 set-before l i j (x ∷ vs) v h =
     set-before (set l j x) i (suc j) vs v (omega arith)
     ∙ ap (λ (k : List ℕ). sets k (suc j) vs) (set-comm l j i x v (omega arith))
+
+-- A store inside a run is a store in what was run in.
+pub set-inside : (l : List ℕ) (i : ℕ) (vs : List ℕ) (j v : ℕ) → j < length vs → set (sets l i vs) (i + j) v ≡ sets l i (set vs j v)
+set-inside l i [] j v h = absurd (omega arith)
+set-inside l i (x ∷ vs) zero v h =
+    ap (λ (k : ℕ). set (sets (set l i x) (suc i) vs) k v) (add-zero i)
+    ∙ set-before (set l i x) i (suc i) vs v (omega arith)
+    ∙ ap (λ (k : List ℕ). sets k (suc i) vs) (set-set l i x v)
+set-inside l i (x ∷ vs) (suc j) v h =
+    ap (λ (k : ℕ). set (sets (set l i x) (suc i) vs) k v) (omega arith) ∙ set-inside (set l i x) (suc i) vs j v (omega arith)
 
 -- A run as long as the list is all that is left of it.
 pub sets-whole : (l vs : List ℕ) → length vs ≡ length l → sets l 0 vs ≡ vs

@@ -47,7 +47,7 @@ pub fn to_front(cache: &mut [u32], i: usize)
 // search ends early where it finds one.
 pub fn rank_of(cache: &[u32], used: usize, n: usize, l: u32) -> usize
     requires { ⌜ (used ≤ n) × (n * 3 ≤ length (now cache)) ⌝ }
-    ensures { λ r. ⌜ r ≡ lowest n (λ i. ltb i used && eqb (logical-at i (now (cache .entry))) l) ⌝ }
+    ensures { λ r. ⌜ (r ≤ n) × (r ≡ lowest n (λ i. ltb i used && eqb (logical-at i (now (cache .entry))) l)) ⌝ }
 {
     let mut i = 0;
     while i < used {

@@ -32,12 +32,14 @@ returns : tie.Need-returns Inv-loop μ-loop
 returns c =
     let at-loop = c .before .before .before in
     let a = at-loop .before .args in
-    let i = at-loop .loop .i in
-    sym (lowest-unique (a .n) (matches (a .cache .now) (a .used) (a .l)) i (record {
-      below = omega arith;
-      passes = match-found (a .cache .now) (a .used) (a .l) i (omega arith) (omega arith) (c .if1 .taken);
-      least = at-loop .loop .inv .1;
-    }))
+    let i = at-loop .loop .i in (
+      omega arith,
+      sym (lowest-unique (a .n) (matches (a .cache .now) (a .used) (a .l)) i (record {
+        below = omega arith;
+        passes = match-found (a .cache .now) (a .used) (a .l) i (omega arith) (omega arith) (c .if1 .taken);
+        least = at-loop .loop .inv .1;
+      })),
+    )
 
 add-i : tie.Need-add-i Inv-loop μ-loop
 add-i c = search needs
@@ -55,7 +57,7 @@ loop-again c =
 returns-2 : tie.Need-returns-2 Inv-loop μ-loop
 returns-2 c =
     let a = c .before .before .args in
-    sym (no-match (a .cache .now) (a .used) (a .l) (a .n) (λ i h. c .before .loop .inv .1 i (omega arith)))
+    (omega arith, sym (no-match (a .cache .now) (a .used) (a .l) (a .n) (λ i h. c .before .loop .inv .1 i (omega arith))))
 
 pub rank-of-spec : {M : Type 1} → statement M
 rank-of-spec =

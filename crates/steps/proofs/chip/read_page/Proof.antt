@@ -1,0 +1,40 @@
+-- `steps::chip::read_page` meets its contract.
+use Prim.Native.Nat.{ℕ, _*_}
+use mathlib.Core.Path.{sym, ap, _∙_}
+use native.Mathlib.Omega.{arith}
+use lib.ListN.{take, drop}
+use borrow.Author.Needs.{needs}
+use Rattle.steps.specs.Lies.{words-lie}
+use Rattle.steps.specs.Chip.{read-by-chip}
+use Rattle.lent.specs.Model.{geometry}
+use Rattle.lent.specs.DoesLaws.{does-value}
+use Rattle.steps.proofs.chip.read_page.Statement.{statement}
+use Rattle.steps.proofs.chip.read_page.Tie as tie
+
+cast-w : tie.Need-cast-w
+cast-w c = search needs
+
+mul-copy-out : tie.Need-mul-copy-out
+mul-copy-out c = omega (arith, words-lie (c .before .before .before .before .pre .0) (c .before .before .before .before .args .p) (c .before .before .before .before .pre .1))
+
+copy-out-requires : tie.Need-copy-out-requires
+copy-out-requires c κs = omega (arith, words-lie (c .before .before .before .before .pre .0) (c .before .before .before .before .args .p) (c .before .before .before .before .pre .1))
+
+count-read-requires : tie.Need-count-read-requires
+count-read-requires c κs = search needs
+
+same-length : tie.Need-same-length
+same-length c = search needs
+
+returns : tie.Need-returns
+returns c =
+    let start = c .before .before .before .before .before .before .before .before in
+    let a = start .args in
+    λ spare directory cache. does-value
+    (read-by-chip (geometry (a .g)) (a .p) (c .count-read .ensures .0) (c .count-read .ensures .1) spare directory cache)
+    (sym (c .before .before .before .copy-out .ensures ∙ ap (λ (n : ℕ). take n (drop (a .p * a .g .w) (a .chip .now))) (start .pre .2)))
+
+pub read-page-spec : {M : Type 1} → statement M
+read-page-spec =
+    tie.close
+    (tie.spec cast-w mul-copy-out copy-out-requires count-read-requires same-length returns)

@@ -1,0 +1,192 @@
+-- What the leaves do to chip and spare is what 01's steps do: laws that turn equations of lists into `Does`.
+use Prim.Native.Nat.{ℕ, _+_, _*_, _≤_}
+use mathlib.Core.Path.{_≡_, refl, sym, ap, _∙_}
+use mathlib.Core.List.{List, [], _∷_, _++_}
+use native.Mathlib.Nat.{mod-lt}
+use native.Mathlib.Omega.{arith}
+use lib.ListN.{length, set, replicate}
+use lib.Seq.{sets}
+use Rattle.scope.specs.Geometry.{Geometry}
+use Rattle.scope.specs.Regions.{Region}
+use Rattle.scope.specs.SmallRecord.{advanced, opened}
+use Rattle.scope.specs.Lent.{none, valid, erased, Entry, Place, Nowhere, State, Mapping, words-of, owner-of, translation-word}
+use Rattle.scope.specs.Operations.{Step, Mark, Erase, Counts, apply, give, look, perform, set-small, _>>=_, _>>_}
+use Rattle.scope.specs.Room.{Following, read-page, program-next, move-page, open-lowest, lowest-erased}
+use Rattle.scope.specs.Sound.{in-page}
+use Rattle.scope.specs.Steps.{begun, set-words, mark-old, word-for}
+use Rattle.flash.specs.Words.{words-at}
+use Rattle.lent.specs.declared.Record.{Record}
+use Rattle.lent.specs.declared.Work.{Work}
+use Rattle.lent.specs.Model.{state, small, counts}
+use Rattle.lent.specs.Does.{Does}
+use Rattle.lent.specs.DoesLaws.{one-read, one-program, one-erase, does-ends, does-value, state-same, does-give, does-look, does-look-at, does-bind, does-read, does-program, does-mark, does-erase, does-set-small}
+use Rattle.lent.specs.Shapes.{Does-flash, Does-by-chip}
+use Rattle.words.specs.Runs.{set-inside}
+use Rattle.steps.specs.Lies.{next-page}
+
+-- ---- one operation
+
+-- A page is read, wherever the chip is lent.
+pub read-does : (g : Geometry) (p : ℕ) {s : State} {c c′ : Counts} → c′ ≡ one-read c → Does (read-page g p) s c (words-of g p (s .chip)) s c′
+unfolding read-page
+read-does g p e = does-ends (does-bind _ (does-read g p) (does-look _)) refl (sym e)
+
+pub read-by-chip : (g : Geometry) (p : ℕ) {chip : List ℕ} {w w′ : Work} → w′ .rec ≡ w .rec
+    → counts (w′ .counts) ≡ one-read (counts (w .counts)) → Does-by-chip (read-page g p) chip w (words-of g p chip) w′
+read-by-chip g p kept counting spare directory cache =
+    does-ends (read-does g p counting) (state-same refl refl refl refl (ap small (sym kept))) refl
+
+-- A page is marked; the page that an entry names is, if it names one.
+abbrev pub marked : Entry → List ℕ → List ℕ
+marked (Place p) spare = set spare (p * 2) 0
+marked Nowhere spare = spare
+
+pub mark-does : (g : Geometry) (p : ℕ) {chip spare spare′ directory cache : List ℕ} {rec : Record} {c : Counts}
+    → spare′ ≡ set spare (p * 2) 0
+    → Does (perform g (Mark p)) (state chip spare directory cache rec) c tt (state chip spare′ directory cache rec) c
+unfolding apply
+mark-does g p e = does-ends (does-mark g p) (state-same refl (sym e) refl refl refl) refl
+
+pub mark-old-does : (g : Geometry) (old : Entry) {chip spare spare′ directory cache : List ℕ} {rec : Record} {c : Counts}
+    → spare′ ≡ marked old spare
+    → Does (mark-old g old) (state chip spare directory cache rec) c tt (state chip spare′ directory cache rec) c
+unfolding mark-old
+mark-old-does g (Place p) e = mark-does g p e
+mark-old-does g Nowhere e = does-ends (does-give tt) (state-same refl (sym e) refl refl refl) refl
+
+-- A block is erased.
+pub erase-does : (g : Geometry) (b : ℕ) {chip spare chip′ spare′ : List ℕ} {w w′ : Work}
+    → chip′ ≡ sets chip (b * g .P * g .W) (replicate (g .P * g .W) erased)
+    → spare′ ≡ sets spare (b * g .P * 2) (replicate (g .P * 2) erased)
+    → w′ .rec ≡ w .rec → counts (w′ .counts) ≡ one-erase (counts (w .counts))
+    → Does-flash (perform g (Erase b)) chip spare w tt chip′ spare′ w′
+unfolding apply
+erase-does g b e f kept counting directory cache =
+    does-ends (does-erase g b) (state-same (sym e) (sym f) refl refl (ap small (sym kept))) (sym counting)
+
+-- ---- the open block's next page
+
+-- It is claimed for an owner: valid and the owner's, the page behind it the next one, and a program counted. Its words are stored apart.
+pub record Claimed (g : Geometry) (r : Region) (owner : ℕ) (spare : List ℕ) (w : Work) (q : ℕ) (spare′ : List ℕ) (w′ : Work) : Type 0 where
+  pub is-next : q ≡ next-page g r (small (w .rec))
+  pub owned : spare′ ≡ sets spare (q * 2) (valid ∷ owner ∷ [])
+  pub moves-on : small (w′ .rec) ≡ advanced r (small (w .rec))
+  pub counting : counts (w′ .counts) ≡ one-program (counts (w .counts))
+
+pub program-does : {g : Geometry} {r : Region} {owner q q₀ : ℕ} {chip spare chip′ spare′ : List ℕ} {w w′ : Work} (words : List ℕ)
+    → q₀ ≡ next-page g r (small (w .rec)) → chip′ ≡ sets chip (q₀ * g .W) words → Claimed g r owner spare w q spare′ w′
+    → Does-flash (program-next g r owner words) chip spare w q chip′ spare′ w′
+unfolding program-next apply
+program-does {g} {r} {owner} {q} {q₀} {chip} words is-next e claimed directory cache =
+    let there : q₀ ≡ q = is-next ∙ sym (claimed .is-next) in
+    does-ends
+    (does-bind _ (does-look-at _ (sym (claimed .is-next)))
+    (does-bind _ (does-program g q owner words)
+    (does-bind _ (does-set-small (advanced r)) (does-give q))))
+    (state-same (sym (e ∙ ap (λ (k : ℕ). sets chip (k * g .W) words) there)) (sym (claimed .owned)) refl refl (sym (claimed .moves-on)))
+    (sym (claimed .counting))
+
+-- ---- a page moved
+
+-- A page moved to the open block's next one, without what follows: its owner and its new place are handed back.
+unfoldable pub relocate : Geometry → Region → ℕ → Step Mapping
+relocate g r p = do
+  owner ← look (λ s. owner-of p (s .spare))
+  words ← read-page g p
+  q ← program-next g r owner words
+  perform g (Mark p)
+  give (record { logical = owner; physical = q })
+
+pub relocate-does : (p : ℕ) {g : Geometry} {r : Region} {owner q q₀ : ℕ} {chip spare chip′ spare₁ spare′ : List ℕ} {w w₁ w′ : Work}
+    → owner ≡ owner-of p spare → q₀ ≡ next-page g r (small (w .rec)) → chip′ ≡ sets chip (q₀ * g .W) (words-of g p chip)
+    → w₁ .rec ≡ w .rec → counts (w₁ .counts) ≡ one-read (counts (w .counts))
+    → Claimed g r owner spare w₁ q spare₁ w′ → spare′ ≡ set spare₁ (p * 2) 0
+    → Does-flash (relocate g r p) chip spare w (record { logical = owner; physical = q }) chip′ spare′ w′
+unfolding relocate
+relocate-does p {g} {r} {chip = chip} its-owner is-next copied kept counting claimed is-marked directory cache =
+    let next = is-next ∙ ap (λ (k : Record). next-page g r (small k)) (sym kept) in
+    does-bind _ (does-look-at _ (sym its-owner))
+    (does-bind _ (read-by-chip g p kept counting _ directory cache)
+    (does-bind _ (program-does (words-of g p chip) next copied claimed directory cache)
+    (does-bind _ (mark-does g p is-marked) (does-give _))))
+
+-- What follows is done then.
+pub move-does : (g : Geometry) (r : Region) (follow : Following) (p : ℕ) {s s₁ s₂ : State} {c c₁ c₂ : Counts} {m : Mapping} {x : List Mapping}
+    → Does (relocate g r p) s c m s₁ c₁ → Does (follow .moved (m .logical) (m .physical)) s₁ c₁ x s₂ c₂
+    → Does (move-page g r follow p) s c x s₂ c₂
+unfolding relocate move-page read-page program-next look perform set-small give _>>=_
+move-does g r follow p a b =
+    let d = does-bind (λ (m : Mapping). follow .moved (m .logical) (m .physical)) a b in
+    record { value = d .value; after = d .after; counting = d .counting }
+
+-- ---- what an entry names, read
+
+-- A read is counted where the entry is a place.
+abbrev pub read-if-place : Entry → Counts → Counts
+read-if-place (Place p) c = one-read c
+read-if-place Nowhere c = c
+
+-- The words that an update begins with.
+abbrev pub begun-words : Geometry → Entry → List ℕ → List ℕ
+begun-words g (Place p) chip = words-of g p chip
+begun-words g Nowhere chip = replicate (g .W) none
+
+pub begun-does : (g : Geometry) (former : Entry) {s : State} {c c′ : Counts} → c′ ≡ read-if-place former c
+    → Does (begun g former) s c (begun-words g former (s .chip)) s c′
+unfolding begun
+begun-does g (Place p) e = read-does g p e
+begun-does g Nowhere e = does-ends (does-give _) refl (sym e)
+
+-- They are in the next page, and what they cost is counted.
+pub record Begun (g : Geometry) (r : Region) (former : Entry) (chip : List ℕ) (w : Work) (chip′ : List ℕ) (w′ : Work) : Type 0 where
+  pub stored : chip′ ≡ sets chip (next-page g r (small (w .rec)) * g .W) (begun-words g former chip)
+  pub kept : w′ .rec ≡ w .rec
+  pub counting : counts (w′ .counts) ≡ read-if-place former (counts (w .counts))
+
+pub begun-is : (g : Geometry) (r : Region) {former f : Entry} {q : ℕ} {chip chip′ : List ℕ} {w w′ : Work}
+    → former ≡ f → q ≡ next-page g r (small (w .rec)) → chip′ ≡ sets chip (q * g .W) (begun-words g f chip)
+    → w′ .rec ≡ w .rec → counts (w′ .counts) ≡ read-if-place f (counts (w .counts)) → Begun g r former chip w chip′ w′
+begun-is g r {q = q} {chip = chip} {w = w} e is-next stored kept counting =
+    record {
+      stored = stored ∙ (rw (e, is-next) refl);
+      kept = kept;
+      counting = counting ∙ (rw e refl);
+    }
+
+-- One more word set in a page that is stored at q.
+set-words-snoc : (g : Geometry) (ms : List Mapping) (m : Mapping) (words : List ℕ)
+    → set-words g (ms ++ m ∷ []) words ≡ set (set-words g ms words) (translation-word g (m .logical)) (m .physical)
+unfolding set-words
+set-words-snoc g [] m words = refl
+set-words-snoc g (x ∷ ms) m words = set-words-snoc g ms m (set words (translation-word g (x .logical)) (x .physical))
+
+pub one-word-set : (g : Geometry) (q : ℕ) (ms : List Mapping) (m : Mapping) (chip₀ words : List ℕ) {chip chip′ : List ℕ}
+    → 1 ≤ g .W → length (set-words g ms words) ≡ g .W → chip ≡ sets chip₀ (q * g .W) (set-words g ms words)
+    → chip′ ≡ set chip (q * g .W + translation-word g (m .logical)) (m .physical)
+    → chip′ ≡ sets chip₀ (q * g .W) (set-words g (ms ++ m ∷ []) words)
+one-word-set g q ms m chip₀ words some len before after =
+    after
+    ∙ ap (λ (l : List ℕ). set l (q * g .W + translation-word g (m .logical)) (m .physical)) before
+    ∙ set-inside chip₀ (q * g .W) (set-words g ms words) (translation-word g (m .logical)) (m .physical)
+    (omega (arith, mod-lt (m .logical) some))
+    ∙ ap (sets chip₀ (q * g .W)) (sym (set-words-snoc g ms m words))
+
+-- The word for a logical page.
+pub word-does : (g : Geometry) (l : ℕ) (page : Entry) {chip : List ℕ} {w w′ : Work} {word : ℕ} → 1 ≤ g .W
+    → word ≡ in-page g chip l page → w′ .rec ≡ w .rec → counts (w′ .counts) ≡ read-if-place page (counts (w .counts))
+    → Does-by-chip (word-for g l page) chip w word w′
+unfolding word-for
+word-does g l (Place q) {chip} some e kept counting spare directory cache =
+    does-bind _ (read-by-chip g q kept counting spare directory cache)
+    (does-value (does-give _) (words-at g q (translation-word g l) chip (mod-lt l some) ∙ sym e))
+word-does g l Nowhere some e kept counting spare directory cache =
+    does-value (does-ends (does-give _) (state-same refl refl refl refl (ap small (sym kept))) (sym counting)) (sym e)
+
+-- ---- a block opened
+
+pub open-does : (g : Geometry) (r : Region) {chip spare directory cache : List ℕ} {rec rec′ : Record} {c : Counts} {b : ℕ}
+    → lowest-erased g r (state chip spare directory cache rec) ≡ b → small rec′ ≡ opened r b (small rec)
+    → Does (open-lowest g r) (state chip spare directory cache rec) c tt (state chip spare directory cache rec′) c
+unfolding open-lowest
+open-does g r {b = b} found e =
+    does-ends (does-bind _ (does-look-at _ found) (does-set-small (opened r b))) (state-same refl refl refl refl (sym e)) refl

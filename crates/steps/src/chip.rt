@@ -1,0 +1,205 @@
+// Operations on chip and spare, with what they count: a page read, programmed, marked or moved, a block erased.
+use crate::blocks::next_offset;
+use crate::blocks::open_block;
+use crate::blocks::with_open;
+use lent::Entry;
+use lent::Geometry;
+use lent::Handed;
+use lent::Record;
+use lent::Region;
+use lent::Work;
+use lent::count_erase;
+use lent::count_program;
+use lent::count_read;
+use words::runs::copy_in;
+use words::runs::copy_out;
+use words::runs::copy_within;
+use words::runs::fill_erased;
+use words::runs::store_two;
+ghost use mathlib.Core.Path.{_≡_};
+ghost use Prim.Native.Nat.{ℕ, _+_, _*_, _<_};
+ghost use lib.ListN.{length, set};
+ghost use Rattle.scope.specs.Geometry.{blocks, pages};
+ghost use Rattle.scope.specs.Lent.{Place, translation-word};
+ghost use Rattle.scope.specs.Operations.{Erase, perform};
+ghost use Rattle.scope.specs.Room.{read-page, program-next};
+ghost use Rattle.scope.specs.Steps.{word-for};
+ghost use Rattle.lent.specs.Model.{geometry, small, region, entry};
+ghost use Rattle.lent.specs.Shapes.{Does-flash, Does-by-chip, Room-to-count};
+ghost use Rattle.steps.specs.Lies.{Chip-lent, Spare-lent, next-page, Has-next};
+ghost use Rattle.steps.specs.Chip.{Claimed, Begun, marked, relocate};
+
+// Block b is erased.
+pub fn erase(g: Geometry, b: u32, chip: &mut [u32], spare: &mut [u32], work: Work) -> Work
+    requires { ⌜ Chip-lent (geometry g) (now chip) × Spare-lent (geometry g) (now spare) × (b < blocks (geometry g)) × Room-to-count 1 (work .counts) ⌝ }
+    ensures { λ r. ⌜ Does-flash (perform (geometry g) (Erase b)) (now (chip .entry)) (now (spare .entry)) work tt (now (chip .exit)) (now (spare .exit)) r ⌝ }
+{
+    let p = g.p as usize;
+    let w = g.w as usize;
+    let at = b as usize * p;
+    fill_erased(chip, at * w, p * w);
+    fill_erased(spare, at * 2, p * 2);
+    count_erase(work)
+}
+
+// Page p is marked invalid.
+pub fn mark(p: u32, spare: &mut [u32])
+    requires { ⌜ p * 2 < length (now spare) ⌝ }
+    ensures { λ _. ⌜ now (spare .exit) ≡ set (now (spare .entry)) (p * 2) 0 ⌝ }
+{
+    spare[p as usize * 2] = 0;
+}
+
+// The former page is, if there is one.
+pub fn mark_old(old: Entry, spare: &mut [u32])
+    requires { ⌜ ((p : ℕ) → entry old ≡ Place p → p * 2 < length (now spare)) ⌝ }
+    ensures { λ _. ⌜ now (spare .exit) ≡ marked (entry old) (now (spare .entry)) ⌝ }
+{
+    let Entry::Place(p) = old else {
+        return;
+    };
+    mark(p, spare);
+}
+
+// The open block's next page.
+pub fn next_page(g: Geometry, r: Region, rec: Record) -> u32
+    requires { ⌜ next-page (geometry g) (region r) (small rec) < 65536 ⌝ }
+    ensures { λ q. ⌜ q ≡ next-page (geometry g) (region r) (small rec) ⌝ }
+{
+    open_block(rec, r) * g.p + next_offset(rec, r)
+}
+
+// It is claimed for an owner; its words are the caller's to store.
+pub fn claim_next(g: Geometry, r: Region, owner: u32, spare: &mut [u32], work: Work) -> Handed
+    requires { ⌜ Spare-lent (geometry g) (now spare) × Has-next (geometry g) (region r) (small (work .rec)) × Room-to-count 1 (work .counts) ⌝ }
+    ensures { λ x. ⌜ Claimed (geometry g) (region r) owner (now (spare .entry)) work (x .value) (now (spare .exit)) (x .work) ⌝ }
+{
+    let rec = work.rec;
+    let counts = work.counts;
+    let q = next_page(g, r, rec);
+    store_two(spare, q as usize * 2, 65535, owner);
+    let b = open_block(rec, r);
+    let i = next_offset(rec, r);
+    let next = Work {
+        rec: with_open(rec, r, b, i + 1),
+        counts,
+    };
+    Handed {
+        value: q,
+        work: count_program(next),
+    }
+}
+
+// It is programmed with an owner and a page's words.
+pub fn program_next(
+    g: Geometry,
+    r: Region,
+    owner: u32,
+    words: &[u32],
+    chip: &mut [u32],
+    spare: &mut [u32],
+    work: Work,
+) -> Handed
+    requires { ⌜ Chip-lent (geometry g) (now chip) × Spare-lent (geometry g) (now spare) × (length (now words) ≡ geometry g .W) ⌝ }
+    requires { ⌜ Has-next (geometry g) (region r) (small (work .rec)) × Room-to-count 1 (work .counts) ⌝ }
+    ensures { λ x. ⌜ Does-flash (program-next (geometry g) (region r) owner (now (words .entry))) (now (chip .entry)) (now (spare .entry)) work (x .value) (now (chip .exit)) (now (spare .exit)) (x .work) ⌝ }
+{
+    let w = g.w as usize;
+    let rec = work.rec;
+    let q = next_page(g, r, rec) as usize;
+    copy_in(chip, q * w, words);
+    claim_next(g, r, owner, spare, work)
+}
+
+// Where a page has gone, and its owner.
+pub struct Moved {
+    pub owner: u32,
+    pub page: u32,
+    pub work: Work,
+}
+
+// Page p moves to the open block's next page, with its owner, and is marked invalid.
+pub fn relocate(
+    g: Geometry,
+    r: Region,
+    p: u32,
+    chip: &mut [u32],
+    spare: &mut [u32],
+    work: Work,
+) -> Moved
+    requires { ⌜ Chip-lent (geometry g) (now chip) × Spare-lent (geometry g) (now spare) × (p < pages (geometry g)) ⌝ }
+    requires { ⌜ Has-next (geometry g) (region r) (small (work .rec)) × Room-to-count 2 (work .counts) ⌝ }
+    ensures { λ x. ⌜ Does-flash (relocate (geometry g) (region r) p) (now (chip .entry)) (now (spare .entry)) work (record { logical = x .owner; physical = x .page }) (now (chip .exit)) (now (spare .exit)) (x .work) ⌝ }
+{
+    let w = g.w as usize;
+    let from = p as usize;
+    let rec = work.rec;
+    let q = next_page(g, r, rec) as usize;
+    copy_within(chip, from * w, q * w, w);
+    let owner = spare[from * 2 + 1];
+    let read = count_read(work);
+    let claimed = claim_next(g, r, owner, spare, read);
+    mark(p, spare);
+    let done = claimed.work;
+    Moved {
+        owner,
+        page: claimed.value,
+        work: done,
+    }
+}
+
+// Page p is read into a buffer.
+pub fn read_page(g: Geometry, p: u32, chip: &[u32], buffer: &mut [u32], work: Work) -> Work
+    requires { ⌜ Chip-lent (geometry g) (now chip) × (p < pages (geometry g)) × (length (now buffer) ≡ geometry g .W) × Room-to-count 1 (work .counts) ⌝ }
+    ensures { λ r. ⌜ Does-by-chip (read-page (geometry g) p) (now (chip .entry)) work (now (buffer .exit)) r ⌝ }
+{
+    let w = g.w as usize;
+    copy_out(buffer, chip, p as usize * w);
+    count_read(work)
+}
+
+// The word for logical page l, of the translation page that an entry names; none, with no read, where it names none.
+pub fn word_for(g: Geometry, l: u32, page: Entry, chip: &[u32], work: Work) -> Handed
+    requires { ⌜ Chip-lent (geometry g) (now chip) × ((q : ℕ) → entry page ≡ Place q → q < pages (geometry g)) × Room-to-count 1 (work .counts) ⌝ }
+    ensures { λ x. ⌜ Does-by-chip (word-for (geometry g) l (entry page)) (now (chip .entry)) work (x .value) (x .work) ⌝ }
+{
+    let Entry::Place(q) = page else {
+        return Handed {
+            value: 4294967295,
+            work,
+        };
+    };
+    let w = g.w as usize;
+    let word = chip[q as usize * w + l as usize % w];
+    Handed {
+        value: word,
+        work: count_read(work),
+    }
+}
+
+// The words that an update of a translation page begins with are put into the open block's next page: those of the former page, which
+// are read, or none throughout.
+pub fn begin_next(g: Geometry, r: Region, former: Entry, chip: &mut [u32], work: Work) -> Work
+    requires { ⌜ Chip-lent (geometry g) (now chip) × ((p : ℕ) → entry former ≡ Place p → p < pages (geometry g)) ⌝ }
+    requires { ⌜ Has-next (geometry g) (region r) (small (work .rec)) × Room-to-count 1 (work .counts) ⌝ }
+    ensures { λ x. ⌜ Begun (geometry g) (region r) (entry former) (now (chip .entry)) work (now (chip .exit)) x ⌝ }
+{
+    let w = g.w as usize;
+    let rec = work.rec;
+    let q = next_page(g, r, rec) as usize;
+    let Entry::Place(p) = former else {
+        fill_erased(chip, q * w, w);
+        return work;
+    };
+    copy_within(chip, p as usize * w, q * w, w);
+    count_read(work)
+}
+
+// In the translation page at q, the word of logical page l.
+pub fn set_word(g: Geometry, q: u32, l: u32, place: u32, chip: &mut [u32])
+    requires { ⌜ Chip-lent (geometry g) (now chip) × (q < pages (geometry g)) ⌝ }
+    ensures { λ _. ⌜ now (chip .exit) ≡ set (now (chip .entry)) (q * geometry g .W + translation-word (geometry g) l) place ⌝ }
+{
+    let w = g.w as usize;
+    chip[q as usize * w + l as usize % w] = place;
+}

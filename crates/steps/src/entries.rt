@@ -1,0 +1,68 @@
+// The cache's entries: found, moved to the front, entered, dropped and set, with the number of those in use.
+use lent::Geometry;
+use lent::Record;
+use lent::Work;
+use words::entries::put_front;
+use words::entries::to_front;
+use words::runs::store_three;
+use words::runs::store_two;
+ghost use mathlib.Core.Path.{_≡_};
+ghost use Prim.Native.Nat.{_+_, _*_, _≤_, _<_};
+ghost use lib.ListN.{length};
+ghost use Rattle.scope.specs.Sound.{rank-of};
+ghost use Rattle.scope.specs.Cache.{touch, enter, forget, set-entry};
+ghost use Rattle.lent.specs.declared.Work.{Work};
+ghost use Rattle.lent.specs.Model.{geometry};
+ghost use Rattle.lent.specs.Shapes.{Does-cache};
+ghost use Rattle.steps.specs.Entries.{Cache-lent};
+
+// The rank of logical page l; C where it isn't cached.
+pub fn rank_of(g: Geometry, rec: Record, l: u32, cache: &[u32]) -> usize
+    requires { ⌜ Cache-lent (geometry g) (now cache) (rec .used) ⌝ }
+    ensures { λ i. ⌜ (i ≤ geometry g .C) × (rank-of (geometry g) (now (cache .entry)) (rec .used) l ≡ i) ⌝ }
+{
+    let used = rec.used as usize;
+    let n = g.c as usize;
+    words::entries::rank_of(cache, used, n, l)
+}
+
+// The entry at rank i moves to the front.
+pub fn touch(i: usize, cache: &mut [u32])
+    requires { ⌜ i * 3 + 3 ≤ length (now cache) ⌝ }
+    ensures { λ _. ⌜ ((w : Work) → Does-cache (touch i) (now (cache .entry)) w 0 (now (cache .exit)) w) ⌝ }
+{
+    to_front(cache, i);
+}
+
+// An entry for logical page l, in front and unchanged, in the place of the first unused one.
+pub fn enter(l: u32, place: u32, cache: &mut [u32], work: Work) -> Work
+    requires { ⌜ (work .rec .used * 3 + 3 ≤ length (now cache)) × (work .rec .used < 4294967295) ⌝ }
+    ensures { λ r. ⌜ Does-cache (enter l place) (now (cache .entry)) work 0 (now (cache .exit)) r ⌝ }
+{
+    let mut next = work;
+    let used = work.rec.used;
+    put_front(cache, used as usize, l, place, 0);
+    let more = used + 1;
+    next.rec.used = more;
+    next
+}
+
+// The entry at rank i, the last, is dropped.
+pub fn forget(i: usize, cache: &mut [u32], work: Work) -> Work
+    requires { ⌜ (i * 3 + 3 ≤ length (now cache)) × (1 ≤ work .rec .used) ⌝ }
+    ensures { λ r. ⌜ Does-cache (forget i) (now (cache .entry)) work tt (now (cache .exit)) r ⌝ }
+{
+    let mut next = work;
+    store_three(cache, i * 3, 4294967295, 4294967295, 4294967295);
+    let less = work.rec.used - 1;
+    next.rec.used = less;
+    next
+}
+
+// The entry at rank i names a new place and is changed.
+pub fn set_entry(i: usize, place: u32, cache: &mut [u32])
+    requires { ⌜ i * 3 + 3 ≤ length (now cache) ⌝ }
+    ensures { λ _. ⌜ ((w : Work) → Does-cache (set-entry i place) (now (cache .entry)) w tt (now (cache .exit)) w) ⌝ }
+{
+    store_two(cache, i * 3 + 1, place, 1);
+}
