@@ -18,6 +18,10 @@ use Rattle.words.specs.Runs.{getD-any}
 abbrev pub is-erased-word : List ℕ → ℕ → Bool
 is-erased-word words i = eqb (getD words i erased) erased
 
+-- Each word of a list is.
+abbrev pub only-erased : List ℕ → Bool
+only-erased words = all (length words) (is-erased-word words)
+
 -- Of two words of 32 bits both have all bits exactly where they have them in common.
 pub both-erased : (a b : ℕ) → a ≤ erased → b ≤ erased → eqb (bitAnd a b) erased ≡ (eqb a erased && eqb b erased)
 both-erased a b ha hb =

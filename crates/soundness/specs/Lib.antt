@@ -14,3 +14,5 @@ pub mod Directory
 pub mod Stored
 pub mod Entries
 pub mod Translated
+pub mod Places
+pub mod PastL

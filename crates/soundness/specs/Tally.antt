@@ -20,6 +20,11 @@ pub record Room (t : Tally) (n : ℕ) : Type 0 where
   pub named-fits : t .named + n ≤ 4294967295
   pub good-fits : t .good + n ≤ 4294967295
 
+-- Neither count is above n.
+pub record Counted (t : Tally) (n : ℕ) : Type 0 where
+  pub named-most : t .named ≤ n
+  pub good-most : t .good ≤ n
+
 -- The counts of t with one word more; with n words more.
 pub record Tallied-word (t r : Tally) (named good : Bool) : Type 0 where
   pub named-more : r .named ≡ t .named + cond named 1 0
@@ -92,3 +97,10 @@ pub tallied-done : {t s : Tally} {named good : ℕ → Bool} (i n : ℕ) → Tal
 tallied-done {t} {s} {named} {good} i n h low high =
     let done : i ≡ n = omega arith in
     subst (λ (k : ℕ). Tallied t s k named good) done h
+
+pub tallied-most : (s : Tally) (i n : ℕ) (named good : ℕ → Bool) → Tallied nothing s i named good → i ≤ n → Counted s n
+tallied-most s i n named good h most =
+    record {
+      named-most = omega (arith, h .named-more, count-le i named);
+      good-most = omega (arith, h .good-more, count-le i good);
+    }

@@ -14,14 +14,13 @@ use borrow.Author.Tests.{le-leb, lt-leb}
 use Rattle.scope.specs.Counting.{all, count}
 use Rattle.scope.specs.Decisions.{none-past-L}
 use Rattle.scope.specs.Geometry.{Geometry, Accepted, M, pages, most-pages}
-use Rattle.scope.specs.Lent.{none, Entry, Place, Nowhere, decode, word-of, named, chip-size, logical-at, physical-at}
+use Rattle.scope.specs.Lent.{none, Entry, Place, Nowhere, decode, word-of, named, chip-size, directory-size, logical-at, physical-at}
 use Rattle.scope.specs.Regions.{Translation}
 use Rattle.scope.specs.Sound.{stored, Names, Directory-names}
 use Rattle.flash.specs.Cases.{same?, below?, is-false}
 use Rattle.flash.specs.Counting.{all-each, each-all, count-same, count-none, count-add}
 use Rattle.flash.specs.Places.{page-on-chip}
-use Rattle.soundness.specs.Bools.{same-test}
-use Rattle.soundness.specs.Erased.{is-erased-word}
+use Rattle.words.specs.Runs.{getD-any}
 use Rattle.soundness.specs.Named.{owns, names-page, none-owned}
 use Rattle.soundness.specs.Stored.{stored-nowhere, stored-place}
 use Rattle.soundness.specs.Tally.{Tallied, Tallied-words, word-named, word-good, tallied-start}
@@ -167,11 +166,22 @@ module _ (g : Geometry) (ok : Accepted g) (chip spare directory : List ℕ) wher
       let all : min (t * g .W) (g .L) ≡ g .L = omega (arith, pages-cover g (ok .W-from), ap (λ (x : ℕ). x * g .W) is) in
       subst (λ (n : ℕ). Tallied s r n (stored-named g chip directory) (stored-good g chip spare directory)) all done
 
--- By rule 4 a page that the directory names is on the chip, with all its words.
-pub named-on-chip : (g : Geometry) (spare directory : List ℕ) (t q : ℕ) → Directory-names g spare directory → t < M g
-    → Place q ≡ named t directory → q < pages g
-named-on-chip g spare directory t q names h e =
+-- The pages that the directory names are on the chip, with all their words: by rule 4.
+abbrev pub Names-on-chip : Geometry → List ℕ → Type 0
+Names-on-chip g directory = (t q : ℕ) → t < M g → Place q ≡ named t directory → q < pages g
+
+pub names-on-chip : (g : Geometry) (spare directory : List ℕ) → Directory-names g spare directory → Names-on-chip g directory
+names-on-chip g spare directory names t q h e =
     page-on-chip g Translation q (subst (Names g Translation spare t) (sym e) (names t h) .0)
 
 pub words-on-chip : (g : Geometry) (q n : ℕ) → q < pages g → n ≡ chip-size g → q * g .W + g .W ≤ n
 words-on-chip g q n h e = omega (arith, suc-mul q (g .W), mul-le-mul-right {m = suc q} {n = pages g} (g .W) h)
+
+-- The code's word of the directory is the definition's, and a page that it names has its words on the chip.
+pub read-here : (directory : List ℕ) (t : ℕ) → t < length directory → decode (getD directory t 0) ≡ named t directory
+read-here directory t h = ap decode (getD-any directory t 0 none h)
+
+pub read-on-chip : (g : Geometry) (chip directory : List ℕ) (t q : ℕ) → length chip ≡ chip-size g → length directory ≡ directory-size g
+    → Names-on-chip g directory → t < M g → Place q ≡ decode (getD directory t 0) → q * g .W + g .W ≤ length chip
+read-on-chip g chip directory t q long few names h e =
+    words-on-chip g q (length chip) (names t q h (e ∙ read-here directory t (omega arith))) long

@@ -7,16 +7,27 @@ ghost use Prim.Native.Nat.{_+_, _*_, _≤_, _<_, min};
 ghost use lib.ListN.{length};
 ghost use Rattle.lent.specs.Model.{geometry};
 ghost use Rattle.scope.specs.Geometry.{Accepted, M, most-pages};
-ghost use Rattle.scope.specs.Lent.{chip-size, spare-size, directory-size, cache-size};
-ghost use Rattle.scope.specs.Sound.{Directory-names};
-ghost use Rattle.soundness.specs.Tally.{nothing, Room, Tallied, Tallied-word, Tallied-words};
-ghost use Rattle.soundness.specs.Translated.{held-words, Tallied-page, stored-named, stored-good, cached-named, cached-good, hidden-named, hidden-good};
+ghost use Rattle.scope.specs.Lent.{chip-size, spare-size, directory-size};
+ghost use Rattle.flash.specs.Words.{Lengths-fit};
+ghost use Rattle.scope.specs.Decisions.{places-hold};
+ghost use Rattle.scope.specs.Laws.Decides.{Decides};
+ghost use Rattle.scope.specs.Regions.{Data};
+ghost use Rattle.scope.specs.Sound.{Owners-differ, Directory-names, Entries-fit};
+ghost use Rattle.soundness.specs.Erased.{only-erased};
+ghost use Rattle.soundness.specs.PastL.{behind-words};
+ghost use Rattle.soundness.specs.Places.{Current-places, None-past, sums-agree};
+ghost use Rattle.soundness.specs.Named.{Owners-fit};
+ghost use Rattle.soundness.specs.Stored.{parts};
+ghost use Rattle.soundness.specs.Tally.{nothing, Counted, Room, Tallied, Tallied-word, Tallied-words};
+ghost use Rattle.soundness.specs.Translated.{Names-on-chip, held-words, Tallied-page, stored-named, stored-good, cached-named, cached-good, hidden-named, hidden-good};
+use crate::erased::only_erased;
 use crate::stored::stored;
 use crate::tally::Tally;
 use crate::tally::tallied;
 use crate::tally::tally_words;
 use lent::Entry;
 use lent::Geometry;
+use words::states::count_state;
 
 fn least(a: usize, b: usize) -> usize
     ensures { λ r. ⌜ r ≡ min a b ⌝ }
@@ -56,7 +67,7 @@ fn tally_page(
     requires { ⌜ length (now chip) ≡ chip-size (geometry g) ⌝ }
     requires { ⌜ length (now spare) ≡ spare-size (geometry g) ⌝ }
     requires { ⌜ length (now directory) ≡ directory-size (geometry g) ⌝ }
-    requires { ⌜ Directory-names (geometry g) (now spare) (now directory) × (t < M (geometry g)) × Room sum (g .w) ⌝ }
+    requires { ⌜ Names-on-chip (geometry g) (now directory) × (t < M (geometry g)) × Room sum (g .w) ⌝ }
     ensures { λ r. ⌜ Tallied-page (geometry g) (now (chip .entry)) (now (spare .entry)) (now (directory .entry)) t sum r ⌝ }
 {
     let e = lent::decode(directory[t]);
@@ -75,7 +86,7 @@ fn tally_stored(g: Geometry, chip: &[u32], spare: &[u32], directory: &[u32]) -> 
     requires { ⌜ length (now chip) ≡ chip-size (geometry g) ⌝ }
     requires { ⌜ length (now spare) ≡ spare-size (geometry g) ⌝ }
     requires { ⌜ length (now directory) ≡ directory-size (geometry g) ⌝ }
-    requires { ⌜ Directory-names (geometry g) (now spare) (now directory) ⌝ }
+    requires { ⌜ Names-on-chip (geometry g) (now directory) ⌝ }
     ensures { λ r. ⌜ Tallied nothing r (g .l)
         (stored-named (geometry g) (now (chip .entry)) (now (directory .entry)))
         (stored-good (geometry g) (now (chip .entry)) (now (spare .entry)) (now (directory .entry))) ⌝ }
@@ -140,4 +151,93 @@ fn tally_hidden(
         i += 1;
     }
     sum
+}
+
+// The w words of the page that starts at `page`, but for the first n of them, are none.
+fn none_behind(chip: &[u32], page: usize, n: usize, w: usize) -> bool
+    requires { ⌜ (n ≤ w) × (page + w ≤ length (now chip)) ⌝ }
+    ensures { λ r. ⌜ r ≡ only-erased (behind-words (now (chip .entry)) page n w) ⌝ }
+{
+    let at = page + n;
+    let end = page + w;
+    only_erased(&chip[at..end])
+}
+
+// The words past L are none: the last translation page alone has any.
+fn none_past(g: Geometry, chip: &[u32], directory: &[u32]) -> bool
+    requires { ⌜ Accepted (geometry g) ⌝ }
+    requires { ⌜ length (now chip) ≡ chip-size (geometry g) ⌝ }
+    requires { ⌜ length (now directory) ≡ directory-size (geometry g) ⌝ }
+    requires { ⌜ Names-on-chip (geometry g) (now directory) ⌝ }
+    ensures { λ r. ⌜ Decides r (None-past (geometry g) (now (chip .entry)) (now (directory .entry))) ⌝ }
+{
+    let last = directory.len() - 1;
+    let e = lent::decode(directory[last]);
+    let Entry::Place(q) = e else {
+        return true;
+    };
+    let w = g.w as usize;
+    let page = q as usize * w;
+    let n = g.l as usize - last * w;
+    none_behind(chip, page, n, w)
+}
+
+// Whether the counts say that each word which names a page names the one of its owner, and that these are all the valid ones. What the
+// cache hides stands on the other side, so that nothing is subtracted.
+fn sums_agree(held: Tally, has: Tally, hides: Tally, valid: usize) -> bool
+    requires { ⌜ (Counted held 65536 × Counted has 65536 × Counted hides 65536) × (valid ≤ 65536) ⌝ }
+    ensures { λ r. ⌜ r ≡ sums-agree held has hides valid ⌝ }
+{
+    if held.named + has.named + hides.good != held.good + has.good + hides.named {
+        return false;
+    }
+    held.good + has.good == valid + hides.good
+}
+
+// The first half of the rule: each current place.
+fn current_places(
+    g: Geometry,
+    chip: &[u32],
+    spare: &[u32],
+    directory: &[u32],
+    cache: &[u32],
+    used: u32,
+) -> bool
+    requires { ⌜ Accepted (geometry g) ⌝ }
+    requires { ⌜ Lengths-fit (geometry g) (now chip) (now spare) (now directory) (now cache) ⌝ }
+    requires { ⌜ Owners-fit (geometry g) Data (now spare) × Owners-differ (geometry g) Data (now spare) ⌝ }
+    requires { ⌜ Names-on-chip (geometry g) (now directory) ⌝ }
+    requires { ⌜ Entries-fit (geometry g) (now cache) used ⌝ }
+    ensures { λ r. ⌜ Decides r (Current-places (geometry g)
+        (parts (now (chip .entry)) (now (spare .entry)) (now (directory .entry)) (now (cache .entry)) used)) ⌝ }
+{
+    let n = g.d as usize * g.p as usize;
+    let held = tally_stored(g, chip, spare, directory);
+    let has = tally_cached(cache, used as usize, spare, n);
+    let hides = tally_hidden(g, chip, spare, directory, cache, used as usize);
+    let valid = count_state(spare, 0, n, 65535);
+    sums_agree(held, has, hides, valid)
+}
+
+// Rule 6, where rules 1, 2, 4 and 5 hold.
+pub fn places_hold(
+    g: Geometry,
+    chip: &[u32],
+    spare: &[u32],
+    directory: &[u32],
+    cache: &[u32],
+    used: u32,
+) -> bool
+    requires { ⌜ Accepted (geometry g) ⌝ }
+    requires { ⌜ Lengths-fit (geometry g) (now chip) (now spare) (now directory) (now cache) ⌝ }
+    requires { ⌜ Owners-fit (geometry g) Data (now spare) × Owners-differ (geometry g) Data (now spare) ⌝ }
+    requires { ⌜ Directory-names (geometry g) (now spare) (now directory) ⌝ }
+    requires { ⌜ Entries-fit (geometry g) (now cache) used ⌝ }
+    ensures { λ r. ⌜ r ≡ places-hold (geometry g)
+        (parts (now (chip .entry)) (now (spare .entry)) (now (directory .entry)) (now (cache .entry)) used) ⌝ }
+{
+    if !current_places(g, chip, spare, directory, cache, used) {
+        return false;
+    }
+    none_past(g, chip, directory)
 }

@@ -1,30 +1,14 @@
--- `soundness::places::tally_page` meets its contract: a page that rule 4 lets the directory name is on the chip, and where it names none
--- nothing is stored.
+-- `soundness::places::tally_page` meets its contract: a page that the directory names is on the chip, and where it names none nothing is
+-- stored.
 use native.Mathlib.Omega.{arith}
-use mathlib.Core.Path.{_≡_, ap, sym, _∙_}
-use mathlib.Core.List.{List}
-use Prim.Native.Nat.{ℕ, _*_, _+_, _≤_, _<_}
-use lib.ListN.{length, getD}
+use mathlib.Core.Path.{ap, sym, _∙_}
 use borrow.Author.Needs.{needs}
 use denote.Ref.{now}
 use Rattle.lent.specs.Model.{geometry, entry}
-use Rattle.scope.specs.Lent.{Place, decode, chip-size, directory-size, named}
-use Rattle.scope.specs.Geometry.{Geometry, Accepted, M}
-use Rattle.scope.specs.Sound.{Directory-names}
-use Rattle.words.specs.Runs.{getD-any}
 use Rattle.soundness.specs.Named.{data-small}
-use Rattle.soundness.specs.Translated.{page-nowhere, page-place, page-starts, named-on-chip, words-on-chip}
+use Rattle.soundness.specs.Translated.{page-nowhere, page-place, page-starts, read-here, read-on-chip}
 use Rattle.soundness.proofs.places.tally_page.Statement.{statement}
 use Rattle.soundness.proofs.places.tally_page.Tie as tie
-
--- The code's word of the directory is the definition's, and a page that it names has its words on the chip.
-read-here : (directory : List ℕ) (t : ℕ) → t < length directory → decode (getD directory t 0) ≡ named t directory
-read-here directory t h = ap decode (getD-any directory t 0 4294967295 h)
-
-on-chip : (g : Geometry) (chip spare directory : List ℕ) (t q : ℕ) → length chip ≡ chip-size g → length directory ≡ directory-size g
-    → Directory-names g spare directory → t < M g → Place q ≡ decode (getD directory t 0) → q * g .W + g .W ≤ length chip
-on-chip g chip spare directory t q long few names h e =
-    words-on-chip g q (length chip) (named-on-chip g spare directory t q names h (e ∙ read-here directory t (omega arith))) long
 
 mul-decode : tie.Need-mul-decode
 mul-decode c = search needs
@@ -62,7 +46,7 @@ mul-at c =
     omega (
       arith,
       c .before .before .before .before .before .before .before .before .before .good,
-      on-chip (geometry (a .g)) (now (a .chip)) (now (a .spare)) (now (a .directory)) (a .t) _ (pre .1 .0) (pre .1 .1 .1 .0)
+      read-on-chip (geometry (a .g)) (now (a .chip)) (now (a .directory)) (a .t) _ (pre .1 .0) (pre .1 .1 .1 .0)
           (pre .1 .1 .1 .1 .0) (pre .1 .1 .1 .1 .1) (ap entry (sym (c .before .before .e .given .1)) ∙ c .before .before .before .before .decode .ensures),
     )
 
@@ -79,7 +63,7 @@ tally-held-requires c κs =
       pre .0,
       (
         (
-          on-chip (geometry (a .g)) (now (a .chip)) (now (a .spare)) (now (a .directory)) (a .t) _ (pre .1 .0) (pre .1 .1 .1 .0)
+          read-on-chip (geometry (a .g)) (now (a .chip)) (now (a .directory)) (a .t) _ (pre .1 .0) (pre .1 .1 .1 .0)
               (pre .1 .1 .1 .1 .0) (pre .1 .1 .1 .1 .1) (ap entry (sym (c .before .before .e .given .1)) ∙ c .before .before .before .before .decode .ensures),
           omega (arith, page-starts (geometry (a .g)) (pre .0 .W-from) (a .t) (pre .1 .1 .1 .1 .1)),
           pre .1 .1 .1 .1 .2,
@@ -96,7 +80,7 @@ returns-2 c =
     let e = ap entry (sym (c .before .before .before .e .given .1)) ∙ c .before .before .before .before .before .decode .ensures in
     page-place g (pre .0) (data-small g (pre .0)) (now (a .chip)) (now (a .spare)) (now (a .directory)) (a .t) (a .sum) (c .tally-held .result) _
     (e ∙ read-here (now (a .directory)) (a .t) (omega (arith, pre .1 .1 .1 .0, pre .1 .1 .1 .1 .1)))
-    (on-chip g (now (a .chip)) (now (a .spare)) (now (a .directory)) (a .t) _ (pre .1 .0) (pre .1 .1 .1 .0) (pre .1 .1 .1 .1 .0) (pre .1 .1 .1 .1 .1) e)
+    (read-on-chip g (now (a .chip)) (now (a .directory)) (a .t) _ (pre .1 .0) (pre .1 .1 .1 .0) (pre .1 .1 .1 .1 .0) (pre .1 .1 .1 .1 .1) e)
     (c .tally-held .ensures)
 
 pub tally-page-spec : {M : Type 1} → statement M
