@@ -16,3 +16,4 @@ pub mod Entries
 pub mod Translated
 pub mod Places
 pub mod PastL
+pub mod Whole

@@ -8,6 +8,7 @@ pub mod geometry;
 pub mod owners;
 pub mod pages;
 pub mod places;
+pub mod sound;
 pub mod stored;
 pub mod tally;
 pub mod window;

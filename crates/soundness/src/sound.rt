@@ -1,0 +1,81 @@
+// The whole state: the seven rules in document 01's order, each with what the earlier ones give. The first that fails ends the test.
+ghost use mathlib.Core.Path.{_≡_};
+ghost use lib.ListN.{length};
+ghost use Rattle.flash.specs.Words.{Lengths-fit};
+ghost use Rattle.lent.specs.Model.{geometry, state, small};
+ghost use Rattle.scope.specs.Decisions.{sound};
+ghost use Rattle.scope.specs.Geometry.{Accepted};
+ghost use Rattle.scope.specs.Lent.{chip-size, spare-size, directory-size};
+ghost use Rattle.soundness.specs.Whole.{flash-sound, cache-sound, Flash-holds};
+use crate::blocks::blocks_fit;
+use crate::directory::directory_names;
+use crate::entries::entries_fit;
+use crate::owners::owners_differ;
+use crate::pages::pages_fit;
+use crate::places::places_hold;
+use crate::stored::unchanged_agree;
+use lent::Geometry;
+use lent::Record;
+
+// Rules 1 to 4, of chip, spare and directory.
+fn flash_sound(g: Geometry, chip: &[u32], spare: &[u32], directory: &[u32], rec: Record) -> bool
+    requires { ⌜ Accepted (geometry g) ⌝ }
+    requires { ⌜ length (now chip) ≡ chip-size (geometry g) ⌝ }
+    requires { ⌜ length (now spare) ≡ spare-size (geometry g) ⌝ }
+    requires { ⌜ length (now directory) ≡ directory-size (geometry g) ⌝ }
+    ensures { λ r. ⌜ r ≡ flash-sound (geometry g) (now (chip .entry)) (now (spare .entry)) (now (directory .entry)) (small rec) ⌝ }
+{
+    if !pages_fit(g, chip, spare) {
+        return false;
+    }
+    if !owners_differ(g, spare) {
+        return false;
+    }
+    if !blocks_fit(g, spare, rec) {
+        return false;
+    }
+    directory_names(g, spare, directory)
+}
+
+// Rules 5 to 7, of the cache, its places and its entries' words.
+fn cache_sound(
+    g: Geometry,
+    chip: &[u32],
+    spare: &[u32],
+    directory: &[u32],
+    cache: &[u32],
+    used: u32,
+) -> bool
+    requires { ⌜ Accepted (geometry g) ⌝ }
+    requires { ⌜ Lengths-fit (geometry g) (now chip) (now spare) (now directory) (now cache) ⌝ }
+    requires { ⌜ Flash-holds (geometry g) (now spare) (now directory) ⌝ }
+    ensures { λ r. ⌜ r ≡ cache-sound (geometry g) (now (chip .entry)) (now (spare .entry)) (now (directory .entry)) (now (cache .entry)) used ⌝ }
+{
+    if !entries_fit(g, cache, used) {
+        return false;
+    }
+    if !places_hold(g, chip, spare, directory, cache, used) {
+        return false;
+    }
+    unchanged_agree(g, chip, directory, cache, used)
+}
+
+// Whether the state is sound, for any words in the slices and any numbers in the record.
+pub fn is_sound(
+    g: Geometry,
+    chip: &[u32],
+    spare: &[u32],
+    directory: &[u32],
+    cache: &[u32],
+    rec: Record,
+) -> bool
+    requires { ⌜ Accepted (geometry g) ⌝ }
+    requires { ⌜ Lengths-fit (geometry g) (now chip) (now spare) (now directory) (now cache) ⌝ }
+    ensures { λ r. ⌜ r ≡ sound (geometry g)
+        (state (now (chip .entry)) (now (spare .entry)) (now (directory .entry)) (now (cache .entry)) rec) ⌝ }
+{
+    if !flash_sound(g, chip, spare, directory, rec) {
+        return false;
+    }
+    cache_sound(g, chip, spare, directory, cache, rec.used)
+}
