@@ -1,0 +1,2 @@
+-- The invariant of the loop that prints a line.
+mod Printing

@@ -1,0 +1,52 @@
+// Numbers printed into lent bytes.
+ghost use mathlib.Core.List.{_++_, _∷_, []};
+ghost use Prim.Native.Nat.{_+_, _*_, _≤_, _<_};
+ghost use lib.ListN.{length};
+ghost use Rattle.lines.specs.Digits.{last-digit, digits, separator, Puts, Prints};
+
+// Puts the numbers, a space between any two, and a newline; answers how many bytes that is.
+pub fn put_line(out: &mut [u8], numbers: &[u32]) -> usize
+    requires { ⌜ length (now numbers) * 11 < length (now out) ⌝ }
+    ensures { λ r. ⌜ Prints (now (out .entry)) (now (numbers .entry)) (now (out .exit)) r ⌝ }
+{
+    let mut at = 0;
+    let mut i = 0;
+    while i < numbers.len() {
+        at = put_next(out, at, i, numbers[i]);
+        i += 1;
+    }
+    out[at] = b'\n';
+    at + 1
+}
+
+// Puts the i-th number of a line: a space before it, unless it is the first.
+fn put_next(out: &mut [u8], at: usize, i: usize, n: u32) -> usize
+    requires { ⌜ at + 11 ≤ length (now out) ⌝ }
+    ensures { λ r. ⌜ Puts (now (out .entry)) at (separator i ++ digits n) (now (out .exit)) r ⌝ }
+{
+    if i == 0 {
+        return put_number(out, at, n);
+    }
+    out[at] = b' ';
+    put_number(out, at + 1, n)
+}
+
+// Puts n's digits.
+fn put_number(out: &mut [u8], at: usize, n: u32) -> usize
+    requires { ⌜ at + length (digits n) ≤ length (now out) ⌝ }
+    ensures { λ r. ⌜ Puts (now (out .entry)) at (digits n) (now (out .exit)) r ⌝ }
+{
+    if n < 10 {
+        return put_last_digit(out, at, n);
+    }
+    let last = put_number(out, at, n / 10);
+    put_last_digit(out, last, n)
+}
+
+fn put_last_digit(out: &mut [u8], at: usize, n: u32) -> usize
+    requires { ⌜ at < length (now out) ⌝ }
+    ensures { λ r. ⌜ Puts (now (out .entry)) at (last-digit n ∷ []) (now (out .exit)) r ⌝ }
+{
+    out[at] = b'0' + (n % 10) as u8;
+    at + 1
+}
