@@ -32,7 +32,13 @@ Does-by-spare m spare w x w′ =
     → Does m (state chip spare directory cache (w .rec)) (counts (w .counts)) x
     (state chip spare directory cache (w′ .rec)) (counts (w′ .counts))
 
--- The cache, and what travels by value.
+-- The directory, and what travels by value; the cache, and what travels by value.
+abbrev pub Does-directory : {A : Type 0} → Step A → List ℕ → Work → A → List ℕ → Work → Type 0
+Does-directory m directory w x directory′ w′ =
+    (chip spare cache : List ℕ)
+    → Does m (state chip spare directory cache (w .rec)) (counts (w .counts)) x
+    (state chip spare directory′ cache (w′ .rec)) (counts (w′ .counts))
+
 abbrev pub Does-cache : {A : Type 0} → Step A → List ℕ → Work → A → List ℕ → Work → Type 0
 Does-cache m cache w x cache′ w′ =
     (chip spare directory : List ℕ)

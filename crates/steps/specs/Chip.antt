@@ -111,7 +111,8 @@ relocate-does p {g} {r} {chip = chip} its-owner is-next copied kept counting cla
     (does-bind _ (mark-does g p is-marked) (does-give _))))
 
 -- What follows is done then.
-pub move-does : (g : Geometry) (r : Region) (follow : Following) (p : ℕ) {s s₁ s₂ : State} {c c₁ c₂ : Counts} {m : Mapping} {x : List Mapping}
+pub move-does : (g : Geometry) (r : Region) (follow : Following) (p : ℕ)
+    {s s₁ s₂ : State} {c c₁ c₂ : Counts} {m : Mapping} {x : List Mapping}
     → Does (relocate g r p) s c m s₁ c₁ → Does (follow .moved (m .logical) (m .physical)) s₁ c₁ x s₂ c₂
     → Does (move-page g r follow p) s c x s₂ c₂
 unfolding relocate move-page read-page program-next look perform set-small give _>>=_

@@ -44,4 +44,5 @@ module _ {cache cache′ : List ℕ} where
         → small (w′ .rec) ≡ with-used (w .rec .used - 1) (small (w .rec)) → Does-cache (forget i) cache w tt cache′ w′
     unfolding forget
     forget-does i e less chip spare directory =
-        does-ends (does-bind _ (does-set-cache _) (does-set-small _)) (state-same refl refl refl (sym e) (sym less)) (ap counts (sym counting))
+        does-ends (does-bind _ (does-set-cache _) (does-set-small _)) (state-same refl refl refl (sym e) (sym less))
+        (ap counts (sym counting))

@@ -2,4 +2,5 @@
 pub mod Lies
 pub mod Chip
 pub mod Whole
+pub mod Directory
 pub mod Entries

@@ -107,6 +107,9 @@ pub next-on-chip : {g : Geometry} {r : Region} {small : SmallRecord} → Has-nex
 next-on-chip {g} {r} {small} h =
     slot-below (g .P) (blocks g) (open-block r small) (next-offset r small) (block-on-chip g r (open-block r small) (h .in-region)) (h .room)
 
+pub next-to : {g : Geometry} {r : Region} {small : SmallRecord} → Accepted g → Has-next g r small → next-page g r small < 65536
+next-to ok h = omega (arith, few-pages ok, next-on-chip h)
+
 -- Its words lie in the chip, and its spare words in the spare.
 module _ {g : Geometry} {r : Region} {small : SmallRecord} (next : Has-next g r small) {q : ℕ} (is-next : q ≡ next-page g r small) where
   pub next-words-lie : {chip : List ℕ} → Chip-lent g chip → Words-lie g chip q

@@ -19,8 +19,8 @@ use words::runs::store_two;
 ghost use mathlib.Core.Path.{_≡_};
 ghost use Prim.Native.Nat.{ℕ, _+_, _*_, _<_};
 ghost use lib.ListN.{length, set};
-ghost use Rattle.scope.specs.Geometry.{blocks, pages};
-ghost use Rattle.scope.specs.Lent.{Place, translation-word};
+ghost use Rattle.scope.specs.Geometry.{Accepted, blocks, pages};
+ghost use Rattle.scope.specs.Lent.{Place, is-valid, translation-word};
 ghost use Rattle.scope.specs.Operations.{Erase, perform};
 ghost use Rattle.scope.specs.Room.{read-page, program-next};
 ghost use Rattle.scope.specs.Steps.{word-for};
@@ -31,8 +31,10 @@ ghost use Rattle.steps.specs.Chip.{Claimed, Begun, marked, relocate};
 
 // Block b is erased.
 pub fn erase(g: Geometry, b: u32, chip: &mut [u32], spare: &mut [u32], work: Work) -> Work
-    requires { ⌜ Chip-lent (geometry g) (now chip) × Spare-lent (geometry g) (now spare) × (b < blocks (geometry g)) × Room-to-count 1 (work .counts) ⌝ }
-    ensures { λ r. ⌜ Does-flash (perform (geometry g) (Erase b)) (now (chip .entry)) (now (spare .entry)) work tt (now (chip .exit)) (now (spare .exit)) r ⌝ }
+    requires { ⌜ Chip-lent (geometry g) (now chip) × Spare-lent (geometry g) (now spare) × (b < blocks (geometry g))
+        × Room-to-count 1 (work .counts) ⌝ }
+    ensures { λ r. ⌜ Does-flash (perform (geometry g) (Erase b)) (now (chip .entry)) (now (spare .entry)) work tt
+        (now (chip .exit)) (now (spare .exit)) r ⌝ }
 {
     let p = g.p as usize;
     let w = g.w as usize;
@@ -40,6 +42,14 @@ pub fn erase(g: Geometry, b: u32, chip: &mut [u32], spare: &mut [u32], work: Wor
     fill_erased(chip, at * w, p * w);
     fill_erased(spare, at * 2, p * 2);
     count_erase(work)
+}
+
+// Whether page p is valid.
+pub fn is_valid(p: u32, spare: &[u32]) -> bool
+    requires { ⌜ p * 2 < length (now spare) ⌝ }
+    ensures { λ r. ⌜ r ≡ is-valid p (now (spare .entry)) ⌝ }
+{
+    spare[p as usize * 2] == 65535
 }
 
 // Page p is marked invalid.
@@ -63,7 +73,7 @@ pub fn mark_old(old: Entry, spare: &mut [u32])
 
 // The open block's next page.
 pub fn next_page(g: Geometry, r: Region, rec: Record) -> u32
-    requires { ⌜ next-page (geometry g) (region r) (small rec) < 65536 ⌝ }
+    requires { ⌜ Accepted (geometry g) × Has-next (geometry g) (region r) (small rec) ⌝ }
     ensures { λ q. ⌜ q ≡ next-page (geometry g) (region r) (small rec) ⌝ }
 {
     open_block(rec, r) * g.p + next_offset(rec, r)
@@ -71,7 +81,8 @@ pub fn next_page(g: Geometry, r: Region, rec: Record) -> u32
 
 // It is claimed for an owner; its words are the caller's to store.
 pub fn claim_next(g: Geometry, r: Region, owner: u32, spare: &mut [u32], work: Work) -> Handed
-    requires { ⌜ Spare-lent (geometry g) (now spare) × Has-next (geometry g) (region r) (small (work .rec)) × Room-to-count 1 (work .counts) ⌝ }
+    requires { ⌜ Spare-lent (geometry g) (now spare) × Has-next (geometry g) (region r) (small (work .rec))
+        × Room-to-count 1 (work .counts) ⌝ }
     ensures { λ x. ⌜ Claimed (geometry g) (region r) owner (now (spare .entry)) work (x .value) (now (spare .exit)) (x .work) ⌝ }
 {
     let rec = work.rec;
@@ -102,7 +113,8 @@ pub fn program_next(
 ) -> Handed
     requires { ⌜ Chip-lent (geometry g) (now chip) × Spare-lent (geometry g) (now spare) × (length (now words) ≡ geometry g .W) ⌝ }
     requires { ⌜ Has-next (geometry g) (region r) (small (work .rec)) × Room-to-count 1 (work .counts) ⌝ }
-    ensures { λ x. ⌜ Does-flash (program-next (geometry g) (region r) owner (now (words .entry))) (now (chip .entry)) (now (spare .entry)) work (x .value) (now (chip .exit)) (now (spare .exit)) (x .work) ⌝ }
+    ensures { λ x. ⌜ Does-flash (program-next (geometry g) (region r) owner (now (words .entry))) (now (chip .entry))
+        (now (spare .entry)) work (x .value) (now (chip .exit)) (now (spare .exit)) (x .work) ⌝ }
 {
     let w = g.w as usize;
     let rec = work.rec;
@@ -129,7 +141,8 @@ pub fn relocate(
 ) -> Moved
     requires { ⌜ Chip-lent (geometry g) (now chip) × Spare-lent (geometry g) (now spare) × (p < pages (geometry g)) ⌝ }
     requires { ⌜ Has-next (geometry g) (region r) (small (work .rec)) × Room-to-count 2 (work .counts) ⌝ }
-    ensures { λ x. ⌜ Does-flash (relocate (geometry g) (region r) p) (now (chip .entry)) (now (spare .entry)) work (record { logical = x .owner; physical = x .page }) (now (chip .exit)) (now (spare .exit)) (x .work) ⌝ }
+    ensures { λ x. ⌜ Does-flash (relocate (geometry g) (region r) p) (now (chip .entry)) (now (spare .entry)) work
+        (record { logical = x .owner; physical = x .page }) (now (chip .exit)) (now (spare .exit)) (x .work) ⌝ }
 {
     let w = g.w as usize;
     let from = p as usize;
@@ -150,7 +163,8 @@ pub fn relocate(
 
 // Page p is read into a buffer.
 pub fn read_page(g: Geometry, p: u32, chip: &[u32], buffer: &mut [u32], work: Work) -> Work
-    requires { ⌜ Chip-lent (geometry g) (now chip) × (p < pages (geometry g)) × (length (now buffer) ≡ geometry g .W) × Room-to-count 1 (work .counts) ⌝ }
+    requires { ⌜ Chip-lent (geometry g) (now chip) × (p < pages (geometry g)) × (length (now buffer) ≡ geometry g .W)
+        × Room-to-count 1 (work .counts) ⌝ }
     ensures { λ r. ⌜ Does-by-chip (read-page (geometry g) p) (now (chip .entry)) work (now (buffer .exit)) r ⌝ }
 {
     let w = g.w as usize;
@@ -160,7 +174,8 @@ pub fn read_page(g: Geometry, p: u32, chip: &[u32], buffer: &mut [u32], work: Wo
 
 // The word for logical page l, of the translation page that an entry names; none, with no read, where it names none.
 pub fn word_for(g: Geometry, l: u32, page: Entry, chip: &[u32], work: Work) -> Handed
-    requires { ⌜ Chip-lent (geometry g) (now chip) × ((q : ℕ) → entry page ≡ Place q → q < pages (geometry g)) × Room-to-count 1 (work .counts) ⌝ }
+    requires { ⌜ Chip-lent (geometry g) (now chip) × ((q : ℕ) → entry page ≡ Place q → q < pages (geometry g))
+        × Room-to-count 1 (work .counts) ⌝ }
     ensures { λ x. ⌜ Does-by-chip (word-for (geometry g) l (entry page)) (now (chip .entry)) work (x .value) (x .work) ⌝ }
 {
     let Entry::Place(q) = page else {

@@ -10,7 +10,8 @@ ghost use mathlib.Core.Path.{_≡_};
 ghost use Prim.Native.Nat.{_+_, _*_, _≤_, _<_};
 ghost use lib.ListN.{length};
 ghost use Rattle.scope.specs.Sound.{rank-of};
-ghost use Rattle.scope.specs.Cache.{touch, enter, forget, set-entry};
+ghost use Rattle.scope.specs.Cache.{is-changed, touch, enter, forget, set-entry};
+ghost use Rattle.scope.specs.Lent.{logical-at, physical-at};
 ghost use Rattle.lent.specs.declared.Work.{Work};
 ghost use Rattle.lent.specs.Model.{geometry};
 ghost use Rattle.lent.specs.Shapes.{Does-cache};
@@ -24,6 +25,28 @@ pub fn rank_of(g: Geometry, rec: Record, l: u32, cache: &[u32]) -> usize
     let used = rec.used as usize;
     let n = g.c as usize;
     words::entries::rank_of(cache, used, n, l)
+}
+
+// The words of the entry at rank i.
+pub fn logical(i: usize, cache: &[u32]) -> u32
+    requires { ⌜ i * 3 + 3 ≤ length (now cache) ⌝ }
+    ensures { λ l. ⌜ l ≡ logical-at i (now (cache .entry)) ⌝ }
+{
+    cache[i * 3]
+}
+
+pub fn physical(i: usize, cache: &[u32]) -> u32
+    requires { ⌜ i * 3 + 3 ≤ length (now cache) ⌝ }
+    ensures { λ p. ⌜ p ≡ physical-at i (now (cache .entry)) ⌝ }
+{
+    cache[i * 3 + 1]
+}
+
+pub fn is_changed(i: usize, cache: &[u32]) -> bool
+    requires { ⌜ i * 3 + 3 ≤ length (now cache) ⌝ }
+    ensures { λ r. ⌜ r ≡ is-changed i (now (cache .entry)) ⌝ }
+{
+    cache[i * 3 + 2] == 1
 }
 
 // The entry at rank i moves to the front.

@@ -70,7 +70,9 @@ put-in-front l l₁ l₂ n a b c h shifted stored =
 pub three-read : (l l₁ rest : List ℕ) (i : ℕ) → i + 3 ≤ length l → l₁ ≡ getD l i 0 ∷ getD l (i + 1) 0 ∷ getD l (i + 2) 0 ∷ rest
     → l₁ ≡ take 3 (drop i l) ++ rest
 three-read l l₁ rest i h e =
-    e ∙ (rw (add-one, add-two, drop-cons l i 0 (omega arith), drop-cons l (suc i) 0 (omega arith), drop-cons l (suc (suc i)) 0 (omega arith)) refl)
+    let first : drop i l ≡ getD l i 0 ∷ drop (suc i) l = drop-cons l i 0 (omega arith) in
+    let second : drop (suc i) l ≡ getD l (suc i) 0 ∷ drop (suc (suc i)) l = drop-cons l (suc i) 0 (omega arith) in
+    e ∙ (rw (add-one, add-two, first, second, drop-cons l (suc (suc i)) 0 (omega arith)) refl)
 
 -- ---- a search by logical page
 

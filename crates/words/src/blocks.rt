@@ -71,7 +71,8 @@ fn held(spare: &[u32], page: usize, p: usize) -> usize
 // counted from the first; n where there is none.
 pub fn fewest_valid_among(spare: &[u32], first: usize, n: usize, p: usize) -> usize
     requires { ⌜ ((first + n) * p * 2 ≤ length (now spare)) × (1 ≤ p) × (p < 4294967296) ⌝ }
-    ensures { λ r. ⌜ (r ≤ n) × (r ≡ fewest n (λ i. not (is-erased ((first + i) * p) (now (spare .entry)))) (λ i. count p (λ j. is-valid ((first + i) * p + j) (now (spare .entry))))) ⌝ }
+    ensures { λ r. ⌜ (r ≤ n) × (r ≡ fewest n (λ i. not (is-erased ((first + i) * p) (now (spare .entry)))) (λ i. count p
+        (λ j. is-valid ((first + i) * p + j) (now (spare .entry))))) ⌝ }
 {
     let mut best = Best { at: n, size: p + 1 };
     let mut i = 0;

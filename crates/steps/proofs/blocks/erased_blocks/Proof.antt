@@ -36,7 +36,8 @@ returns : tie.Need-returns
 returns c =
     let after = c .before .before in
     let start = after .before .before .before in
-    λ s lent. erased-counted (start .pre) (after .before .first-block .ensures) (after .region-blocks .ensures) s lent (c .erased-among .ensures .1)
+    λ s lent. erased-counted (start .pre) (after .before .first-block .ensures) (after .region-blocks .ensures) s lent
+    (c .erased-among .ensures .1)
 
 pub erased-blocks-spec : {M : Type 1} → statement M
 erased-blocks-spec =

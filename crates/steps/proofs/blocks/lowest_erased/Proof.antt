@@ -42,7 +42,8 @@ returns : tie.Need-returns
 returns c =
     let after = c .before .before in
     let start = after .before .before .before in
-    λ s lent. lowest-found (start .pre) (after .before .first-block .ensures) (after .region-blocks .ensures) s lent (c .lowest-erased-among .ensures .1)
+    λ s lent. lowest-found (start .pre) (after .before .first-block .ensures) (after .region-blocks .ensures) s lent
+    (c .lowest-erased-among .ensures .1)
 
 pub lowest-erased-spec : {M : Type 1} → statement M
 lowest-erased-spec =

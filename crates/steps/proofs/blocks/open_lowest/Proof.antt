@@ -14,9 +14,10 @@ with-open-requires c κs = search needs
 
 returns : tie.Need-returns
 returns c =
-    let a = c .before .before .before .before .before .args in
+    let found = c .before .before .before in
+    let a = found .before .before .args in
     λ chip directory cache. open-does (geometry (a .g)) (region (a .r))
-    (c .before .before .before .lowest-erased .ensures (state chip (a .spare .now) directory cache (a .work .rec)) refl) (c .with-open .ensures)
+    (found .lowest-erased .ensures (state chip (a .spare .now) directory cache (a .work .rec)) refl) (c .with-open .ensures)
 
 pub open-lowest-spec : {M : Type 1} → statement M
 open-lowest-spec = tie.close (tie.spec lowest-erased-requires with-open-requires returns)

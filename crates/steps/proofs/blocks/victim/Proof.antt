@@ -42,7 +42,8 @@ returns : tie.Need-returns
 returns c =
     let after = c .before .before in
     let start = after .before .before .before in
-    λ s lent. victim-found (start .pre) (after .before .first-block .ensures) (after .region-blocks .ensures) s lent (c .fewest-valid-among .ensures .1)
+    λ s lent. victim-found (start .pre) (after .before .first-block .ensures) (after .region-blocks .ensures) s lent
+    (c .fewest-valid-among .ensures .1)
 
 pub victim-spec : {M : Type 1} → statement M
 victim-spec =

@@ -2,7 +2,7 @@
 use mathlib.Core.Path.{refl, ap}
 use native.Mathlib.Omega.{arith}
 use borrow.Author.Needs.{needs}
-use Rattle.steps.specs.Lies.{next-on-chip, next-words-lie, words-lie, pages-apart}
+use Rattle.steps.specs.Lies.{next-words-lie, words-lie, pages-apart}
 use Rattle.steps.specs.Chip.{begun-is}
 use Rattle.lent.specs.Model.{geometry, region, entry}
 use Rattle.steps.proofs.chip.begin_next.Statement.{statement}
@@ -12,7 +12,7 @@ cast-w : tie.Need-cast-w
 cast-w c = search needs
 
 next-page-requires : tie.Need-next-page-requires
-next-page-requires c κs = words-lie (c .before .before .before .pre .0 .0) _ (next-on-chip (c .before .before .before .pre .1 .0)) .page-to
+next-page-requires c κs = (c .before .before .before .pre .0 .0 .accepted, c .before .before .before .pre .1 .0)
 
 cast-q : tie.Need-cast-q
 cast-q c = search needs
@@ -24,32 +24,48 @@ enum-told : tie.Need-enum-told
 enum-told c = search needs
 
 mul-fill-erased : tie.Need-mul-fill-erased
-mul-fill-erased c = omega (arith, next-words-lie (c .before .before .before .before .before .before .before .pre .1 .0) (c .before .before .before .next-page .ensures) (c .before .before .before .before .before .before .before .pre .0 .0))
+mul-fill-erased c =
+    let start = c .before .before .before .before .before .before .before in
+    omega (arith, next-words-lie (start .pre .1 .0) (c .before .before .before .next-page .ensures) (start .pre .0 .0))
 
 fill-erased-requires : tie.Need-fill-erased-requires
-fill-erased-requires c κs = omega (arith, next-words-lie (c .before .before .before .before .before .before .before .pre .1 .0) (c .before .before .before .next-page .ensures) (c .before .before .before .before .before .before .before .pre .0 .0))
+fill-erased-requires c κs =
+    let start = c .before .before .before .before .before .before .before in
+    omega (arith, next-words-lie (start .pre .1 .0) (c .before .before .before .next-page .ensures) (start .pre .0 .0))
 
 same-length : tie.Need-same-length
 same-length c = search needs
 
 returns : tie.Need-returns
 returns c =
-    begun-is (geometry (c .before .before .before .before .before .before .before .before .before .before .args .g)) (region (c .before .before .before .before .before .before .before .before .before .before .args .r)) (ap entry (c .before .before .before .before .enum-told .given .1))
-    (c .before .before .before .before .before .before .next-page .ensures) (c .before .before .fill-erased .ensures) refl refl
+    let fills = c .before .before in
+    let none = fills .before .before in
+    let next = none .before .before in
+    let start = next .before .before .before .before in
+    begun-is (geometry (start .args .g)) (region (start .args .r)) (ap entry (none .enum-told .given .1))
+    (next .next-page .ensures) (fills .fill-erased .ensures) refl refl
 
 cast-copy-within : tie.Need-cast-copy-within
 cast-copy-within c = search needs
 
 mul-copy-within : tie.Need-mul-copy-within
-mul-copy-within c = omega (arith, words-lie (c .before .before .before .before .before .before .before .before .pre .0 .0) _ (c .before .before .before .before .before .before .before .before .pre .0 .1 _ (ap entry (c .before .before .former .given .1))))
+mul-copy-within c =
+    let start = c .before .before .before .before .before .before .before .before in
+    omega (arith, words-lie (start .pre .0 .0) _ (start .pre .0 .1 _ (ap entry (c .before .before .former .given .1))))
 
 mul-copy-within-2 : tie.Need-mul-copy-within-2
-mul-copy-within-2 c = omega (arith, next-words-lie (c .before .before .before .before .before .before .before .before .pre .1 .0) (c .before .before .before .before .next-page .ensures) (c .before .before .before .before .before .before .before .before .pre .0 .0))
+mul-copy-within-2 c =
+    let start = c .before .before .before .before .before .before .before .before in
+    omega (arith, next-words-lie (start .pre .1 .0) (c .before .before .before .before .next-page .ensures) (start .pre .0 .0))
 
 copy-within-requires : tie.Need-copy-within-requires
 copy-within-requires c κs =
-    let start = c .before .before .before .before .before .before .before .before in
-    ((words-lie (start .pre .0 .0) _ (start .pre .0 .1 _ (ap entry (c .before .before .former .given .1))) .words, next-words-lie (start .pre .1 .0) (c .before .before .before .before .next-page .ensures) (start .pre .0 .0) .words), pages-apart (start .args .g .w) _ (c .before .before .before .before .next-page .result))
+    let former = c .before .before in
+    let next = former .before .before in
+    let start = next .before .before .before .before in
+    let from = words-lie (start .pre .0 .0) _ (start .pre .0 .1 _ (ap entry (former .former .given .1))) in
+    let to = next-words-lie (start .pre .1 .0) (next .next-page .ensures) (start .pre .0 .0) in
+    ((from .words, to .words), pages-apart (start .args .g .w) _ (next .next-page .result))
 
 count-read-requires : tie.Need-count-read-requires
 count-read-requires c κs = search needs
@@ -59,8 +75,12 @@ same-length-2 c = search needs
 
 returns-2 : tie.Need-returns-2
 returns-2 c =
-    begun-is (geometry (c .before .before .before .before .before .before .before .before .before .before .before .before .args .g)) (region (c .before .before .before .before .before .before .before .before .before .before .before .before .args .r)) (ap entry (c .before .before .before .before .before .before .former .given .1))
-    (c .before .before .before .before .before .before .before .before .next-page .ensures) (c .before .before .before .copy-within .ensures) (c .count-read .ensures .0) (c .count-read .ensures .1)
+    let copies = c .before .before .before in
+    let former = copies .before .before .before in
+    let next = former .before .before in
+    let start = next .before .before .before .before in
+    begun-is (geometry (start .args .g)) (region (start .args .r)) (ap entry (former .former .given .1))
+    (next .next-page .ensures) (copies .copy-within .ensures) (c .count-read .ensures .0) (c .count-read .ensures .1)
 
 pub begin-next-spec : {M : Type 1} → statement M
 begin-next-spec =

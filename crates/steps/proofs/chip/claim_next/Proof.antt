@@ -8,7 +8,7 @@ use Rattle.steps.proofs.chip.claim_next.Statement.{statement}
 use Rattle.steps.proofs.chip.claim_next.Tie as tie
 
 next-page-requires : tie.Need-next-page-requires
-next-page-requires c κs = spare-lies (c .before .before .before .pre .0) _ (next-on-chip (c .before .before .before .pre .1)) .page-to
+next-page-requires c κs = (c .before .before .before .pre .0 .accepted, c .before .before .before .pre .1)
 
 cast-store-two : tie.Need-cast-store-two
 cast-store-two c = search needs
@@ -18,7 +18,8 @@ mul-store-two c = search needs
 
 store-two-requires : tie.Need-store-two-requires
 store-two-requires c κs =
-    omega (arith, spare-lies (c .before .before .before .before .before .pre .0) _ (next-on-chip (c .before .before .before .before .before .pre .1)))
+    let start = c .before .before .before .before .before in
+    omega (arith, spare-lies (start .pre .0) _ (next-on-chip (start .pre .1)))
 
 open-block-requires : tie.Need-open-block-requires
 open-block-requires c κs = search needs
@@ -40,12 +41,15 @@ same-length c = search needs
 
 returns : tie.Need-returns
 returns c =
-    let start = c .before .before .before .before .before .before .before .before .before .before .before .before in
+    let stores = c .before .before .before .before .before .before in
+    let next = stores .before .before in
+    let start = next .before .before .before .before in
     record {
-      is-next = c .before .before .before .before .before .before .before .before .next-page .ensures;
-      owned = c .before .before .before .before .before .before .store-two .ensures;
+      is-next = next .next-page .ensures;
+      owned = stores .store-two .ensures;
       moves-on = ap small (c .count-program .ensures .0) ∙ c .before .with-open .ensures
-          ∙ advanced-is (region (start .args .r)) (small (start .args .work .rec)) (c .before .before .before .open-block .ensures) (c .before .before .next-offset .ensures);
+          ∙ advanced-is (region (start .args .r)) (small (start .args .work .rec))
+          (c .before .before .before .open-block .ensures) (c .before .before .next-offset .ensures);
       counting = c .count-program .ensures .1;
     }
 

@@ -14,25 +14,37 @@ cast-w : tie.Need-cast-w
 cast-w c = search needs
 
 mul-at : tie.Need-mul-at
-mul-at c = omega (arith, block-lies (c .before .before .before .before .pre .0) (c .before .before .before .before .pre .1) (c .before .before .before .before .args .b) (c .before .before .before .before .pre .2))
+mul-at c =
+    let start = c .before .before .before .before in
+    omega (arith, block-lies (start .pre .0) (start .pre .1) (start .args .b) (start .pre .2))
 
 mul-fill-erased : tie.Need-mul-fill-erased
-mul-fill-erased c = omega (arith, block-lies (c .before .before .before .before .before .pre .0) (c .before .before .before .before .before .pre .1) (c .before .before .before .before .before .args .b) (c .before .before .before .before .before .pre .2))
+mul-fill-erased c =
+    let start = c .before .before .before .before .before in
+    omega (arith, block-lies (start .pre .0) (start .pre .1) (start .args .b) (start .pre .2))
 
 mul-fill-erased-2 : tie.Need-mul-fill-erased-2
-mul-fill-erased-2 c = omega (arith, block-lies (c .before .before .before .before .before .pre .0) (c .before .before .before .before .before .pre .1) (c .before .before .before .before .before .args .b) (c .before .before .before .before .before .pre .2))
+mul-fill-erased-2 c =
+    let start = c .before .before .before .before .before in
+    omega (arith, block-lies (start .pre .0) (start .pre .1) (start .args .b) (start .pre .2))
 
 fill-erased-requires : tie.Need-fill-erased-requires
-fill-erased-requires c κs = omega (arith, block-lies (c .before .before .before .before .before .pre .0) (c .before .before .before .before .before .pre .1) (c .before .before .before .before .before .args .b) (c .before .before .before .before .before .pre .2))
+fill-erased-requires c κs =
+    let start = c .before .before .before .before .before in
+    omega (arith, block-lies (start .pre .0) (start .pre .1) (start .args .b) (start .pre .2))
 
 mul-fill-erased-3 : tie.Need-mul-fill-erased-3
-mul-fill-erased-3 c = omega (arith, block-lies (c .before .before .before .before .before .before .before .before .before .pre .0) (c .before .before .before .before .before .before .before .before .before .pre .1) (c .before .before .before .before .before .before .before .before .before .args .b) (c .before .before .before .before .before .before .before .before .before .pre .2))
+mul-fill-erased-3 c =
+    let start = c .before .before .before .before .before .before .before .before .before in
+    omega (arith, block-lies (start .pre .0) (start .pre .1) (start .args .b) (start .pre .2))
 
 mul-fill-erased-4 : tie.Need-mul-fill-erased-4
 mul-fill-erased-4 c = search needs
 
 fill-erased-requires-2 : tie.Need-fill-erased-requires-2
-fill-erased-requires-2 c κs = omega (arith, block-lies (c .before .before .before .before .before .before .before .before .before .pre .0) (c .before .before .before .before .before .before .before .before .before .pre .1) (c .before .before .before .before .before .before .before .before .before .args .b) (c .before .before .before .before .before .before .before .before .before .pre .2))
+fill-erased-requires-2 c κs =
+    let start = c .before .before .before .before .before .before .before .before .before in
+    omega (arith, block-lies (start .pre .0) (start .pre .1) (start .args .b) (start .pre .2))
 
 count-erase-requires : tie.Need-count-erase-requires
 count-erase-requires c κs = search needs
@@ -45,7 +57,10 @@ same-length-2 c = search needs
 
 returns : tie.Need-returns
 returns c =
-    erase-does (geometry (c .before .before .before .before .before .before .before .before .before .before .before .before .before .args .g)) (c .before .before .before .before .before .before .before .before .before .before .before .before .before .args .b) (c .before .before .before .before .before .before .before .fill-erased .ensures) (c .before .before .before .fill-erased2 .ensures)
+    let spares = c .before .before .before in
+    let words = spares .before .before .before .before in
+    let start = words .before .before .before .before .before .before in
+    erase-does (geometry (start .args .g)) (start .args .b) (words .fill-erased .ensures) (spares .fill-erased2 .ensures)
     (c .count-erase .ensures .0) (c .count-erase .ensures .1)
 
 pub erase-spec : {M : Type 1} → statement M

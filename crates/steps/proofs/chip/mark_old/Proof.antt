@@ -24,8 +24,10 @@ same-length c = search needs
 
 returns-2 : tie.Need-returns-2
 returns-2 c =
-    let start = c .before .before .before .before .before .before .before .before in
-    c .before .before .mark .ensures ∙ sym (ap (λ (e : Entry). marked (entry e) (start .args .spare .now)) (c .before .before .before .before .before .old .given .1))
+    let former = c .before .before .before .before .before in
+    let start = former .before .before .before in
+    c .before .before .mark .ensures
+    ∙ sym (ap (λ (e : Entry). marked (entry e) (start .args .spare .now)) (former .old .given .1))
 
 pub mark-old-spec : {M : Type 1} → statement M
 mark-old-spec =

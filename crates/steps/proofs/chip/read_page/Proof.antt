@@ -15,10 +15,14 @@ cast-w : tie.Need-cast-w
 cast-w c = search needs
 
 mul-copy-out : tie.Need-mul-copy-out
-mul-copy-out c = omega (arith, words-lie (c .before .before .before .before .pre .0) (c .before .before .before .before .args .p) (c .before .before .before .before .pre .1))
+mul-copy-out c =
+    let start = c .before .before .before .before in
+    omega (arith, words-lie (start .pre .0) (start .args .p) (start .pre .1))
 
 copy-out-requires : tie.Need-copy-out-requires
-copy-out-requires c κs = omega (arith, words-lie (c .before .before .before .before .pre .0) (c .before .before .before .before .args .p) (c .before .before .before .before .pre .1))
+copy-out-requires c κs =
+    let start = c .before .before .before .before in
+    omega (arith, words-lie (start .pre .0) (start .args .p) (start .pre .1))
 
 count-read-requires : tie.Need-count-read-requires
 count-read-requires c κs = search needs

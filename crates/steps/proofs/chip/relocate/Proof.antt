@@ -3,7 +3,7 @@ use Prim.Native.Nat.{_+_, _*_}
 use mathlib.Core.Path.{sym, subst}
 use native.Mathlib.Omega.{arith}
 use borrow.Author.Needs.{needs}
-use Rattle.steps.specs.Lies.{Has-next, next-on-chip, next-words-lie, words-lie, spare-lies, pages-apart}
+use Rattle.steps.specs.Lies.{Has-next, next-words-lie, words-lie, spare-lies, pages-apart}
 use Rattle.steps.specs.Chip.{relocate-does}
 use Rattle.lent.specs.Shapes.{room-after-read}
 use Rattle.words.specs.Runs.{getD-any}
@@ -16,21 +16,28 @@ cast-w : tie.Need-cast-w
 cast-w c = search needs
 
 next-page-requires : tie.Need-next-page-requires
-next-page-requires c κs = words-lie (c .before .before .before .before .pre .0 .0) _ (next-on-chip (c .before .before .before .before .pre .1 .0)) .page-to
+next-page-requires c κs = (c .before .before .before .before .pre .0 .0 .accepted, c .before .before .before .before .pre .1 .0)
 
 cast-q : tie.Need-cast-q
 cast-q c = search needs
 
 mul-copy-within : tie.Need-mul-copy-within
-mul-copy-within c = omega (arith, words-lie (c .before .before .before .before .before .before .pre .0 .0) (c .before .before .before .before .before .before .args .p) (c .before .before .before .before .before .before .pre .0 .2))
+mul-copy-within c =
+    let start = c .before .before .before .before .before .before in
+    omega (arith, words-lie (start .pre .0 .0) (start .args .p) (start .pre .0 .2))
 
 mul-copy-within-2 : tie.Need-mul-copy-within-2
-mul-copy-within-2 c = omega (arith, next-words-lie (c .before .before .before .before .before .before .pre .1 .0) (c .before .next-page .ensures) (c .before .before .before .before .before .before .pre .0 .0))
+mul-copy-within-2 c =
+    let start = c .before .before .before .before .before .before in
+    omega (arith, next-words-lie (start .pre .1 .0) (c .before .next-page .ensures) (start .pre .0 .0))
 
 copy-within-requires : tie.Need-copy-within-requires
 copy-within-requires c κs =
     let start = c .before .before .before .before .before .before in
-    ((words-lie (start .pre .0 .0) (start .args .p) (start .pre .0 .2) .words, next-words-lie (start .pre .1 .0) (c .before .next-page .ensures) (start .pre .0 .0) .words), pages-apart (start .args .g .w) (start .args .p) (c .before .next-page .result))
+    let a = start .args in
+    let from = words-lie (start .pre .0 .0) (a .p) (start .pre .0 .2) in
+    let to = next-words-lie (start .pre .1 .0) (c .before .next-page .ensures) (start .pre .0 .0) in
+    ((from .words, to .words), pages-apart (a .g .w) (a .p) (c .before .next-page .result))
 
 mul-owner : tie.Need-mul-owner
 mul-owner c = search needs
@@ -49,14 +56,19 @@ count-read-requires c κs = search needs
 
 claim-next-requires : tie.Need-claim-next-requires
 claim-next-requires c κs =
-    let start = c .before .before .before .before .before .before .before .before .before .before .before .before in (
+    let start = c .before .before .before .before .before .before .before .before .before .before .before .before in
+    let a = start .args in
+    let read = c .before .count-read .ensures in (
       start .pre .0 .1,
-      subst (λ (k : Record). Has-next (geometry (start .args .g)) (region (start .args .r)) (small k)) (sym (c .before .count-read .ensures .0)) (start .pre .1 .0),
-      room-after-read 1 _ _ (start .pre .1 .1) (c .before .count-read .ensures .1),
+      subst (λ (k : Record). Has-next (geometry (a .g)) (region (a .r)) (small k)) (sym (read .0)) (start .pre .1 .0),
+      room-after-read 1 _ _ (start .pre .1 .1) (read .1),
     )
 
 mark-requires : tie.Need-mark-requires
-mark-requires c κs = omega (arith, spare-lies (c .before .before .before .before .before .before .before .before .before .before .before .before .before .before .before .before .pre .0 .1) (c .before .before .before .before .before .before .before .before .before .before .before .before .before .before .before .before .args .p) (c .before .before .before .before .before .before .before .before .before .before .before .before .before .before .before .before .pre .0 .2), c .before .before .before .claim-next .kept .1 .1 .1 .0)
+mark-requires c κs =
+    let claimed = c .before .before .before in
+    let start = claimed .before .before .before .before .before .before .before .before .before .before .before .before .before in
+    omega (arith, spare-lies (start .pre .0 .1) (start .args .p) (start .pre .0 .2), claimed .claim-next .kept .1 .1 .1 .0)
 
 same-length : tie.Need-same-length
 same-length c = search needs
@@ -66,11 +78,17 @@ same-length-2 c = search needs
 
 returns : tie.Need-returns
 returns c =
-    let start = c .before .before .before .before .before .before .before .before .before .before .before .before .before .before .before .before .before .before .before .before in
-    relocate-does (start .args .p)
-    (getD-any (start .args .spare .now) (start .args .p * 2 + 1) 0 4294967295 (omega (arith, spare-lies (start .pre .0 .1) (start .args .p) (start .pre .0 .2))))
-    (c .before .before .before .before .before .before .before .before .before .before .before .before .before .before .before .next-page .ensures) (c .before .before .before .before .before .before .before .before .before .before .before .before .before .copy-within .ensures) (c .before .before .before .before .before .before .before .before .before .count-read .ensures .0) (c .before .before .before .before .before .before .before .before .before .count-read .ensures .1)
-    (c .before .before .before .before .before .before .before .claim-next .ensures) (c .before .before .before .mark .ensures)
+    let marks = c .before .before .before in
+    let claims = marks .before .before .before .before in
+    let reads = claims .before .before in
+    let copies = reads .before .before .before .before in
+    let next = copies .before .before in
+    let start = next .before .before .before .before .before in
+    let a = start .args in
+    relocate-does (a .p)
+    (getD-any (a .spare .now) (a .p * 2 + 1) 0 4294967295 (omega (arith, spare-lies (start .pre .0 .1) (a .p) (start .pre .0 .2))))
+    (next .next-page .ensures) (copies .copy-within .ensures) (reads .count-read .ensures .0) (reads .count-read .ensures .1)
+    (claims .claim-next .ensures) (marks .mark .ensures)
 
 pub relocate-spec : {M : Type 1} → statement M
 relocate-spec =

@@ -18,7 +18,9 @@ same-length : tie.Need-same-length
 same-length c = search needs
 
 returns : tie.Need-returns
-returns c = enter-does refl (c .before .before .before .before .before .before .args .l) (c .before .before .before .before .before .before .args .place) (c .before .before .before .put-front .ensures) refl
+returns c =
+    let start = c .before .before .before .before .before .before in
+    enter-does refl (start .args .l) (start .args .place) (c .before .before .before .put-front .ensures) refl
 
 pub enter-spec : {M : Type 1} → statement M
 enter-spec = tie.close (tie.spec cast-put-front put-front-requires add-more same-length returns)

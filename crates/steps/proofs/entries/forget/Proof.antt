@@ -18,7 +18,9 @@ same-length : tie.Need-same-length
 same-length c = search needs
 
 returns : tie.Need-returns
-returns c = forget-does refl (c .before .before .before .before .before .before .before .args .i) (c .before .before .before .before .store-three .ensures) refl
+returns c =
+    let start = c .before .before .before .before .before .before .before in
+    forget-does refl (start .args .i) (c .before .before .before .before .store-three .ensures) refl
 
 pub forget-spec : {M : Type 1} → statement M
 forget-spec =

@@ -17,7 +17,9 @@ same-length : tie.Need-same-length
 same-length c = search needs
 
 returns : tie.Need-returns
-returns c = λ w. set-entry-does (c .before .before .before .before .before .args .i) (c .before .before .before .before .before .args .place) (c .before .before .store-two .ensures)
+returns c =
+    let start = c .before .before .before .before .before in
+    λ w. set-entry-does (start .args .i) (start .args .place) (c .before .before .store-two .ensures)
 
 pub set-entry-spec : {M : Type 1} → statement M
 set-entry-spec =

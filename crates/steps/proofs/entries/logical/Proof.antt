@@ -1,0 +1,22 @@
+-- `steps::entries::logical` meets its contract.
+use Prim.Native.Nat.{_*_}
+use native.Mathlib.Omega.{arith}
+use borrow.Author.Needs.{needs}
+use Rattle.words.specs.Runs.{getD-any}
+use Rattle.steps.proofs.entries.logical.Statement.{statement}
+use Rattle.steps.proofs.entries.logical.Tie as tie
+
+mul-result : tie.Need-mul-result
+mul-result c = search needs
+
+mul-result-2 : tie.Need-mul-result-2
+mul-result-2 c = search needs
+
+shared-slice-read-result : tie.Need-shared-slice-read-result
+shared-slice-read-result c = search needs
+
+returns : tie.Need-returns
+returns c = getD-any (c .before .args .cache .now) (c .before .args .i * 3) 0 4294967295 (omega arith)
+
+pub logical-spec : {M : Type 1} → statement M
+logical-spec = tie.close (tie.spec mul-result mul-result-2 shared-slice-read-result returns)

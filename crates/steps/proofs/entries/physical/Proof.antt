@@ -1,0 +1,26 @@
+-- `steps::entries::physical` meets its contract.
+use Prim.Native.Nat.{_+_, _*_}
+use native.Mathlib.Omega.{arith}
+use borrow.Author.Needs.{needs}
+use Rattle.words.specs.Runs.{getD-any}
+use Rattle.steps.proofs.entries.physical.Statement.{statement}
+use Rattle.steps.proofs.entries.physical.Tie as tie
+
+mul-result : tie.Need-mul-result
+mul-result c = search needs
+
+add-result : tie.Need-add-result
+add-result c = search needs
+
+mul-result-2 : tie.Need-mul-result-2
+mul-result-2 c = search needs
+
+shared-slice-read-result : tie.Need-shared-slice-read-result
+shared-slice-read-result c = search needs
+
+returns : tie.Need-returns
+returns c = getD-any (c .before .args .cache .now) (c .before .args .i * 3 + 1) 0 4294967295 (omega arith)
+
+pub physical-spec : {M : Type 1} → statement M
+physical-spec =
+    tie.close (tie.spec mul-result add-result mul-result-2 shared-slice-read-result returns)
