@@ -1,1 +1,4 @@
 -- The modules of this crate.
+pub mod Answers
+pub mod Tested
+pub mod Format

@@ -1,0 +1,64 @@
+-- The shape of every call's contract: the reply, the state and the counts after are those of the call's definition, for every input. And
+-- the two ways to get there: a test applies and nothing is done, or none does and the steps are made.
+use Prim.Native.Nat.{ℕ}
+use mathlib.Core.Path.{_≡_, refl, sym, ap, _∙_}
+use mathlib.Core.Logic.{_≢_}
+use mathlib.Core.Bool.{Bool, cond, _&&_}
+use mathlib.Core.List.{List, [], _∷_}
+use native.Mathlib.Omega.{arith}
+use lib.Dec.{eqb}
+use lib.ListN.{length, set}
+use borrow.Author.Tests.{eq-eqb, ne-eqb}
+use Rattle.flash.specs.Listed.{counts-same}
+use Rattle.lent.specs.Does.{Does}
+use Rattle.lent.specs.DoesLaws.{does-give, does-look, does-bind, does-cond-true, does-cond-false}
+use Rattle.scope.specs.Lent.{State}
+use Rattle.scope.specs.Operations.{Counts, no-counts, counts-add, counted, Outcome, Step, give, look, _>>=_}
+use Rattle.scope.specs.Replies.{DONE, Test, first-applying, admit}
+use Rattle.scope.specs.Boundary.{counts-words, words-of-counts}
+
+-- The counts' slice after a call: "written whenever it has three" words.
+abbrev pub put : List ℕ → Counts → List ℕ
+put counts c = cond (eqb (length counts) counts-words) (words-of-counts c) counts
+
+pub set-three : (l : List ℕ) → length l ≡ counts-words → {a b c : ℕ} → set (set (set l 0 a) 1 b) 2 c ≡ a ∷ b ∷ c ∷ []
+set-three [] e = absurd (omega arith)
+set-three (x ∷ []) e = absurd (omega arith)
+set-three (x ∷ y ∷ []) e = absurd (omega arith)
+set-three (x ∷ y ∷ z ∷ []) e = refl
+set-three (x ∷ y ∷ z ∷ w ∷ l) e = absurd (omega arith)
+
+-- Whether the lengths are right that no state has: the caller's own, and that of the counts.
+abbrev pub right-lengths : Bool → List ℕ → Bool
+right-lengths fits counts = fits && eqb (length counts) counts-words
+
+-- What a call gave is x, the state s′ and the words counts′.
+pub record Answers {A : Type 0} (o : Outcome A) (counts : List ℕ) (x : A) (s′ : State) (counts′ : List ℕ) : Type 0 where
+  pub value : o .value ≡ x
+  pub after : o .after ≡ s′
+  pub counted : counts′ ≡ put counts (counted (o .did))
+
+-- A call that does its definition from no counts on, and puts its counts.
+pub does-answers : {A : Type 0} {m : Step A} {s s′ : State} {x : A} (c : Counts) {counts counts′ : List ℕ}
+    → Does m s no-counts x s′ c → counts′ ≡ put counts c → Answers (m s) counts x s′ counts′
+does-answers {m = m} {s = s} c {counts} d e =
+    record {
+      value = d .value;
+      after = d .after;
+      counted = e ∙ ap (put counts) (sym (d .counting) ∙ counts-same (omega arith) (omega arith) (omega arith));
+    }
+
+-- Tests that look at the state, and what follows them.
+module _ {A B : Type 0} (f : State → B) (tests : B → List Test) (refused : ℕ → A) (steps : Step A) {s : State} {c : Counts} where
+  pub refuses : {n : ℕ} → n ≡ first-applying (tests (f s)) → n ≢ DONE
+      → Does (look f >>= (λ t. admit (tests t) refused steps)) s c (refused n) s c
+  unfolding admit
+  refuses e h =
+      rw e
+      (does-bind _ (does-look f)
+      (does-cond-false _ _ _ (ne-eqb (first-applying (tests (f s))) DONE (λ z. h (e ∙ z))) (does-give _)))
+
+  pub admits : {x : A} {s′ : State} {c′ : Counts} → DONE ≡ first-applying (tests (f s)) → Does steps s c x s′ c′
+      → Does (look f >>= (λ t. admit (tests t) refused steps)) s c x s′ c′
+  unfolding admit
+  admits e d = does-bind _ (does-look f) (does-cond-true _ _ _ (eq-eqb (first-applying (tests (f s))) DONE (sym e)) d)

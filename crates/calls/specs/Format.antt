@@ -1,0 +1,37 @@
+-- Format, refused and served.
+use Prim.Native.Nat.{ℕ}
+use mathlib.Core.Path.{_≡_, ap, sym, _∙_}
+use mathlib.Core.Logic.{_≢_}
+use mathlib.Core.Bool.{Bool, _&&_}
+use mathlib.Core.List.{List}
+use Rattle.lent.specs.Does.{Does}
+use Rattle.scope.specs.Geometry.{Geometry}
+use Rattle.scope.specs.Lent.{State}
+use Rattle.scope.specs.Operations.{Counts, no-counts}
+use Rattle.scope.specs.Replies.{DONE, first-applying, right-sizes}
+use Rattle.scope.specs.Requests.{format-steps}
+use Rattle.scope.specs.Calls.{state-sizes, size-tests, format}
+use Rattle.requests.specs.Fresh.{Sized}
+use Rattle.calls.specs.Answers.{put, Answers, does-answers, refuses, admits}
+use Rattle.calls.specs.Tested.{sizes-pass, lengths-pass}
+
+-- The code tests with `right`, its own name for whether the lengths beside the state's are right.
+module _ (g : Geometry) (s : State) {right others : Bool} {n : ℕ} (named : right ≡ others)
+    (tested : n ≡ first-applying (size-tests g (right-sizes (state-sizes g s) && right))) where
+  answered : n ≡ first-applying (size-tests g (right-sizes (state-sizes g s) && others))
+  answered = tested ∙ ap (λ (b : Bool). first-applying (size-tests g (right-sizes (state-sizes g s) && b))) named
+
+  pub format-sized : n ≡ DONE → Sized g (s .chip) (s .spare) (s .directory) (s .cache)
+  format-sized e =
+      let pass = sizes-pass g (right-sizes (state-sizes g s) && right) (sym e ∙ tested) in
+      record { accepted = pass .accepts; lengths = lengths-pass g s right (pass .sized) }
+
+  pub format-refused : {counts counts′ : List ℕ} → n ≢ DONE → counts′ ≡ put counts no-counts
+      → Answers (format g others s) counts n s counts′
+  unfolding format
+  format-refused h e = does-answers no-counts (refuses _ (size-tests g) (λ n. n) (format-steps g) answered h) e
+
+  pub format-served : {s′ : State} (c : Counts) {counts counts′ : List ℕ} → n ≡ DONE → Does (format-steps g) s no-counts DONE s′ c
+      → counts′ ≡ put counts c → Answers (format g others s) counts DONE s′ counts′
+  unfolding format
+  format-served c e d p = does-answers c (admits _ (size-tests g) (λ n. n) (format-steps g) (sym e ∙ answered) d) p

@@ -1,0 +1,31 @@
+// The counts that a call hands to its caller: three words, written wherever there are three to write.
+use lent::Counts;
+ghost use mathlib.Core.Path.{_≡_};
+ghost use Rattle.lent.specs.Model.{counts as numbers};
+ghost use Rattle.scope.specs.Operations.{no-counts};
+ghost use Rattle.calls.specs.Answers.{put};
+
+pub fn put_counts(counts: &mut [u32], c: Counts)
+    ensures { λ _. ⌜ now (counts .exit) ≡ put (now (counts .entry)) (numbers c) ⌝ }
+{
+    if counts.len() != 3 {
+        return;
+    }
+    counts[0] = c.reads;
+    counts[1] = c.programs;
+    counts[2] = c.erases;
+}
+
+// What a refusal counts.
+pub fn put_none(counts: &mut [u32])
+    ensures { λ _. ⌜ now (counts .exit) ≡ put (now (counts .entry)) no-counts ⌝ }
+{
+    put_counts(
+        counts,
+        Counts {
+            reads: 0,
+            programs: 0,
+            erases: 0,
+        },
+    );
+}
