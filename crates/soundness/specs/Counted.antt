@@ -1,17 +1,17 @@
 -- Laws of tests and counts that the rules of a sound state are decided by: a count told by a map without repeats, tests that count
--- the same, and a walk that tests each number.
+-- the same, and a loop that tests each number.
 use Prim.Native.Nat.{ℕ, zero, suc, _+_, _≤_, _<_}
-use mathlib.Core.Path.{_≡_, refl, sym, _∙_, subst}
+use mathlib.Core.Path.{_≡_, refl, sym, _∙_}
 use mathlib.Core.Logic.{_≢_}
 use mathlib.Core.Bool.{Bool, true, false, not, cond, _&&_}
-use native.Mathlib.Numerals.{add-one}
 use native.Mathlib.Omega.{arith}
 use lib.Dec.{eqb}
-use borrow.Author.Tests.{eqb-true, eqb-false, eq-eqb, ne-eqb, not-true, not-false}
+use borrow.Author.Tests.{eqb-true, eqb-false, not-true}
 use Rattle.scope.specs.Counting.{all, count}
 use Rattle.scope.specs.Laws.Decides.{Decides}
-use Rattle.flash.specs.Cases.{on, same?, last, clash, and-true, true-and, not-of-false, is-true, is-false}
-use Rattle.flash.specs.Counting.{all-each, count-mono, count-same, count-none, count-one, count-split, count-at-most-one}
+use Rattle.flash.specs.Cases.{on, clash, and-true, true-and, not-of-false, is-true, is-false}
+use Rattle.soundness.specs.Bools.{refused, passed, all-more, all-stops, all-done}
+use Rattle.flash.specs.Counting.{count-mono, count-none, count-one, count-split, count-at-most-one}
 
 -- Two tests that decide one proposition are equal.
 pub decided-same : {a b : Bool} {X : Type 0} → Decides a X → Decides b X → a ≡ b
@@ -67,22 +67,20 @@ pub count-tight : (n : ℕ) (f h : ℕ → Bool) → ((i : ℕ) → i < n → f 
     → (i : ℕ) → i < n → h i ≡ true → f i ≡ true
 count-tight n f h sub same i k q = is-true (f i) (λ p. omega (arith, count-less n f h sub i k p q))
 
--- A walk over the numbers below n that goes on while their tests pass, at i. In the code the test's result is r, and `if !r` stops.
-pub record Walked (n : ℕ) (f : ℕ → Bool) (i : ℕ) : Type 0 where
+-- A loop that tests the numbers below n one after the other, at i: those before i have passed. The code's result of a test is r, and
+-- `if !r` stops.
+pub record Tested (n : ℕ) (f : ℕ → Bool) (i : ℕ) : Type 0 where
   pub within : i ≤ n
-  pub passed : all i f ≡ true
+  pub fine : all i f ≡ true
 
-pub walk-starts : (n : ℕ) (f : ℕ → Bool) → Walked n f 0
-walk-starts n f = record { within = omega arith; passed = refl }
+pub tested-none : (n : ℕ) (f : ℕ → Bool) → Tested n f 0
+tested-none n f = record { within = omega arith; fine = refl }
 
-pub walk-on : {f : ℕ → Bool} (n i : ℕ) (r : Bool) → Walked n f i → i < n → r ≡ f i → not r ≡ false → Walked n f (i + 1)
-walk-on n i r walked h e p =
-    record { within = omega arith; passed = rw (add-one i) (true-and (walked .passed) (sym e ∙ not-false r p)) }
+pub tested-more : {f : ℕ → Bool} (n i : ℕ) (r : Bool) → Tested n f i → i < n → r ≡ f i → not r ≡ false → Tested n f (i + 1)
+tested-more {f} n i r t h e p = record { within = omega arith; fine = all-more f i (t .fine) (passed e p) }
 
-pub walk-stops : {f : ℕ → Bool} (n i : ℕ) (r : Bool) → Walked n f i → i < n → r ≡ f i → not r ≡ true → false ≡ all n f
-walk-stops {f} n i r walked h e p = sym (is-false (all n f) (λ q. clash (all-each n f q i h) (sym e ∙ not-true r p)))
+pub tested-stops : {f : ℕ → Bool} (n i : ℕ) (r : Bool) → Tested n f i → i < n → r ≡ f i → not r ≡ true → false ≡ all n f
+tested-stops {f} n i r t h e p = all-stops f i n h (refused e p)
 
-pub walk-ends : {f : ℕ → Bool} (n i : ℕ) → Walked n f i → n ≤ i → true ≡ all n f
-walk-ends {f} n i walked h =
-    let done : i ≡ n = omega (arith, walked .within) in
-    sym (subst (λ (k : ℕ). all k f ≡ true) done (walked .passed))
+pub tested-done : {f : ℕ → Bool} (n i : ℕ) → Tested n f i → n ≤ i → true ≡ all n f
+tested-done {f} n i t h = all-done f i n (t .within) h (t .fine)

@@ -1,10 +1,9 @@
 -- Rule 5 in the parts that the code tests: the entries in use one by one, that their logical pages differ, and the words behind them.
-use Prim.Native.Nat.{ℕ, zero, suc, _+_, _*_, _-_, _/_, _%_, _≤_, _<_}
-use native.Mathlib.Numerals.{add-one}
+use Prim.Native.Nat.{ℕ, _+_, _*_, _-_, _/_, _%_, _≤_, _<_}
 use native.Mathlib.Omega.{arith}
-use mathlib.Core.Path.{_≡_, refl, sym, ap, _∙_, subst}
+use mathlib.Core.Path.{_≡_, sym, ap, _∙_, subst}
 use mathlib.Core.Logic.{_≢_}
-use mathlib.Core.Bool.{Bool, true, false, not, cond, _&&_, _||_}
+use mathlib.Core.Bool.{Bool, true, false, not, cond, _&&_}
 use mathlib.Core.List.{List}
 use lib.Dec.{eqb, ltb, leb}
 use lib.ListN.{length, getD, drop, length-drop}
@@ -16,13 +15,12 @@ use Rattle.scope.specs.Geometry.{Geometry}
 use Rattle.scope.specs.Laws.Decides.{Decides, by-equal, by-below, by-most, by-same, by-and, by-not, by-all}
 use Rattle.scope.specs.Laws.Decided.{entries-fit-decided}
 use Rattle.scope.specs.Lent.{none, logical-at, physical-at, changed-at, cache-size}
-use Rattle.scope.specs.Sound.{Entries-fit}
 use Rattle.flash.specs.Cases.{same?, below?, and-true}
 use Rattle.flash.specs.Counting.{all-each}
 use Rattle.soundness.specs.Counted.{decided-same}
 use Rattle.soundness.specs.Erased.{is-erased-word}
 use Rattle.soundness.specs.Bitmap.{has, put}
-use Rattle.soundness.specs.Seen.{window, new, taken, differ, differ-in, noted, Seen, seen-more, new-seen, differ-windows}
+use Rattle.soundness.specs.Seen.{window, taken, differ, differ-in, noted, differ-windows}
 use Rattle.words.specs.Runs.{getD-any}
 
 -- An entry in use has a logical page below l and changed 0 or 1.
@@ -118,32 +116,20 @@ module _ (g : Geometry) (cache : List ℕ) (used : ℕ) (most : used ≤ g .C) (
       parts-decide)
       (entries-fit-decided g cache used)
 
--- ---- a window's walk
-
--- The test of window w at rank i, and the set that the walk keeps.
-abbrev pub new-in : List ℕ → ℕ → ℕ → Bool
-new-in cache w i = not (taken every (page-key cache) w i) || new every (page-key cache) i
-
-abbrev pub Seen-pages : List ℕ → ℕ → ℕ → List ℕ → Type 0
-Seen-pages cache w i map = Seen every (page-key cache) w i map
-
-module _ (cache : List ℕ) (w i : ℕ) (map : List ℕ) (seen : Seen-pages cache w i map) (h : i * 3 < length cache) where
-  -- The code's key.
+-- What the code notes of the entry at rank i is what a walk over the pages notes.
+module _ (cache : List ℕ) (w i : ℕ) (map : List ℕ) (h : i * 3 < length cache) where
   key-is : getD cache (i * 3) 0 ≡ page-key cache i
   key-is = getD-any cache (i * 3) 0 none h
 
-  pub noted-new : (r : Bool) → r ≡ not (eqb (getD cache (i * 3) 0 / window) w && has map (getD cache (i * 3) 0 % window)) → r ≡ new-in cache w i
-  noted-new r e =
-      e ∙ ap (λ (k : ℕ). not (eqb (k / window) w && has map (k % window))) key-is
-      ∙ sym (new-seen every (page-key cache) w i map seen)
+  pub page-new : (r : Bool) → r ≡ not (eqb (getD cache (i * 3) 0 / window) w && has map (getD cache (i * 3) 0 % window))
+      → r ≡ not (taken every (page-key cache) w i && has map (page-key cache i % window))
+  page-new r e = e ∙ ap (λ (k : ℕ). not (eqb (k / window) w && has map (k % window))) key-is
 
-  pub noted-seen : (map′ : List ℕ)
+  pub page-noted : (map′ : List ℕ)
       → map′ ≡ cond (eqb (getD cache (i * 3) 0 / window) w) (put map (getD cache (i * 3) 0 % window)) map
-      → Seen-pages cache w (i + 1) map′
+      → noted every (page-key cache) w i map ≡ map′
   unfolding noted
-  noted-seen map′ e =
-      rw (add-one i, e ∙ ap (λ (k : ℕ). cond (eqb (k / window) w) (put map (k % window)) map) key-is)
-      (seen-more every (page-key cache) w i map seen)
+  page-noted map′ e = sym (e ∙ ap (λ (k : ℕ). cond (eqb (k / window) w) (put map (k % window)) map) key-is)
 
 -- The windows below l are all that the logical pages of fitting entries lie in.
 pub windows-differ : (cache : List ℕ) (l n : ℕ) → all n (in-use-fits cache l) ≡ true

@@ -1,7 +1,7 @@
 -- A map from the owners of a region to its pages names, for each owner, the valid page that it owns exactly where every word that is
 -- no *none* names such a page and there are as many of these as valid pages. So rules 4 and 6 are decided by three counts.
 use Prim.Native.Nat.{ℕ, _+_, _*_, _-_, _≤_, _<_}
-use mathlib.Core.Path.{_≡_, refl, sym, ap, subst, _∙_}
+use mathlib.Core.Path.{_≡_, refl, sym, ap, _∙_}
 use mathlib.Core.Logic.{_≢_}
 use mathlib.Core.Bool.{Bool, true, false, not, _&&_}
 use mathlib.Core.List.{List}
@@ -11,11 +11,11 @@ use lib.Dec.{eqb, ltb, leb}
 use borrow.Author.Tests.{le-leb, le-ltb, eqb-true, eqb-false, eq-eqb, ne-eqb, not-true}
 use Rattle.scope.specs.Counting.{count}
 use Rattle.scope.specs.Geometry.{Geometry, Accepted, most-pages}
-use Rattle.scope.specs.Lent.{none, valid, Entry, Place, Nowhere, decode, state-of, owner-of, is-valid}
+use Rattle.scope.specs.Lent.{none, valid, Place, decode, state-of, owner-of, is-valid}
 use Rattle.scope.specs.Regions.{Region, Data, Translation, owners, first-page, region-pages, Has-page}
 use Rattle.scope.specs.Sound.{Pages-fit, Owners-differ, Names}
 use Rattle.scope.specs.Laws.Decides.{Decides, by-equal, by-below, by-most, by-same, by-and}
-use Rattle.flash.specs.Cases.{on, same?, clash, and-true, true-and, not-of-false, not-of-true, is-false}
+use Rattle.flash.specs.Cases.{on, clash, and-true, true-and, not-of-false, is-false}
 use Rattle.flash.specs.Counting.{count-same}
 use Rattle.soundness.specs.Counted.{count-into, count-less, count-tight}
 

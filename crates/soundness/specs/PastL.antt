@@ -7,12 +7,11 @@ use mathlib.Core.Bool.{Bool, true}
 use mathlib.Core.List.{List}
 use lib.ListN.{length, getD, take, drop, length-take, length-drop}
 use lib.Seq.{getD-take, getD-drop}
-use Rattle.scope.specs.Counting.{all}
 use Rattle.scope.specs.Geometry.{Geometry, Accepted, M}
 use Rattle.scope.specs.Laws.Decides.{Decides, by-equal, by-same, by-all}
-use Rattle.scope.specs.Lent.{none, Entry, Place, Nowhere, word-of, named}
+use Rattle.scope.specs.Lent.{none, Place, Nowhere, word-of, named}
 use Rattle.flash.specs.Cases.{below?}
-use Rattle.soundness.specs.Erased.{is-erased-word, only-erased}
+use Rattle.soundness.specs.Erased.{only-erased}
 use Rattle.soundness.specs.Places.{None-past}
 use Rattle.soundness.specs.Translated.{page-starts, pages-cover}
 

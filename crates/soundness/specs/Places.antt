@@ -2,13 +2,13 @@
 -- stores are hidden, and the places that the cache has stand. So each count over the current places is the count over flash, with the
 -- hidden words out and the cache's places in; and by Named.antt the counts decide the rule.
 use Prim.Native.Nat.{ℕ, _+_, _*_, _≤_, _<_}
-use native.Mathlib.Nat.{zero-mul, zero-add}
+use native.Mathlib.Nat.{zero-mul}
 use native.Mathlib.Omega.{arith}
 use mathlib.Core.Path.{_≡_, refl, sym, ap, _∙_, subst}
 use mathlib.Core.Bool.{Bool, true, false, not, _&&_}
 use mathlib.Core.List.{List}
 use lib.Dec.{eqb, ltb}
-use borrow.Author.Tests.{ltb-true, ltb-false, lt-ltb, le-ltb, eqb-true, eq-eqb, not-true, not-false}
+use borrow.Author.Tests.{ltb-true, lt-ltb, eqb-true, eq-eqb, not-true, not-false}
 use Rattle.scope.specs.Counting.{count}
 use Rattle.scope.specs.Geometry.{Geometry, Accepted, M}
 use Rattle.scope.specs.Laws.Decides.{Decides, by-same}
@@ -22,7 +22,7 @@ use Rattle.flash.specs.Counting.{count-same, count-split}
 use Rattle.cache.specs.Ranks.{rank-found, rank-is}
 use Rattle.soundness.specs.Bools.{same-test}
 use Rattle.soundness.specs.Counted.{decided-same, count-into}
-use Rattle.soundness.specs.Named.{Owners-fit, owns, names-page, data-small, region-small, by-counts}
+use Rattle.soundness.specs.Named.{Owners-fit, owns, names-page, region-small, by-counts}
 use Rattle.soundness.specs.Tally.{nothing, Tallied}
 use Rattle.soundness.specs.Translated.{stored-named, stored-good, cached-named, cached-good, hidden-named, hidden-good}
 use Rattle.soundness.specs.declared.tally.Tally.{Tally}

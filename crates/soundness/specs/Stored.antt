@@ -1,9 +1,9 @@
 -- What flash holds for a logical page, as the code finds it: by the directory's word, and then by the word of the page that it names.
 -- Any words whatever: past the end of a list there is *none*, so a page number past the chip holds nothing.
-use Prim.Native.Nat.{ℕ, _+_, _*_, _/_, _%_, _≤_, _<_}
+use Prim.Native.Nat.{ℕ, _/_, _%_, _≤_}
 use native.Mathlib.Omega.{arith}
-use mathlib.Core.Path.{_≡_, refl, sym, ap, _∙_, subst}
-use mathlib.Core.Bool.{Bool, true, false, not, _||_}
+use mathlib.Core.Path.{_≡_, sym, ap}
+use mathlib.Core.Bool.{Bool, not, _||_}
 use mathlib.Core.List.{List, []}
 use lib.Dec.{eqb, ltb}
 use lib.ListN.{length, getD, List·getD-eq-default}
@@ -11,7 +11,7 @@ use borrow.Author.Tests.{lt-ltb, le-ltb}
 use Rattle.scope.specs.Counting.{all}
 use Rattle.scope.specs.Decisions.{unchanged-agree}
 use Rattle.scope.specs.Geometry.{Geometry}
-use Rattle.scope.specs.Lent.{none, Entry, Place, Nowhere, decode, State, word-of, logical-at, physical-at, changed-at}
+use Rattle.scope.specs.Lent.{none, Place, Nowhere, decode, State, word-of, logical-at, physical-at, changed-at}
 use Rattle.scope.specs.Sound.{in-page, stored}
 use Rattle.flash.specs.Cases.{below?}
 use Rattle.flash.specs.Counting.{all-each, each-all}

@@ -1,24 +1,20 @@
 -- The translation pages in order, as rule 6 walks them: page t holds the logical pages from t * W on, W of them or as many as L leaves,
 -- and of the last page alone there are words past L.
-use Prim.Native.Nat.{ℕ, zero, suc, _+_, _*_, _-_, _/_, _%_, min, _≤_, _<_}
+use Prim.Native.Nat.{ℕ, suc, _+_, _*_, _-_, _/_, _%_, min, _≤_, _<_}
 use native.Mathlib.Nat.{le-div-iff-mul-le, lt-div-mul-add, mul-add-div-right, mul-add-mod-self-right, div-eq-of-lt, mod-eq-of-lt, suc-mul, mul-le-mul-right, add-zero}
 use native.Mathlib.Numerals.{add-one}
 use native.Mathlib.Omega.{arith}
-use mathlib.Core.Path.{_≡_, refl, sym, ap, _∙_, subst}
-use mathlib.Core.Bool.{Bool, true, false, not, _||_}
+use mathlib.Core.Path.{_≡_, sym, ap, _∙_, subst}
+use mathlib.Core.Bool.{Bool}
 use mathlib.Core.List.{List}
-use lib.Dec.{eqb, leb}
 use lib.ListN.{length, getD, take, drop, length-take, length-drop}
 use lib.Seq.{getD-take, getD-drop}
-use borrow.Author.Tests.{le-leb, lt-leb}
 use Rattle.scope.specs.Counting.{all, count}
-use Rattle.scope.specs.Decisions.{none-past-L}
 use Rattle.scope.specs.Geometry.{Geometry, Accepted, M, pages, most-pages}
-use Rattle.scope.specs.Lent.{none, Entry, Place, Nowhere, decode, word-of, named, chip-size, directory-size, logical-at, physical-at}
+use Rattle.scope.specs.Lent.{none, Place, Nowhere, decode, word-of, named, chip-size, directory-size, logical-at, physical-at}
 use Rattle.scope.specs.Regions.{Translation}
 use Rattle.scope.specs.Sound.{stored, Names, Directory-names}
-use Rattle.flash.specs.Cases.{same?, below?, is-false}
-use Rattle.flash.specs.Counting.{all-each, each-all, count-same, count-none, count-add}
+use Rattle.flash.specs.Counting.{count-same, count-none, count-add}
 use Rattle.flash.specs.Places.{page-on-chip}
 use Rattle.words.specs.Runs.{getD-any}
 use Rattle.soundness.specs.Named.{owns, names-page, none-owned}

@@ -5,12 +5,12 @@ use mathlib.Core.List.{List, []}
 use Prim.Native.Nat.{ℕ}
 use Rattle.lent.specs.Model.{state, small}
 use Rattle.lent.specs.declared.Record.{Record}
-use Rattle.scope.specs.Decisions.{pages-fit, owners-differ, blocks-fit, directory-names, entries-fit, places-hold, unchanged-agree, sound}
+use Rattle.scope.specs.Decisions.{pages-fit, owners-differ, directory-names, entries-fit, places-hold, unchanged-agree, sound}
 use Rattle.scope.specs.Geometry.{Geometry}
-use Rattle.scope.specs.Laws.Decided.{pages-fit-decided, owners-differ-decided, directory-names-decided, entries-fit-decided}
-use Rattle.scope.specs.Regions.{Region, Data, Translation}
+use Rattle.scope.specs.Laws.Decided.{pages-fit-decided, owners-differ-decided, directory-names-decided}
+use Rattle.scope.specs.Regions.{Data, Translation}
 use Rattle.scope.specs.SmallRecord.{SmallRecord}
-use Rattle.scope.specs.Sound.{Pages-fit, Owners-differ, Directory-names, Entries-fit, current}
+use Rattle.scope.specs.Sound.{Owners-differ, Directory-names, current}
 use Rattle.flash.specs.Cases.{and-true}
 use Rattle.soundness.specs.Blocks as Blocks
 use Rattle.soundness.specs.Named.{Owners-fit, owners-fit}

@@ -9,6 +9,7 @@ ghost use Rattle.scope.specs.Regions.{Translation};
 ghost use Rattle.scope.specs.Sound.{Owners-differ};
 ghost use Rattle.soundness.specs.Named.{Owners-fit};
 use crate::tally::Tally;
+use crate::tally::VALID;
 use crate::tally::tally_words;
 use lent::Geometry;
 use words::states::count_state;
@@ -30,5 +31,5 @@ pub fn directory_names(g: Geometry, spare: &[u32], directory: &[u32]) -> bool
     if sum.named != sum.good {
         return false;
     }
-    sum.good == count_state(spare, first, n, 65535)
+    sum.good == count_state(spare, first, n, VALID)
 }

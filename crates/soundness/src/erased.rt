@@ -5,15 +5,17 @@ ghost use lib.ListN.{length};
 ghost use Rattle.scope.specs.Counting.{all};
 ghost use Rattle.soundness.specs.Erased.{is-erased-word};
 
+const ERASED: u32 = 4294967295;
+
 // Whether each of the words is the erased word, which is none too.
 pub fn only_erased(words: &[u32]) -> bool
     ensures { λ r. ⌜ r ≡ all (length (now (words .entry))) (is-erased-word (now (words .entry))) ⌝ }
 {
-    let mut bits: u32 = 4294967295;
+    let mut bits = ERASED;
     let mut i = 0;
     while i < words.len() {
         bits = bits & words[i];
         i += 1;
     }
-    bits == 4294967295
+    bits == ERASED
 }

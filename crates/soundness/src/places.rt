@@ -23,6 +23,7 @@ ghost use Rattle.soundness.specs.Translated.{Names-on-chip, held-words, 
 use crate::erased::only_erased;
 use crate::stored::stored;
 use crate::tally::Tally;
+use crate::tally::VALID;
 use crate::tally::tallied;
 use crate::tally::tally_words;
 use lent::Entry;
@@ -215,7 +216,7 @@ fn current_places(
     let held = tally_stored(g, chip, spare, directory);
     let has = tally_cached(cache, used as usize, spare, n);
     let hides = tally_hidden(g, chip, spare, directory, cache, used as usize);
-    let valid = count_state(spare, 0, n, 65535);
+    let valid = count_state(spare, 0, n, VALID);
     sums_agree(held, has, hides, valid)
 }
 

@@ -13,6 +13,8 @@ ghost use Rattle.soundness.specs.Stored.{parts, agrees};
 use lent::Entry;
 use lent::Geometry;
 
+const NONE: u32 = 4294967295;
+
 // The word of l's translation page, or none where the page doesn't exist.
 pub fn stored(g: Geometry, chip: &[u32], directory: &[u32], l: u32) -> u32
     requires { ⌜ Accepted (geometry g) ⌝ }
@@ -22,15 +24,15 @@ pub fn stored(g: Geometry, chip: &[u32], directory: &[u32], l: u32) -> u32
     let page = l as usize;
     let t = page / w;
     if directory.len() <= t {
-        return 4294967295;
+        return NONE;
     }
     let e = lent::decode(directory[t]);
     let Entry::Place(q) = e else {
-        return 4294967295;
+        return NONE;
     };
     let at = (q as usize) * w + page % w;
     if chip.len() <= at {
-        return 4294967295;
+        return NONE;
     }
     chip[at]
 }

@@ -8,6 +8,9 @@ ghost use Rattle.soundness.specs.Named.{owns, names-page};
 ghost use Rattle.soundness.specs.Tally.{Room, Tallied-word, Tallied, word-named, word-good};
 use lent::Entry;
 
+// The state of a valid page.
+pub const VALID: u32 = 65535;
+
 pub struct Tally {
     pub named: usize,
     pub good: usize,
@@ -25,7 +28,7 @@ fn owns(spare: &[u32], first: usize, n: usize, k: u32, p: u32) -> bool
     if first + n <= at {
         return false;
     }
-    if spare[at * 2] != 65535 {
+    if spare[at * 2] != VALID {
         return false;
     }
     spare[at * 2 + 1] == k

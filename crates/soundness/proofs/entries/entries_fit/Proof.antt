@@ -1,13 +1,12 @@
 -- `soundness::entries::entries_fit` meets its contract: the parts of rule 5, in their order.
-use native.Mathlib.Omega.{arith}
-use mathlib.Core.Path.{ap, sym, _∙_}
+use mathlib.Core.Path.{ap, _∙_}
 use mathlib.Core.List.{List}
 use Prim.Native.Nat.{ℕ, _*_}
 use lib.ListN.{length}
 use borrow.Rule.Slice.PartAt.{part-to-end}
 use borrow.Author.Needs.{needs}
-use borrow.Author.Tests.{not-true, not-false}
 use denote.Ref.{now}
+use Rattle.soundness.specs.Bools.{refused, passed}
 use Rattle.lent.specs.Model.{geometry}
 use Rattle.scope.specs.Counting.{all}
 use Rattle.soundness.specs.Entries.{too-many, entries-by-parts}
@@ -24,16 +23,16 @@ all-fit-requires c κs = search needs
 returns-2 : tie.Need-returns-2
 returns-2 c =
     let a = c .before .before .before .before .before .args in
-    rw (sym (c .before .all-fit .ensures) ∙ not-true _ (c .if2 .taken)) at
+    rw (refused (c .before .all-fit .ensures) (c .if2 .taken)) at
     (entries-by-parts (geometry (a .g)) (now (a .cache)) (a .used) (c .before .before .if1 .left) (c .before .before .before .before .before .pre))
 
 pages-differ-requires : tie.Need-pages-differ-requires
-pages-differ-requires c κs = (search needs, sym (c .before .all-fit .ensures) ∙ not-false _ (c .if2 .left))
+pages-differ-requires c κs = (search needs, passed (c .before .all-fit .ensures) (c .if2 .left))
 
 returns-3 : tie.Need-returns-3
 returns-3 c =
     let a = c .before .before .before .before .before .before .before .args in
-    rw (sym (c .before .before .before .all-fit .ensures) ∙ not-false _ (c .before .before .if2 .left), sym (c .before .pages-differ .ensures) ∙ not-true _ (c .if3 .taken)) at
+    rw (passed (c .before .before .before .all-fit .ensures) (c .before .before .if2 .left), refused (c .before .pages-differ .ensures) (c .if3 .taken)) at
     (entries-by-parts (geometry (a .g)) (now (a .cache)) (a .used) (c .before .before .before .before .if1 .left) (c .before .before .before .before .before .before .before .pre))
 
 mul-behind : tie.Need-mul-behind
@@ -59,7 +58,7 @@ returns-4 c =
     let a = c .before .before .before .before .before .before .before .before .before .args in
     c .only-erased .ensures
     ∙ ap (λ (words : List ℕ). all (length words) (is-erased-word words)) (part-to-end (now (a .cache)) (a .used * 3))
-    ∙ (rw (sym (c .before .before .before .before .before .all-fit .ensures) ∙ not-false _ (c .before .before .before .before .if2 .left), sym (c .before .before .before .pages-differ .ensures) ∙ not-false _ (c .before .before .if3 .left)) at
+    ∙ (rw (passed (c .before .before .before .before .before .all-fit .ensures) (c .before .before .before .before .if2 .left), passed (c .before .before .before .pages-differ .ensures) (c .before .before .if3 .left)) at
     (entries-by-parts (geometry (a .g)) (now (a .cache)) (a .used) (c .before .before .before .before .before .before .if1 .left) (c .before .before .before .before .before .before .before .before .before .pre)))
 
 pub entries-fit-spec : {M : Type 1} → statement M

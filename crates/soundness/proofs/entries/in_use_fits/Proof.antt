@@ -1,6 +1,6 @@
 -- `soundness::entries::in_use_fits` meets its contract: the two tests of the definition, each at a return of its own.
 use native.Mathlib.Omega.{arith}
-use mathlib.Core.Path.{ap, _≡_, sym, _∙_}
+use mathlib.Core.Path.{ap, _≡_, _∙_}
 use mathlib.Core.Bool.{false}
 use mathlib.Core.List.{List}
 use Prim.Native.Nat.{ℕ, _+_, _*_, _≤_, _<_}

@@ -1,5 +1,5 @@
 -- `soundness::places::sums_agree` meets its contract: the two comparisons of the definition, each at a return of its own.
-use mathlib.Core.Path.{_≡_, sym}
+use mathlib.Core.Path.{_≡_}
 use mathlib.Core.Bool.{false}
 use mathlib.Core.Logic.{_≢_}
 use Prim.Native.Nat.{ℕ, _+_}

@@ -1,6 +1,5 @@
 -- `soundness::places::tally_stored` meets its contract. The loop's invariant: what the first t translation pages store is counted.
 use native.Mathlib.Omega.{arith}
-use mathlib.Core.Path.{_≡_}
 use Prim.Native.Nat.{_-_, _*_, min, _≤_}
 use lib.ListN.{length}
 use borrow.Author.Needs.{needs}
@@ -8,7 +7,7 @@ use denote.Ref.{now}
 use Rattle.lent.specs.Model.{geometry}
 use Rattle.scope.specs.Regions.{Data}
 use Rattle.soundness.specs.Named.{owners-small}
-use Rattle.soundness.specs.Tally.{nothing, room-enough, tallied-start, tallied-room}
+use Rattle.soundness.specs.Tally.{nothing, room-enough, tallied-room}
 use Rattle.soundness.specs.Translated.{Tallied-pages, pages-start, pages-more, pages-done}
 use Rattle.soundness.proofs.places.tally_stored.Statement.{statement}
 use Rattle.soundness.proofs.places.tally_stored.Tie as tie

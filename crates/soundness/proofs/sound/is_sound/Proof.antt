@@ -1,8 +1,8 @@
 -- `soundness::sound::is_sound` meets its contract: all seven rules.
-use mathlib.Core.Path.{sym, _∙_}
+use mathlib.Core.Path.{_∙_}
 use borrow.Author.Needs.{needs}
-use borrow.Author.Tests.{not-true, not-false}
 use denote.Ref.{now}
+use Rattle.soundness.specs.Bools.{refused, passed}
 use Rattle.lent.specs.Model.{geometry, small}
 use Rattle.soundness.specs.Whole.{flash-holds, flash-fails, cache-tells}
 use Rattle.soundness.proofs.sound.is_sound.Statement.{statement}
@@ -14,7 +14,7 @@ flash-sound-requires c κs = search needs
 returns : tie.Need-returns
 returns c =
     let a = c .before .before .before .before .before .before .args in
-    flash-fails (geometry (a .g)) (now (a .chip)) (now (a .spare)) (now (a .directory)) (now (a .cache)) (a .rec) (sym (c .before .flash-sound .ensures) ∙ not-true _ (c .if1 .taken))
+    flash-fails (geometry (a .g)) (now (a .chip)) (now (a .spare)) (now (a .directory)) (now (a .cache)) (a .rec) (refused (c .before .flash-sound .ensures) (c .if1 .taken))
 
 cache-sound-requires : tie.Need-cache-sound-requires
 cache-sound-requires c κs =
@@ -24,7 +24,7 @@ cache-sound-requires c κs =
       (
         pre .1,
         flash-holds (geometry (a .g)) (now (a .chip)) (now (a .spare)) (now (a .directory)) (small (a .rec))
-            (sym (c .before .flash-sound .ensures) ∙ not-false _ (c .if1 .left)),
+            (passed (c .before .flash-sound .ensures) (c .if1 .left)),
       ),
     )
 
@@ -33,7 +33,7 @@ returns-2 c =
     let a = c .before .before .before .before .before .before .before .args in
     c .cache-sound .ensures
     ∙ cache-tells (geometry (a .g)) (now (a .chip)) (now (a .spare)) (now (a .directory)) (now (a .cache)) (a .rec)
-    (sym (c .before .before .flash-sound .ensures) ∙ not-false _ (c .before .if1 .left))
+    (passed (c .before .before .flash-sound .ensures) (c .before .if1 .left))
 
 pub is-sound-spec : {M : Type 1} → statement M
 is-sound-spec = tie.close (tie.spec flash-sound-requires returns cache-sound-requires returns-2)

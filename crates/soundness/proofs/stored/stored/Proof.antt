@@ -2,7 +2,7 @@
 use native.Mathlib.Nat.{mul-le-mul, mod-lt}
 use native.Mathlib.Omega.{arith}
 use mathlib.Core.Path.{_≡_, ap, sym, _∙_}
-use Prim.Native.Nat.{ℕ, _+_, _*_, _/_, _%_, _≤_, _<_}
+use Prim.Native.Nat.{ℕ, _*_, _/_, _≤_, _<_}
 use lib.ListN.{getD, List·getD-eq-default}
 use borrow.Author.Needs.{needs}
 use denote.Ref.{now}

@@ -1,23 +1,22 @@
 -- `soundness::stored::unchanged_agree` meets its contract: a walk over the entries in use.
-use native.Mathlib.Omega.{arith}
 use mathlib.Core.Path.{sym, _∙_}
 use Prim.Native.Nat.{_-_}
 use borrow.Author.Needs.{needs}
 use denote.Ref.{now}
 use Rattle.lent.specs.Model.{geometry}
-use Rattle.soundness.specs.Counted.{Walked, walk-starts, walk-on, walk-stops, walk-ends}
+use Rattle.soundness.specs.Counted.{Tested, tested-none, tested-more, tested-stops, tested-done}
 use Rattle.soundness.specs.Stored.{agrees, unchanged-agree-used}
 use Rattle.soundness.proofs.stored.unchanged_agree.Statement.{statement}
 use Rattle.soundness.proofs.stored.unchanged_agree.Tie as tie
 
 abbrev Inv-loop : tie.InvT-loop
-Inv-loop g chip directory cache used n i₀ i = Walked n (agrees (geometry g) chip directory cache) i
+Inv-loop g chip directory cache used n i₀ i = Tested n (agrees (geometry g) chip directory cache) i
 
 abbrev μ-loop : tie.MeasureT-loop
 μ-loop g chip directory cache used n i₀ i = n - i
 
 loop-holds : tie.Need-loop-holds Inv-loop μ-loop
-loop-holds c = walk-starts _ _
+loop-holds c = tested-none _ _
 
 agrees-requires : tie.Need-agrees-requires Inv-loop μ-loop
 agrees-requires c κs = search needs
@@ -25,7 +24,7 @@ agrees-requires c κs = search needs
 returns : tie.Need-returns Inv-loop μ-loop
 returns c =
     let a = c .before .before .before .before .before .before .before .args in
-    walk-stops _ _ (c .before .agrees .result) (c .before .before .before .loop .inv) (c .before .before .loop-test .taken) (c .before .agrees .ensures) (c .if1 .taken)
+    tested-stops _ _ (c .before .agrees .result) (c .before .before .before .loop .inv) (c .before .before .loop-test .taken) (c .before .agrees .ensures) (c .if1 .taken)
     ∙ sym (unchanged-agree-used (geometry (a .g)) (now (a .chip)) (now (a .directory)) (now (a .cache)) (a .used) (c .before .before .before .before .before .before .before .pre .1 .1))
 
 add-i : tie.Need-add-i Inv-loop μ-loop
@@ -36,12 +35,12 @@ loop-less c = search needs
 
 loop-again : tie.Need-loop-again Inv-loop μ-loop
 loop-again c =
-    walk-on _ _ (c .before .agrees .result) (c .before .before .before .loop .inv) (c .before .before .loop-test .taken) (c .before .agrees .ensures) (c .if1 .left)
+    tested-more _ _ (c .before .agrees .result) (c .before .before .before .loop .inv) (c .before .before .loop-test .taken) (c .before .agrees .ensures) (c .if1 .left)
 
 returns-2 : tie.Need-returns-2 Inv-loop μ-loop
 returns-2 c =
     let a = c .before .before .before .before .before .args in
-    walk-ends _ _ (c .before .loop .inv) (c .loop-test .left)
+    tested-done _ _ (c .before .loop .inv) (c .loop-test .left)
     ∙ sym (unchanged-agree-used (geometry (a .g)) (now (a .chip)) (now (a .directory)) (now (a .cache)) (a .used) (c .before .before .before .before .before .pre .1 .1))
 
 pub unchanged-agree-spec : {M : Type 1} → statement M

@@ -1,5 +1,5 @@
 -- `soundness::window::note` meets its contract: the set is asked and changed only where the window has the key.
-use mathlib.Core.Path.{refl, ap, sym, _∙_}
+use mathlib.Core.Path.{refl, ap}
 use mathlib.Core.Bool.{not}
 use Prim.Native.Nat.{_/_}
 use borrow.Author.Needs.{needs}
