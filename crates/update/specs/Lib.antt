@@ -1,1 +1,3 @@
 -- The modules of this crate.
+pub mod Temp
+pub mod Moves

@@ -1,0 +1,170 @@
+-- What waits as a list of mappings, and by translation pages: the words that it sets in one of them, and the next one that it touches.
+use Prim.Native.Nat.{ℕ, zero, suc, _+_, _≤_, _<_}
+use mathlib.Core.Path.{_≡_, refl, sym, ap, _∙_}
+use mathlib.Core.Logic.{_≢_}
+use mathlib.Core.Bool.{cond}
+use mathlib.Core.List.{List, [], _∷_, _++_, append-nil}
+use native.Mathlib.Nat.{mod-lt}
+use native.Mathlib.Numerals.{add-one}
+use native.Mathlib.Omega.{arith}
+use lib.Dec.{eqb, ltb}
+use lib.ListN.{length, getD, set, take, drop, length-append, length-set, take-append-drop}
+use lib.Seq.{sets, sets-eq, length-sets, take-add, drop-drop}
+use borrow.Author.Tests.{eq-eqb, ne-eqb, lt-ltb, le-ltb}
+use Rattle.scope.specs.Geometry.{Geometry, Accepted}
+use Rattle.scope.specs.Lent.{Mapping, translation-page, translation-word}
+use Rattle.scope.specs.Steps.{of-page, set-words}
+use Rattle.flash.specs.Cases.{same?, below?}
+use Rattle.words.specs.Runs.{length-part}
+use Rattle.update.specs.Temp.{set-inside}
+use Rattle.promises.specs.Stored.{length-set-words}
+use Rattle.update.specs.declared.Waiting.{Waiting}
+
+-- The first n pairs of two lists.
+unfoldable pub first-moves : ℕ → List ℕ → List ℕ → List Mapping
+first-moves zero logical physical = []
+first-moves (suc n) logical physical =
+    first-moves n logical physical ++ record { logical = getD logical n 0; physical = getD physical n 0 } ∷ []
+
+abbrev pub moves : Waiting → List Mapping
+moves w = first-moves (w .n) (w .logical) (w .physical)
+
+module _ (logical physical : List ℕ) where
+  pub no-moves : first-moves 0 logical physical ≡ []
+  unfolding first-moves
+  no-moves = refl
+
+  pub one-more : (n : ℕ)
+      → first-moves (n + 1) logical physical
+      ≡ first-moves n logical physical ++ record { logical = getD logical n 0; physical = getD physical n 0 } ∷ []
+  unfolding first-moves
+  one-more n = rw add-one
+
+-- ---- the mappings of one translation page
+
+module _ (g : Geometry) (t : ℕ) where
+  pub of-page-++ : (v w : List Mapping) → of-page g t (v ++ w) ≡ of-page g t v ++ of-page g t w
+  unfolding of-page
+  of-page-++ [] w = refl
+  of-page-++ (m ∷ v) w =
+      same? (translation-page g (m .logical)) t
+      (λ e. rw (eq-eqb (translation-page g (m .logical)) t e) (ap (λ (l : List Mapping). m ∷ l) (of-page-++ v w)))
+      (λ e. rw (ne-eqb (translation-page g (m .logical)) t e) (of-page-++ v w))
+
+  -- One more mapping is of the page or not.
+  module _ (w : List Mapping) (m : Mapping) where
+    pub of-page-more : translation-page g (m .logical) ≡ t → of-page g t (w ++ m ∷ []) ≡ of-page g t w ++ m ∷ []
+    unfolding of-page
+    of-page-more e = of-page-++ w (m ∷ []) ∙ (rw (eq-eqb (translation-page g (m .logical)) t e))
+
+    pub of-page-other : translation-page g (m .logical) ≢ t → of-page g t (w ++ m ∷ []) ≡ of-page g t w
+    unfolding of-page
+    of-page-other e = of-page-++ w (m ∷ []) ∙ (rw (ne-eqb (translation-page g (m .logical)) t e) (append-nil (of-page g t w)))
+
+set-words-++ : (g : Geometry) (v w : List Mapping) (words : List ℕ) → set-words g (v ++ w) words ≡ set-words g w (set-words g v words)
+unfolding set-words
+set-words-++ g [] w words = refl
+set-words-++ g (m ∷ v) w words = set-words-++ g v w (set words (translation-word g (m .logical)) (m .physical))
+
+-- ---- the words of a page set
+
+-- A part of a list stored where it stands changes nothing.
+sets-own : (l : List ℕ) (at n : ℕ) → at + n ≤ length l → sets l at (take n (drop at l)) ≡ l
+sets-own l at n h =
+    let size : length (take n (drop at l)) ≡ n = length-part l at n h in
+    sets-eq (take n (drop at l)) l at (omega arith)
+    ∙ (rw (size, ← take-add at n l) (take-append-drop (at + n) l))
+
+-- The words of the page that begins at `at` are those that stood there, with what waits for translation page t set.
+pub record Words-set (g : Geometry) (t at : ℕ) (chip : List ℕ) (w : List Mapping) (chip′ : List ℕ) : Type 0 where
+  pub words : chip′ ≡ sets chip at (set-words g (of-page g t w) (take (g .W) (drop at chip)))
+  pub as-long : length chip′ ≡ length chip
+
+module _ {g : Geometry} (ok : Accepted g) {t at : ℕ} {chip : List ℕ} (fits : at + g .W ≤ length chip) where
+  pub none-set : Words-set g t at chip [] chip
+  unfolding of-page set-words
+  none-set = record { words = sym (sets-own chip at (g .W) fits); as-long = refl }
+
+  pub one-set : {chip₁ chip₂ : List ℕ} (w : List Mapping) (m : Mapping) → Words-set g t at chip w chip₁
+      → chip₂ ≡ cond (eqb (translation-page g (m .logical)) t) (set chip₁ (at + translation-word g (m .logical)) (m .physical)) chip₁
+      → Words-set g t at chip (w ++ m ∷ []) chip₂
+  unfolding set-words
+  one-set {chip₁} {chip₂} w m before e =
+      same? (translation-page g (m .logical)) t
+      (λ of-t.
+      let stored : chip₂ ≡ set chip₁ j (m .physical) = e ∙ (rw (eq-eqb (translation-page g (m .logical)) t of-t)) in
+      record {
+        words = stored ∙ ap (λ (l : List ℕ). set l j (m .physical)) (before .words)
+            ∙ set-inside chip at (begun w) (translation-word g (m .logical)) (m .physical) (omega (arith, long w, mod-lt (m .logical) (ok .W-from)))
+            ∙ ap (sets chip at) (sym (ap (λ (l : List Mapping). set-words g l part) (of-page-more g t w m of-t) ∙ set-words-++ g (of-page g t w) (m ∷ []) part));
+        as-long = ap length stored ∙ length-set chip₁ j (m .physical) ∙ before .as-long;
+      })
+      (λ other.
+      let same : chip₂ ≡ chip₁ = e ∙ (rw (ne-eqb (translation-page g (m .logical)) t other)) in
+      record {
+        words = same ∙ before .words ∙ ap (λ (l : List Mapping). sets chip at (set-words g l part)) (sym (of-page-other g t w m other));
+        as-long = ap length same ∙ before .as-long;
+      })
+    where
+      part : List ℕ
+      part = take (g .W) (drop at chip)
+
+      j : ℕ
+      j = at + translation-word g (m .logical)
+
+      begun : List Mapping → List ℕ
+      begun w = set-words g (of-page g t w) part
+
+      long : (w : List Mapping) → length (begun w) ≡ g .W
+      long w = length-set-words ok (of-page g t w) part ∙ length-part chip at (g .W) fits
+
+-- ---- the next translation page touched
+
+-- The lower of two translation pages, where the second is not below `from`.
+abbrev pub nearer : ℕ → ℕ → ℕ → ℕ
+nearer best from t = cond (ltb t from) best (cond (ltb t best) t best)
+
+-- r is the lowest translation page from `from` on for which something waits; m where there is none below m.
+pub record Next-touched (g : Geometry) (w : List Mapping) (from m r : ℕ) : Type 0 where
+  pub from-there : from ≤ r
+  pub up-to : r ≤ m
+  pub untouched : (t : ℕ) → from ≤ t → t < r → of-page g t w ≡ []
+  pub touched : r < m → 1 ≤ length (of-page g r w)
+
+module _ (g : Geometry) (from m : ℕ) where
+  pub none-touched : from ≤ m → Next-touched g [] from m m
+  unfolding of-page
+  none-touched h = record { from-there = h; up-to = omega arith; untouched = λ t _ _. refl; touched = λ k. absurd (omega arith) }
+
+  pub one-touched : (w : List Mapping) (x : Mapping) (r r′ : ℕ) → Next-touched g w from m r
+      → r′ ≡ nearer r from (translation-page g (x .logical)) → Next-touched g (w ++ x ∷ []) from m r′
+  one-touched w x r r′ before e =
+      below? p from
+      (λ low. rw (e, lt-ltb p from low) (kept (λ t h k. omega arith)))
+      (λ high. below? p r
+      (λ near. rw (e, le-ltb p from high, lt-ltb p r near) (taken high near))
+      (λ far. rw (e, le-ltb p from high, le-ltb p r far) (kept (λ t h k. omega arith))))
+    where
+      p : ℕ
+      p = translation-page g (x .logical)
+
+      more : (t : ℕ) → length (of-page g t w) ≤ length (of-page g t (w ++ x ∷ []))
+      more t = omega (arith, ap length (of-page-++ g t w (x ∷ [])), length-append (of-page g t w) (of-page g t (x ∷ [])))
+
+      kept : ((t : ℕ) → from ≤ t → t < r → p ≢ t) → Next-touched g (w ++ x ∷ []) from m r
+      kept apart =
+          record {
+            from-there = before .from-there;
+            up-to = before .up-to;
+            untouched = λ t h k. of-page-other g t w x (apart t h k) ∙ before .untouched t h k;
+            touched = λ k. omega (arith, more r, before .touched k);
+          }
+
+      taken : from ≤ p → p < r → Next-touched g (w ++ x ∷ []) from m p
+      taken high near =
+          record {
+            from-there = high;
+            up-to = omega (arith, before .up-to);
+            untouched = λ t h k. of-page-other g t w x (omega arith) ∙ before .untouched t h (omega arith);
+            touched = λ k. omega (arith, ap length (of-page-more g p w x refl), length-append (of-page g p w) (x ∷ []));
+          }
