@@ -1,3 +1,5 @@
 -- The modules of this crate.
-pub mod Temp
 pub mod Moves
+pub mod Index
+pub mod Starts
+pub mod Moving

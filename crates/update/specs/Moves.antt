@@ -1,23 +1,24 @@
 -- What waits as a list of mappings, and by translation pages: the words that it sets in one of them, and the next one that it touches.
-use Prim.Native.Nat.{ℕ, zero, suc, _+_, _≤_, _<_}
+use Prim.Native.Nat.{ℕ, zero, suc, _+_, _*_, _≤_, _<_}
 use mathlib.Core.Path.{_≡_, refl, sym, ap, _∙_}
 use mathlib.Core.Logic.{_≢_}
 use mathlib.Core.Bool.{cond}
 use mathlib.Core.List.{List, [], _∷_, _++_, append-nil}
-use native.Mathlib.Nat.{mod-lt}
 use native.Mathlib.Numerals.{add-one}
 use native.Mathlib.Omega.{arith}
 use lib.Dec.{eqb, ltb}
 use lib.ListN.{length, getD, set, take, drop, length-append, length-set, take-append-drop}
-use lib.Seq.{sets, sets-eq, length-sets, take-add, drop-drop}
+use lib.Seq.{sets, sets-eq, take-add}
 use borrow.Author.Tests.{eq-eqb, ne-eqb, lt-ltb, le-ltb}
-use Rattle.scope.specs.Geometry.{Geometry, Accepted}
-use Rattle.scope.specs.Lent.{Mapping, translation-page, translation-word}
+use Rattle.scope.specs.Geometry.{Geometry, pages}
+use Rattle.scope.specs.Lent.{Mapping, words-of, translation-page, translation-word}
 use Rattle.scope.specs.Steps.{of-page, set-words}
 use Rattle.flash.specs.Cases.{same?, below?}
+use Rattle.flash.specs.Words.{length-words-of}
 use Rattle.words.specs.Runs.{length-part}
-use Rattle.update.specs.Temp.{set-inside}
 use Rattle.promises.specs.Stored.{length-set-words}
+use Rattle.steps.specs.Lies.{Chip-lent, words-lie}
+use Rattle.steps.specs.Chip.{one-word-set}
 use Rattle.update.specs.declared.Waiting.{Waiting}
 
 -- The first n pairs of two lists.
@@ -61,62 +62,53 @@ module _ (g : Geometry) (t : ℕ) where
     unfolding of-page
     of-page-other e = of-page-++ w (m ∷ []) ∙ (rw (ne-eqb (translation-page g (m .logical)) t e) (append-nil (of-page g t w)))
 
-set-words-++ : (g : Geometry) (v w : List Mapping) (words : List ℕ) → set-words g (v ++ w) words ≡ set-words g w (set-words g v words)
-unfolding set-words
-set-words-++ g [] w words = refl
-set-words-++ g (m ∷ v) w words = set-words-++ g v w (set words (translation-word g (m .logical)) (m .physical))
-
 -- ---- the words of a page set
 
--- A part of a list stored where it stands changes nothing.
+-- A page's own words stored in it change nothing.
 sets-own : (l : List ℕ) (at n : ℕ) → at + n ≤ length l → sets l at (take n (drop at l)) ≡ l
 sets-own l at n h =
     let size : length (take n (drop at l)) ≡ n = length-part l at n h in
-    sets-eq (take n (drop at l)) l at (omega arith)
-    ∙ (rw (size, ← take-add at n l) (take-append-drop (at + n) l))
+    sets-eq (take n (drop at l)) l at (omega arith) ∙ (rw (size, ← take-add at n l) (take-append-drop (at + n) l))
 
--- The words of the page that begins at `at` are those that stood there, with what waits for translation page t set.
-pub record Words-set (g : Geometry) (t at : ℕ) (chip : List ℕ) (w : List Mapping) (chip′ : List ℕ) : Type 0 where
-  pub words : chip′ ≡ sets chip at (set-words g (of-page g t w) (take (g .W) (drop at chip)))
+-- A chip of the right size stays one.
+pub chip-still : {g : Geometry} {chip chip′ : List ℕ} → Chip-lent g chip → length chip′ ≡ length chip → Chip-lent g chip′
+chip-still lent e = record { accepted = lent .accepted; chip-fits = e ∙ lent .chip-fits }
+
+-- The words of page q are those that it had, with what waits for translation page t set.
+pub record Words-set (g : Geometry) (q t : ℕ) (chip : List ℕ) (w : List Mapping) (chip′ : List ℕ) : Type 0 where
+  pub words : chip′ ≡ sets chip (q * g .W) (set-words g (of-page g t w) (words-of g q chip))
   pub as-long : length chip′ ≡ length chip
 
-module _ {g : Geometry} (ok : Accepted g) {t at : ℕ} {chip : List ℕ} (fits : at + g .W ≤ length chip) where
-  pub none-set : Words-set g t at chip [] chip
+module _ {g : Geometry} {q t : ℕ} {chip : List ℕ} (lent : Chip-lent g chip) (on-chip : q < pages g) where
+  pub none-set : Words-set g q t chip [] chip
   unfolding of-page set-words
-  none-set = record { words = sym (sets-own chip at (g .W) fits); as-long = refl }
+  none-set = record { words = sym (sets-own chip (q * g .W) (g .W) (words-lie lent q on-chip .words)); as-long = refl }
 
-  pub one-set : {chip₁ chip₂ : List ℕ} (w : List Mapping) (m : Mapping) → Words-set g t at chip w chip₁
-      → chip₂ ≡ cond (eqb (translation-page g (m .logical)) t) (set chip₁ (at + translation-word g (m .logical)) (m .physical)) chip₁
-      → Words-set g t at chip (w ++ m ∷ []) chip₂
-  unfolding set-words
+  pub one-set : {chip₁ chip₂ : List ℕ} (w : List Mapping) (m : Mapping) → Words-set g q t chip w chip₁
+      → chip₂ ≡ cond (eqb (translation-page g (m .logical)) t) (set chip₁ (q * g .W + translation-word g (m .logical)) (m .physical)) chip₁
+      → Words-set g q t chip (w ++ m ∷ []) chip₂
   one-set {chip₁} {chip₂} w m before e =
       same? (translation-page g (m .logical)) t
       (λ of-t.
-      let stored : chip₂ ≡ set chip₁ j (m .physical) = e ∙ (rw (eq-eqb (translation-page g (m .logical)) t of-t)) in
+      let stored : chip₂ ≡ set chip₁ (q * g .W + translation-word g (m .logical)) (m .physical) =
+      e ∙ (rw (eq-eqb (translation-page g (m .logical)) t of-t)) in
       record {
-        words = stored ∙ ap (λ (l : List ℕ). set l j (m .physical)) (before .words)
-            ∙ set-inside chip at (begun w) (translation-word g (m .logical)) (m .physical) (omega (arith, long w, mod-lt (m .logical) (ok .W-from)))
-            ∙ ap (sets chip at) (sym (ap (λ (l : List Mapping). set-words g l part) (of-page-more g t w m of-t) ∙ set-words-++ g (of-page g t w) (m ∷ []) part));
-        as-long = ap length stored ∙ length-set chip₁ j (m .physical) ∙ before .as-long;
+        words = one-word-set g q (of-page g t w) m chip (words-of g q chip) (lent .accepted .W-from) long (before .words) stored
+            ∙ ap result (sym (of-page-more g t w m of-t));
+        as-long = ap length stored ∙ length-set chip₁ _ (m .physical) ∙ before .as-long;
       })
       (λ other.
       let same : chip₂ ≡ chip₁ = e ∙ (rw (ne-eqb (translation-page g (m .logical)) t other)) in
       record {
-        words = same ∙ before .words ∙ ap (λ (l : List Mapping). sets chip at (set-words g l part)) (sym (of-page-other g t w m other));
+        words = same ∙ before .words ∙ ap result (sym (of-page-other g t w m other));
         as-long = ap length same ∙ before .as-long;
       })
     where
-      part : List ℕ
-      part = take (g .W) (drop at chip)
+      result : List Mapping → List ℕ
+      result ms = sets chip (q * g .W) (set-words g ms (words-of g q chip))
 
-      j : ℕ
-      j = at + translation-word g (m .logical)
-
-      begun : List Mapping → List ℕ
-      begun w = set-words g (of-page g t w) part
-
-      long : (w : List Mapping) → length (begun w) ≡ g .W
-      long w = length-set-words ok (of-page g t w) part ∙ length-part chip at (g .W) fits
+      long : length (set-words g (of-page g t w) (words-of g q chip)) ≡ g .W
+      long = length-set-words (lent .accepted) (of-page g t w) (words-of g q chip) ∙ length-words-of g q chip on-chip (lent .chip-fits)
 
 -- ---- the next translation page touched
 

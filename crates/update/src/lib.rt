@@ -1,4 +1,5 @@
 // Update of a translation page, and room in the translation region, in code: each does its definition.
+pub mod room;
 pub mod touched;
 
 // What waits during a data collection: at most 64 mappings.

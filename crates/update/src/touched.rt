@@ -1,37 +1,39 @@
 // What waits, by translation pages: the words of one of them set from it, and the next one that it touches.
 use crate::Waiting;
 use lent::Geometry;
+use steps::chip::set_word;
 ghost use mathlib.Core.Path.{_≡_};
 ghost use mathlib.Core.Bool.{cond};
-ghost use Prim.Native.Nat.{_+_, _/_, _%_, _≤_, _<_};
+ghost use Prim.Native.Nat.{_+_, _*_, _≤_, _<_};
 ghost use lib.Dec.{eqb};
-ghost use lib.ListN.{length, set, take, drop};
+ghost use lib.ListN.{set};
 ghost use lib.Seq.{sets};
-ghost use Rattle.scope.specs.Geometry.{Accepted};
+ghost use Rattle.scope.specs.Geometry.{Accepted, pages};
+ghost use Rattle.scope.specs.Lent.{words-of, translation-page, translation-word};
 ghost use Rattle.scope.specs.Steps.{of-page, set-words};
 ghost use Rattle.lent.specs.Model.{geometry};
+ghost use Rattle.steps.specs.Lies.{Chip-lent};
 ghost use Rattle.update.specs.Moves.{moves, Next-touched, nearer};
 
-// The word of logical page l, in the page that begins at `at`, where l is of translation page t.
-fn set_word(chip: &mut [u32], at: usize, w: u32, t: u32, l: u32, place: u32)
-    requires { ⌜ (at + w ≤ length (now chip)) × (1 ≤ w) ⌝ }
-    ensures { λ _. ⌜ now (chip .exit) ≡ cond (eqb (l / w) t) (set (now (chip .entry)) (at + l % w) place) (now (chip .entry)) ⌝ }
+// In the translation page at q, the word of logical page l, where l is of translation page t.
+fn set_if_of(g: Geometry, q: u32, t: u32, l: u32, place: u32, chip: &mut [u32])
+    requires { ⌜ Chip-lent (geometry g) (now chip) × (q < pages (geometry g)) ⌝ }
+    ensures { λ _. ⌜ now (chip .exit) ≡ cond (eqb (translation-page (geometry g) l) t) (set (now (chip .entry)) (q * g .w + translation-word (geometry g) l) place) (now (chip .entry)) ⌝ }
 {
-    if l / w == t {
-        let i = (l % w) as usize;
-        chip[at + i] = place;
+    if l / g.w == t {
+        set_word(g, q, l, place, chip);
     }
 }
 
-// The words of all that waits for translation page t, in the page that begins at `at`.
-pub fn set_words(g: Geometry, t: u32, waiting: Waiting, at: usize, chip: &mut [u32])
-    requires { ⌜ Accepted (geometry g) × (at + g .w ≤ length (now chip)) × (waiting .n ≤ 64) ⌝ }
-    ensures { λ _. ⌜ now (chip .exit) ≡ sets (now (chip .entry)) at (set-words (geometry g) (of-page (geometry g) t (moves waiting)) (take (g .w) (drop at (now (chip .entry))))) ⌝ }
+// There, the words of all that waits for translation page t.
+pub fn set_words(g: Geometry, q: u32, t: u32, waiting: Waiting, chip: &mut [u32])
+    requires { ⌜ Chip-lent (geometry g) (now chip) × (q < pages (geometry g)) × (waiting .n ≤ 64) ⌝ }
+    ensures { λ _. ⌜ now (chip .exit) ≡ sets (now (chip .entry)) (q * g .w) (set-words (geometry g) (of-page (geometry g) t (moves waiting)) (words-of (geometry g) q (now (chip .entry)))) ⌝ }
 {
     let n = waiting.n;
     let mut i = 0;
     while i < n {
-        set_word(chip, at, g.w, t, waiting.logical[i], waiting.physical[i]);
+        set_if_of(g, q, t, waiting.logical[i], waiting.physical[i], chip);
         i += 1;
     }
 }

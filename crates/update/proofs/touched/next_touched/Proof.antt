@@ -1,17 +1,12 @@
+-- `update::touched::next_touched` meets its contract: the lowest of those passed.
 use native.Mathlib.Omega.{arith}
-use mathlib.Core.Path.{_≡_, refl, sym, ap, _∙_, subst}
-use mathlib.Core.Logic.{_⊎_, inl, inr, ⊎-elim}
-use mathlib.Core.List.{List, [], _∷_, _++_}
-use Prim.Native.Nat.{ℕ, zero, suc, _+_, _-_, _*_, _≤_, _<_}
-use lib.ListN.{length, getD, set, take, drop, replicate, length-set}
+use mathlib.Core.Path.{_≡_, sym, subst}
+use Prim.Native.Nat.{_-_, _≤_}
 use borrow.Author.Needs.{needs}
 use Rattle.lent.specs.Model.{geometry}
 use Rattle.update.specs.Moves.{first-moves, no-moves, one-more, Next-touched, none-touched, one-touched}
 use Rattle.update.proofs.touched.next_touched.Statement.{statement}
 use Rattle.update.proofs.touched.next_touched.Tie as tie
-use Rattle.update.proofs.touched.next_touched.Reads as reads
-use Rattle.update.proofs.touched.next_touched.Lts as lts
-use Rattle.update.proofs.touched.nearer.Reads as nearer-reads
 
 abbrev Inv-loop : tie.InvT-loop
 Inv-loop g from m waiting n best₀ i₀ best i =
@@ -20,7 +15,6 @@ Inv-loop g from m waiting n best₀ i₀ best i =
 abbrev μ-loop : tie.MeasureT-loop
 μ-loop g from m waiting n best₀ i₀ best i = n - i
 
--- src/touched.rt:56:5
 loop-holds : tie.Need-loop-holds Inv-loop μ-loop
 loop-holds c =
     let a = c .args in (
@@ -29,31 +23,24 @@ loop-holds c =
           (none-touched (geometry (a .g)) (a .from) (a .m) (c .pre .2)),
     )
 
--- src/touched.rt:57:35
 mul-nearer : tie.Need-mul-nearer Inv-loop μ-loop
 mul-nearer c = search needs
 
--- src/touched.rt:57:35
 element-copy-out-nearer : tie.Need-element-copy-out-nearer Inv-loop μ-loop
 element-copy-out-nearer c = search needs
 
--- src/touched.rt:57:35
 div-nearer : tie.Need-div-nearer Inv-loop μ-loop
 div-nearer c = search needs
 
--- src/touched.rt:57:9
 nearer-requires : tie.Need-nearer-requires Inv-loop μ-loop
 nearer-requires c κs = search needs
 
--- src/touched.rt:58:9
 add-i : tie.Need-add-i Inv-loop μ-loop
 add-i c = search needs
 
--- src/touched.rt:56:5
 loop-less : tie.Need-loop-less Inv-loop μ-loop
 loop-less c = search needs
 
--- src/touched.rt:56:5
 loop-again : tie.Need-loop-again Inv-loop μ-loop
 loop-again c =
     let at-loop = c .before .before .before .before in
@@ -64,7 +51,6 @@ loop-again c =
           (one-touched (geometry (a .g)) (a .from) (a .m) _ _ _ _ (at-loop .loop .inv .1) (c .nearer .ensures)),
     )
 
--- src/touched.rt:49:1
 returns : tie.Need-returns Inv-loop μ-loop
 returns c =
     let a = c .before .before .args in

@@ -1,0 +1,180 @@
+-- A collection's copies: what a page's move does, followed by the directory, and what holds as they go on.
+use Prim.Native.Nat.{ℕ, zero, suc, _+_, _*_, _-_, _≤_, _<_}
+use mathlib.Core.Path.{_≡_, refl, sym, ap, subst, _∙_}
+use mathlib.Core.Logic.{_≢_}
+use mathlib.Core.Bool.{Bool}
+use mathlib.Core.List.{List, [], _∷_, _++_}
+use native.Mathlib.Numerals.{add-one}
+use native.Mathlib.Omega.{arith}
+use lib.ListN.{length, getD, set}
+use borrow.Author.Tests.{eq-eqb, ne-eqb}
+use Rattle.scope.specs.Counting.{count}
+use Rattle.scope.specs.Geometry.{Geometry, pages}
+use Rattle.scope.specs.Regions.{Region, Translation, page-in, Has-page}
+use Rattle.scope.specs.SmallRecord.{open-block, next-offset}
+use Rattle.scope.specs.Lent.{none, valid, State, Mapping, state-of, owner-of, is-valid}
+use Rattle.scope.specs.Operations.{Counts, give, look, perform, set-small, _>>=_}
+use Rattle.scope.specs.Room.{Following, read-page, program-next, move-if-valid, move-pages}
+use Rattle.scope.specs.Steps.{directory-names-it, directory-follows}
+use Rattle.flash.specs.Counting.{count-add}
+use Rattle.flash.specs.Listed.{cost}
+use Rattle.flash.specs.Places.{page-on-chip, page-in-region}
+use Rattle.flash.specs.Words.{Lengths}
+use Rattle.region.specs.Holds.{Region-fits}
+use Rattle.region.specs.DirectoryFollows.{directory-view, since, directory-follower}
+use Rattle.region.specs.Copied.{Copied, move-pages-law}
+use Rattle.lent.specs.declared.Work.{Work}
+use Rattle.lent.specs.Does.{Does}
+use Rattle.lent.specs.DoesLaws.{does-ends, state-same, does-give, does-look-at, does-bind, does-set-directory}
+use Rattle.lent.specs.Shapes.{Does-flash, Room-to-count, room-after}
+use Rattle.words.specs.Runs.{getD-any}
+use Rattle.steps.specs.Lies.{spare-lies}
+use Rattle.steps.specs.Chip.{relocate, move-does}
+use Rattle.update.specs.Index.{Does-index, Index-lent, spare-of, no-cache, index-state, lengths-lent, less-room}
+use Rattle.update.specs.Starts.{Starts}
+
+-- ---- one page
+
+-- What the move of page p asks for, if it is valid: it is one of the region's, and the open block has a page to take it.
+pub record Move-ready (g : Geometry) (chip spare directory : List ℕ) (w : Work) (p : ℕ) : Type 0 where
+  pub lent : Index-lent g chip spare directory
+  pub fits : Region-fits g Translation chip spare (w .rec .«open_translation») (w .rec .«translation_offset»)
+  pub room : w .rec .«translation_offset» < g .P
+  pub here : Has-page g Translation p
+  pub counting : Room-to-count 2 (w .counts)
+
+module _ {g : Geometry} {chip spare directory : List ℕ} {w : Work} {p : ℕ} (ready : Move-ready g chip spare directory w p) where
+  pub on-chip : p < pages g
+  on-chip = page-on-chip g Translation p (ready .here)
+
+  pub is-small : p < 65536
+  is-small = spare-lies (spare-of (ready .lent)) p on-chip .page-to
+
+  -- The state as the code reads it.
+  pub state-read : getD spare (p * 2) 0 ≡ state-of p spare
+  state-read = getD-any spare (p * 2) 0 none (omega (arith, spare-lies (spare-of (ready .lent)) p on-chip .words))
+
+  -- A valid page's owner has a word in the directory.
+  pub owner-listed : state-of p spare ≡ valid → owner-of p spare < length directory
+  owner-listed is-valid =
+      omega (arith, ready .lent .directory-fits, ready .fits .pages-fit p (ready .here) .owned (λ e. omega arith))
+
+-- The owner that relocate hands back is the page's.
+pub relocated-owner : (g : Geometry) (r : Region) (p : ℕ) {s s′ : State} {c c′ : Counts} {m : Mapping}
+    → Does (relocate g r p) s c m s′ c′ → m .logical ≡ owner-of p (s .spare)
+unfolding relocate read-page program-next look perform set-small give _>>=_
+relocated-owner g r p d = sym (ap (λ (m : Mapping). m .logical) (d .value))
+
+module _ (g : Geometry) (p : ℕ) {chip spare directory : List ℕ} {w : Work} where
+  -- A valid page is moved, and the directory follows.
+  pub move-moves : {chip′ spare′ directory′ : List ℕ} {w′ : Work} {t q : ℕ} → state-of p spare ≡ valid
+      → Does-flash (relocate g Translation p) chip spare w (record { logical = t; physical = q }) chip′ spare′ w′
+      → directory′ ≡ set directory t q
+      → Does-index (move-if-valid g Translation directory-follows p) chip spare directory w [] chip′ spare′ directory′ w′
+  unfolding move-if-valid directory-names-it
+  move-moves is-valid relocated follows cache =
+      does-bind _ (does-look-at _ (eq-eqb _ _ is-valid))
+      (move-does g Translation directory-follows p (relocated directory cache)
+      (does-bind _ (does-ends (does-set-directory _) (state-same refl refl (sym follows) refl refl) refl) (does-give [])))
+
+  -- Another is passed over.
+  pub move-passes : state-of p spare ≢ valid
+      → Does-index (move-if-valid g Translation directory-follows p) chip spare directory w [] chip spare directory w
+  unfolding move-if-valid
+  move-passes not-valid cache = does-bind _ (does-look-at _ (ne-eqb _ _ not-valid)) (does-give [])
+
+-- ---- one page more
+
+module _ (g : Geometry) (r : Region) (follow : Following) (v : ℕ) {s : State} {c : Counts} where
+  pub does-move-none : Does (move-pages g r follow v zero) s c [] s c
+  unfolding move-pages
+  does-move-none = does-give []
+
+  pub does-move-more : (n : ℕ) {s₁ s₂ : State} {c₁ c₂ : Counts} {waiting more : List Mapping}
+      → Does (move-pages g r follow v n) s c waiting s₁ c₁ → Does (move-if-valid g r follow (page-in g v n)) s₁ c₁ more s₂ c₂
+      → Does (move-pages g r follow v (suc n)) s c (waiting ++ more) s₂ c₂
+  unfolding move-pages
+  does-move-more n a b = does-bind _ a (does-bind _ b (does-give _))
+
+-- ---- the copies
+
+-- More numbers, a higher count.
+count-upto : (n m : ℕ) (f : ℕ → Bool) → n ≤ m → count n f ≤ count m f
+count-upto n m f h =
+    let e : n + (m - n) ≡ m = omega arith in
+    subst (λ m. count n f ≤ count m f) e (omega (arith, count-add n (m - n) f))
+
+-- What the copies of block v's pages ask for, with the erased block opened.
+pub record Copy-ready (g : Geometry) (chip spare directory : List ℕ) (w : Work) (v : ℕ) : Type 0 where
+  pub lent : Index-lent g chip spare directory
+  pub starts : Starts g Translation directory-view (since g (index-state g chip spare directory w)) v (index-state g chip spare directory w)
+  pub counting : Room-to-count (2 * g .P) (w .counts)
+
+-- The first i pages of block v are done.
+pub record Copied-upto (g : Geometry) (chip spare directory : List ℕ) (w : Work) (v i : ℕ) (chip′ spare′ directory′ : List ℕ) (w′ : Work)
+    : Type 0 where
+  pub upto : i ≤ g .P
+  pub does : Does-index (move-pages g Translation directory-follows v i) chip spare directory w [] chip′ spare′ directory′ w′
+
+pub none-copied : {g : Geometry} {chip spare directory : List ℕ} {w : Work} {v : ℕ}
+    → Copied-upto g chip spare directory w v 0 chip spare directory w
+none-copied {g} {v = v} = record { upto = omega arith; does = λ cache. does-move-none g Translation directory-follows v }
+
+pub one-copied : {g : Geometry} {chip spare directory chip₁ spare₁ directory₁ chip₂ spare₂ directory₂ : List ℕ} {w w₁ w₂ : Work} {v i : ℕ}
+    → Copied-upto g chip spare directory w v i chip₁ spare₁ directory₁ w₁ → i < g .P
+    → Does-index (move-if-valid g Translation directory-follows (page-in g v i)) chip₁ spare₁ directory₁ w₁ [] chip₂ spare₂ directory₂ w₂
+    → Copied-upto g chip spare directory w v (i + 1) chip₂ spare₂ directory₂ w₂
+one-copied {g} {v = v} {i} before more moved =
+    rw add-one (record {
+      upto = omega arith;
+      does = λ cache. does-move-more g Translation directory-follows v i (before .does cache) (moved cache);
+    })
+
+module _ {g : Geometry} {chip spare directory chip′ spare′ directory′ : List ℕ} {w w′ : Work} {v i : ℕ}
+    (ready : Copy-ready g chip spare directory w v) (before : Copied-upto g chip spare directory w v i chip′ spare′ directory′ w′) where
+  abbrev s : State
+  s = index-state g chip spare directory w
+
+  abbrev s′ : State
+  s′ = index-state g chip′ spare′ directory′ w′
+
+  copied : Copied g Translation directory-view (since g s) v i s (move-pages g Translation directory-follows v i s)
+  copied =
+      let starts = ready .starts in
+      move-pages-law (directory-follower g s) (ready .lent .accepted) v s (starts .in-region) (starts .closed) (starts .some-invalid)
+      i (before .upto) (starts .copying) (starts .empty)
+
+  is-after : move-pages g Translation directory-follows v i s .after ≡ s′
+  is-after = before .does (no-cache g) .after
+
+  pub still-lent : Index-lent g chip′ spare′ directory′
+  still-lent = lengths-lent (ready .lent .accepted) w′ (subst (Lengths g) is-after (copied .copying .lengths))
+
+  -- Fewer pages have been moved than a block has.
+  few : w′ .rec .«translation_offset» < g .P
+  few =
+      omega (
+        arith,
+        ap (λ (x : State). next-offset Translation (x .small)) is-after,
+        copied .offset,
+        count-upto i (g .P) (λ j. is-valid (page-in g v j) spare) (before .upto),
+        ready .starts .some-invalid,
+      )
+
+  pub still-counting : Room-to-count 2 (w′ .counts)
+  still-counting =
+      room-after 2 (2 * (g .P - 1)) (w .counts) (w′ .counts) (move-pages g Translation directory-follows v i s .did)
+      (less-room (omega (arith, ready .lent .accepted .P-from)) (ready .counting))
+      (omega (arith, copied .costs, ap (λ (x : State). next-offset Translation (x .small)) is-after, few))
+      (before .does (no-cache g) .counting)
+
+  pub next-ready : i < g .P → Move-ready g chip′ spare′ directory′ w′ (page-in g v i)
+  next-ready more =
+      record {
+        lent = still-lent;
+        fits = subst (λ (x : State). Region-fits g Translation (x .chip) (x .spare) (open-block Translation (x .small)) (next-offset Translation (x .small)))
+            is-after (copied .copying .fits);
+        room = few;
+        here = page-in-region g Translation v i (ready .starts .in-region) more;
+        counting = still-counting;
+      }

@@ -1,0 +1,54 @@
+// Room in the translation region: nothing is done, a block is opened, or one is collected, the directory following each moved page at once.
+use lent::Geometry;
+use lent::Region;
+use lent::Work;
+use steps::chip::relocate;
+ghost use mathlib.Core.List.{[]};
+ghost use Rattle.scope.specs.Regions.{Translation};
+ghost use Rattle.scope.specs.Room.{move-if-valid, move-pages};
+ghost use Rattle.scope.specs.Steps.{directory-follows};
+ghost use Rattle.lent.specs.Model.{geometry};
+ghost use Rattle.update.specs.Index.{Does-index};
+ghost use Rattle.update.specs.Moving.{Move-ready, Copy-ready};
+
+// Page p, if it is valid, moves to the open block's next page.
+fn move_if_valid(
+    work: Work,
+    g: Geometry,
+    p: u32,
+    chip: &mut [u32],
+    spare: &mut [u32],
+    directory: &mut [u32],
+) -> Work
+    requires { ⌜ Move-ready (geometry g) (now chip) (now spare) (now directory) work p ⌝ }
+    ensures { λ r. ⌜ Does-index (move-if-valid (geometry g) Translation directory-follows p) (now (chip .entry)) (now (spare .entry)) (now (directory .entry)) work [] (now (chip .exit)) (now (spare .exit)) (now (directory .exit)) r ⌝ }
+{
+    if spare[p as usize * 2] != 65535 {
+        return work;
+    }
+    let moved = relocate(g, Region::Translation, p, chip, spare, work);
+    let t = moved.owner as usize;
+    directory[t] = moved.page;
+    moved.work
+}
+
+// So do the valid pages of block v, in their order.
+fn move_pages(
+    work: Work,
+    g: Geometry,
+    v: u32,
+    chip: &mut [u32],
+    spare: &mut [u32],
+    directory: &mut [u32],
+) -> Work
+    requires { ⌜ Copy-ready (geometry g) (now chip) (now spare) (now directory) work v ⌝ }
+    ensures { λ r. ⌜ Does-index (move-pages (geometry g) Translation directory-follows v (g .p)) (now (chip .entry)) (now (spare .entry)) (now (directory .entry)) work [] (now (chip .exit)) (now (spare .exit)) (now (directory .exit)) r ⌝ }
+{
+    let mut moved = work;
+    let mut i = 0;
+    while i < g.p {
+        moved = move_if_valid(moved, g, v * g.p + i, chip, spare, directory);
+        i += 1;
+    }
+    moved
+}
