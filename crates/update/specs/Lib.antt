@@ -3,3 +3,4 @@ pub mod Moves
 pub mod Index
 pub mod Starts
 pub mod Moving
+pub mod Collecting

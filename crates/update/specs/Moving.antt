@@ -1,9 +1,9 @@
 -- A collection's copies: what a page's move does, followed by the directory, and what holds as they go on.
 use Prim.Native.Nat.{ℕ, zero, suc, _+_, _*_, _-_, _≤_, _<_}
-use mathlib.Core.Path.{_≡_, refl, sym, ap, subst, _∙_}
+use mathlib.Core.Path.{_≡_, refl, sym, ap, subst}
 use mathlib.Core.Logic.{_≢_}
 use mathlib.Core.Bool.{Bool}
-use mathlib.Core.List.{List, [], _∷_, _++_}
+use mathlib.Core.List.{List, [], _++_}
 use native.Mathlib.Numerals.{add-one}
 use native.Mathlib.Omega.{arith}
 use lib.ListN.{length, getD, set}
@@ -17,7 +17,6 @@ use Rattle.scope.specs.Operations.{Counts, give, look, perform, set-small, _>>=
 use Rattle.scope.specs.Room.{Following, read-page, program-next, move-if-valid, move-pages}
 use Rattle.scope.specs.Steps.{directory-names-it, directory-follows}
 use Rattle.flash.specs.Counting.{count-add}
-use Rattle.flash.specs.Listed.{cost}
 use Rattle.flash.specs.Places.{page-on-chip, page-in-region}
 use Rattle.flash.specs.Words.{Lengths}
 use Rattle.region.specs.Holds.{Region-fits}

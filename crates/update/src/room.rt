@@ -2,14 +2,19 @@
 use lent::Geometry;
 use lent::Region;
 use lent::Work;
+use steps::blocks::erased_blocks;
+use steps::blocks::open_lowest;
+use steps::blocks::victim;
+use steps::chip::erase;
 use steps::chip::relocate;
 ghost use mathlib.Core.List.{[]};
 ghost use Rattle.scope.specs.Regions.{Translation};
-ghost use Rattle.scope.specs.Room.{move-if-valid, move-pages};
+ghost use Rattle.scope.specs.Room.{move-if-valid, move-pages, collect, open-or-collect, make-room};
 ghost use Rattle.scope.specs.Steps.{directory-follows};
 ghost use Rattle.lent.specs.Model.{geometry};
-ghost use Rattle.update.specs.Index.{Does-index};
+ghost use Rattle.update.specs.Index.{Does-index, Room-ready};
 ghost use Rattle.update.specs.Moving.{Move-ready, Copy-ready};
+ghost use Rattle.update.specs.Collecting.{Full-ready, Collect-ready};
 
 // Page p, if it is valid, moves to the open block's next page.
 fn move_if_valid(
@@ -51,4 +56,56 @@ fn move_pages(
         i += 1;
     }
     moved
+}
+
+// The block with the fewest valid pages is emptied into the one erased block, and erased.
+fn collect(
+    work: Work,
+    g: Geometry,
+    chip: &mut [u32],
+    spare: &mut [u32],
+    directory: &mut [u32],
+) -> Work
+    requires { ⌜ Collect-ready (geometry g) (now chip) (now spare) (now directory) work ⌝ }
+    ensures { λ r. ⌜ Does-index (collect (geometry g) Translation directory-follows) (now (chip .entry)) (now (spare .entry)) (now (directory .entry)) work tt (now (chip .exit)) (now (spare .exit)) (now (directory .exit)) r ⌝ }
+{
+    let v = victim(g, Region::Translation, spare);
+    let opened = open_lowest(g, Region::Translation, spare, work);
+    let moved = move_pages(opened, g, v, chip, spare, directory);
+    erase(g, v, chip, spare, moved)
+}
+
+// Where the open block is full.
+fn open_or_collect(
+    work: Work,
+    g: Geometry,
+    chip: &mut [u32],
+    spare: &mut [u32],
+    directory: &mut [u32],
+) -> Work
+    requires { ⌜ Full-ready (geometry g) (now chip) (now spare) (now directory) work ⌝ }
+    ensures { λ r. ⌜ Does-index (open-or-collect (geometry g) Translation directory-follows) (now (chip .entry)) (now (spare .entry)) (now (directory .entry)) work tt (now (chip .exit)) (now (spare .exit)) (now (directory .exit)) r ⌝ }
+{
+    if 2 <= erased_blocks(g, Region::Translation, spare) {
+        return open_lowest(g, Region::Translation, spare, work);
+    }
+    collect(work, g, chip, spare, directory)
+}
+
+// Make room: afterwards the open block has a page to program.
+pub fn room(
+    work: Work,
+    g: Geometry,
+    chip: &mut [u32],
+    spare: &mut [u32],
+    directory: &mut [u32],
+) -> Work
+    requires { ⌜ Room-ready (geometry g) (now chip) (now spare) (now directory) work ⌝ }
+    ensures { λ r. ⌜ Does-index (make-room (geometry g) Translation directory-follows) (now (chip .entry)) (now (spare .entry)) (now (directory .entry)) work tt (now (chip .exit)) (now (spare .exit)) (now (directory .exit)) r ⌝ }
+{
+    let offset = work.rec.translation_offset;
+    if offset < g.p {
+        return work;
+    }
+    open_or_collect(work, g, chip, spare, directory)
 }

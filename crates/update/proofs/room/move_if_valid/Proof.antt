@@ -1,49 +1,36 @@
+-- `update::room::move_if_valid` meets its contract: a valid page is relocated and the directory set; another is left alone.
 use native.Mathlib.Omega.{arith}
-use mathlib.Core.Path.{_≡_, refl, sym, ap, _∙_, subst}
-use mathlib.Core.Logic.{_⊎_, inl, inr, ⊎-elim}
-use mathlib.Core.List.{List, [], _∷_, _++_}
-use Prim.Native.Nat.{ℕ, zero, suc, _+_, _-_, _*_, _≤_, _<_}
-use lib.ListN.{length, getD, set, take, drop, replicate, length-set}
+use mathlib.Core.Path.{refl, sym, _∙_}
+use mathlib.Core.List.{[]}
 use borrow.Author.Needs.{needs}
 use Rattle.lent.specs.Model.{geometry}
 use Rattle.update.specs.Moving.{state-read, owner-listed, relocated-owner, move-moves, move-passes}
 use Rattle.update.proofs.room.move_if_valid.Statement.{statement}
 use Rattle.update.proofs.room.move_if_valid.Tie as tie
-use Rattle.update.proofs.room.move_if_valid.Reads as reads
-use Rattle.update.proofs.room.move_if_valid.Lts as lts
-use Rattle.steps.proofs.chip.relocate.Reads as relocate-reads
 
--- src/room.rt:26:14
 mul-if1 : tie.Need-mul-if1
 mul-if1 c = search needs
 
--- src/room.rt:26:8
 mul-if1-2 : tie.Need-mul-if1-2
 mul-if1-2 c = search needs
 
--- src/room.rt:26:8
 slice-read-if1 : tie.Need-slice-read-if1
 slice-read-if1 c = search needs
 
--- src/room.rt:27:9
 returns : tie.Need-returns
 returns c =
     let start = c .before .before .before .before .before in
     move-passes (geometry (start .args .g)) (start .args .p) (λ e. c .if1 .taken (state-read (start .pre) ∙ e))
 
--- src/room.rt:29:9
 relocate-requires : tie.Need-relocate-requires
 relocate-requires c κs = search needs
 
--- src/room.rt:30:13
 cast-t : tie.Need-cast-t
 cast-t c = search needs
 
--- src/room.rt:31:5
 mul-directory : tie.Need-mul-directory
 mul-directory c = search needs
 
--- src/room.rt:31:5
 slice-write-directory : tie.Need-slice-write-directory
 slice-write-directory c =
     let called = c .before .before .before .before .before in
@@ -55,19 +42,15 @@ slice-write-directory c =
       owner-listed (start .pre) (sym (state-read (start .pre)) ∙ tested .if1 .left),
     )
 
--- src/room.rt:15:1
 same-length : tie.Need-same-length
 same-length c = search needs
 
--- src/room.rt:15:1
 same-length-2 : tie.Need-same-length-2
 same-length-2 c = search needs
 
--- src/room.rt:15:1
 same-length-3 : tie.Need-same-length-3
 same-length-3 c = search needs
 
--- src/room.rt:15:1
 returns-2 : tie.Need-returns-2
 returns-2 c =
     let called = c .before .before .before .before .before .before in

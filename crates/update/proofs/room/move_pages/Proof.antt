@@ -1,17 +1,12 @@
+-- `update::room::move_pages` meets its contract: the first i pages are done, and the law of the copies gives the next one what it asks for.
 use native.Mathlib.Omega.{arith}
-use mathlib.Core.Path.{_≡_, refl, sym, ap, _∙_, subst}
-use mathlib.Core.Logic.{_⊎_, inl, inr, ⊎-elim}
-use mathlib.Core.List.{List, [], _∷_, _++_}
-use Prim.Native.Nat.{ℕ, zero, suc, _+_, _-_, _*_, _≤_, _<_}
-use lib.ListN.{length, getD, set, take, drop, replicate, length-set}
+use mathlib.Core.Path.{_≡_, sym, _∙_, subst}
+use Prim.Native.Nat.{_-_}
 use borrow.Author.Needs.{needs}
 use Rattle.lent.specs.Model.{geometry}
 use Rattle.update.specs.Moving.{Copied-upto, none-copied, one-copied, is-small, next-ready, still-lent}
 use Rattle.update.proofs.room.move_pages.Statement.{statement}
 use Rattle.update.proofs.room.move_pages.Tie as tie
-use Rattle.update.proofs.room.move_pages.Reads as reads
-use Rattle.update.proofs.room.move_pages.Lts as lts
-use Rattle.update.proofs.room.move_if_valid.Reads as move-if-valid-reads
 
 abbrev Inv-loop : tie.InvT-loop
 Inv-loop g v chip₀ spare₀ directory₀ moved₀ i₀ chip spare directory moved i =
@@ -20,63 +15,52 @@ Inv-loop g v chip₀ spare₀ directory₀ moved₀ i₀ chip spare directory mo
 abbrev μ-loop : tie.MeasureT-loop
 μ-loop g v chip₀ spare₀ directory₀ moved₀ i₀ chip spare directory moved i = g .p - i
 
--- src/room.rt:49:5
 loop-holds : tie.Need-loop-holds Inv-loop μ-loop
 loop-holds c = none-copied
 
--- src/room.rt:50:41
 mul-move-if-valid : tie.Need-mul-move-if-valid Inv-loop μ-loop
 mul-move-if-valid c =
     let at-loop = c .before .before .before in
     omega (arith, is-small (next-ready (at-loop .before .before .before .before .pre) (at-loop .loop .inv) (c .before .if1 .taken)))
 
--- src/room.rt:50:41
 add-move-if-valid : tie.Need-add-move-if-valid Inv-loop μ-loop
 add-move-if-valid c =
     let at-loop = c .before .before .before in
     omega (arith, is-small (next-ready (at-loop .before .before .before .before .pre) (at-loop .loop .inv) (c .before .if1 .taken)))
 
--- src/room.rt:50:9
 move-if-valid-requires : tie.Need-move-if-valid-requires Inv-loop μ-loop
 move-if-valid-requires c κs =
     let tested = c .before .before .before .before in
     let at-loop = tested .before .before in
     next-ready (at-loop .before .before .before .before .pre) (at-loop .loop .inv) (tested .if1 .taken)
 
--- src/room.rt:51:9
 add-i : tie.Need-add-i Inv-loop μ-loop
 add-i c = search needs
 
--- src/room.rt:49:5
 loop-less : tie.Need-loop-less Inv-loop μ-loop
 loop-less c = search needs
 
--- src/room.rt:49:5
 loop-again : tie.Need-loop-again Inv-loop μ-loop
 loop-again c =
     let called = c .before .before .before .before .before .before in
     let tested = called .before .before .before .before .before in
     one-copied (tested .before .before .loop .inv) (tested .if1 .taken) (called .move-if-valid .ensures)
 
--- src/room.rt:36:1
 same-length : tie.Need-same-length Inv-loop μ-loop
 same-length c =
     let start = c .before .before .before .before .before .before in
     still-lent (start .pre) (c .before .before .loop .inv) .chip-fits ∙ sym (start .pre .lent .chip-fits)
 
--- src/room.rt:36:1
 same-length-2 : tie.Need-same-length-2 Inv-loop μ-loop
 same-length-2 c =
     let start = c .before .before .before .before .before .before in
     still-lent (start .pre) (c .before .before .loop .inv) .spare-fits ∙ sym (start .pre .lent .spare-fits)
 
--- src/room.rt:36:1
 same-length-3 : tie.Need-same-length-3 Inv-loop μ-loop
 same-length-3 c =
     let start = c .before .before .before .before .before .before in
     still-lent (start .pre) (c .before .before .loop .inv) .directory-fits ∙ sym (start .pre .lent .directory-fits)
 
--- src/room.rt:36:1
 returns : tie.Need-returns Inv-loop μ-loop
 returns c =
     let start = c .before .before .before .before .before .before in

@@ -1,0 +1,57 @@
+-- `update::room::collect` meets its contract: its parts are the definition's, each with what it asks for by the law of the part before.
+use borrow.Author.Needs.{needs}
+use Rattle.lent.specs.Model.{geometry}
+use Rattle.update.specs.Index.{chip-of, spare-of}
+use Rattle.update.specs.Collecting.{full-whole, copy-ready, erase-ready, collect-does}
+use Rattle.update.proofs.room.collect.Statement.{statement}
+use Rattle.update.proofs.room.collect.Tie as tie
+
+victim-requires : tie.Need-victim-requires
+victim-requires c κs = full-whole (c .before .before .before .before .pre .full)
+
+open-lowest-requires : tie.Need-open-lowest-requires
+open-lowest-requires c κs = full-whole (c .before .before .before .before .before .before .pre .full)
+
+move-pages-requires : tie.Need-move-pages-requires
+move-pages-requires c κs =
+    let opened = c .before .before .before in
+    let chosen = opened .before .before in
+    copy-ready (chosen .before .before .before .before .before .pre) (chosen .victim .ensures) (opened .open-lowest .ensures)
+
+erase-requires : tie.Need-erase-requires
+erase-requires c κs =
+    let copied = c .before .before .before .before .before .before .before .before in
+    let opened = copied .before .before .before .before in
+    let chosen = opened .before .before in
+    let ready = erase-ready (copy-ready (chosen .before .before .before .before .before .pre) (chosen .victim .ensures) (opened .open-lowest .ensures)) (copied .move-pages .ensures) in
+    (chip-of (ready .lent), spare-of (ready .lent), ready .on-chip, ready .counting)
+
+same-length : tie.Need-same-length
+same-length c = search needs
+
+same-length-2 : tie.Need-same-length-2
+same-length-2 c = search needs
+
+same-length-3 : tie.Need-same-length-3
+same-length-3 c = search needs
+
+returns : tie.Need-returns
+returns c =
+    let erased = c .before .before .before .before in
+    let copied = erased .before .before .before .before .before .before .before .before .before in
+    let opened = copied .before .before .before .before in
+    let chosen = opened .before .before in
+    collect-does (geometry (chosen .before .before .before .before .before .args .g)) (chosen .victim .ensures) (opened .open-lowest .ensures) (copied .move-pages .ensures) (erased .erase .ensures)
+
+pub collect-spec : {M : Type 1} → statement M
+collect-spec =
+    tie.close
+    (tie.spec
+    victim-requires
+    open-lowest-requires
+    move-pages-requires
+    erase-requires
+    same-length
+    same-length-2
+    same-length-3
+    returns)
