@@ -1,12 +1,12 @@
 -- What the leaves do to chip and spare is what 01's steps do: laws that turn equations of lists into `Does`.
-use Prim.Native.Nat.{ℕ, _+_, _*_, _≤_}
+use Prim.Native.Nat.{ℕ, _+_, _*_, _≤_, _<_}
 use mathlib.Core.Path.{_≡_, refl, sym, ap, _∙_}
 use mathlib.Core.List.{List, [], _∷_, _++_}
 use native.Mathlib.Nat.{mod-lt}
 use native.Mathlib.Omega.{arith}
-use lib.ListN.{length, set, replicate}
+use lib.ListN.{length, set, replicate, length-replicate}
 use lib.Seq.{sets}
-use Rattle.scope.specs.Geometry.{Geometry}
+use Rattle.scope.specs.Geometry.{Geometry, pages}
 use Rattle.scope.specs.Regions.{Region}
 use Rattle.scope.specs.SmallRecord.{advanced, opened}
 use Rattle.scope.specs.Lent.{none, valid, erased, Entry, Place, Nowhere, State, Mapping, words-of, owner-of, translation-word}
@@ -14,20 +14,21 @@ use Rattle.scope.specs.Operations.{Step, Mark, Erase, Counts, apply, give, look
 use Rattle.scope.specs.Room.{Following, read-page, program-next, move-page, open-lowest, lowest-erased}
 use Rattle.scope.specs.Sound.{in-page}
 use Rattle.scope.specs.Steps.{begun, set-words, mark-old, word-for}
-use Rattle.flash.specs.Words.{words-at}
+use Rattle.flash.specs.Words.{words-at, length-words-of}
+use Rattle.lent.specs.declared.Counts.{Counts as Counted}
 use Rattle.lent.specs.declared.Record.{Record}
 use Rattle.lent.specs.declared.Work.{Work}
 use Rattle.lent.specs.Model.{state, small, counts}
 use Rattle.lent.specs.Does.{Does}
 use Rattle.lent.specs.DoesLaws.{one-read, one-program, one-erase, does-ends, does-value, state-same, does-give, does-look, does-look-at, does-bind, does-read, does-program, does-mark, does-erase, does-set-small}
-use Rattle.lent.specs.Shapes.{Does-flash, Does-by-chip}
+use Rattle.lent.specs.Shapes.{Does-flash, Does-by-chip, Room-to-count, room-after-read}
 use Rattle.words.specs.Runs.{set-inside}
-use Rattle.steps.specs.Lies.{next-page}
+use Rattle.steps.specs.Lies.{Chip-lent, next-page}
 
 -- ---- one operation
 
--- A page is read, wherever the chip is lent.
-pub read-does : (g : Geometry) (p : ℕ) {s : State} {c c′ : Counts} → c′ ≡ one-read c → Does (read-page g p) s c (words-of g p (s .chip)) s c′
+-- A page is read.
+read-does : (g : Geometry) (p : ℕ) {s : State} {c c′ : Counts} → c′ ≡ one-read c → Does (read-page g p) s c (words-of g p (s .chip)) s c′
 unfolding read-page
 read-does g p e = does-ends (does-bind _ (does-read g p) (does-look _)) refl (sym e)
 
@@ -86,6 +87,12 @@ program-does {g} {r} {owner} {q} {q₀} {chip} words is-next e claimed directory
     (state-same (sym (e ∙ ap (λ (k : ℕ). sets chip (k * g .W) words) there)) (sym (claimed .owned)) refl refl (sym (claimed .moves-on)))
     (sym (claimed .counting))
 
+-- The page that is handed back.
+pub programmed-page : (g : Geometry) (r : Region) (owner : ℕ) (words : List ℕ) {s s′ : State} {c c′ : Counts} {q : ℕ}
+    → Does (program-next g r owner words) s c q s′ c′ → q ≡ next-page g r (s .small)
+unfolding program-next look perform set-small give _>>=_ apply
+programmed-page g r owner words d = sym (d .value)
+
 -- ---- a page moved
 
 -- A page moved to the open block's next one, without what follows: its owner and its new place are handed back.
@@ -110,6 +117,17 @@ relocate-does p {g} {r} {chip = chip} its-owner is-next copied kept counting cla
     (does-bind _ (program-does (words-of g p chip) next copied claimed directory cache)
     (does-bind _ (mark-does g p is-marked) (does-give _))))
 
+-- What is handed back is the page's owner, and the page that was next.
+pub relocated-owner : (g : Geometry) (r : Region) (p : ℕ) {s s′ : State} {c c′ : Counts} {m : Mapping}
+    → Does (relocate g r p) s c m s′ c′ → m .logical ≡ owner-of p (s .spare)
+unfolding relocate read-page program-next look perform set-small give _>>=_ apply
+relocated-owner g r p d = sym (ap (λ (m : Mapping). m .logical) (d .value))
+
+pub relocated-page : (g : Geometry) (r : Region) (p : ℕ) {s s′ : State} {c c′ : Counts} {m : Mapping}
+    → Does (relocate g r p) s c m s′ c′ → m .physical ≡ next-page g r (s .small)
+unfolding relocate read-page program-next look perform set-small give _>>=_ apply
+relocated-page g r p d = sym (ap (λ (m : Mapping). m .physical) (d .value))
+
 -- What follows is done then.
 pub move-does : (g : Geometry) (r : Region) (follow : Following) (p : ℕ)
     {s s₁ s₂ : State} {c c₁ c₂ : Counts} {m : Mapping} {x : List Mapping}
@@ -132,17 +150,43 @@ abbrev pub begun-words : Geometry → Entry → List ℕ → List ℕ
 begun-words g (Place p) chip = words-of g p chip
 begun-words g Nowhere chip = replicate (g .W) none
 
-pub begun-does : (g : Geometry) (former : Entry) {s : State} {c c′ : Counts} → c′ ≡ read-if-place former c
-    → Does (begun g former) s c (begun-words g former (s .chip)) s c′
-unfolding begun
-begun-does g (Place p) e = read-does g p e
-begun-does g Nowhere e = does-ends (does-give _) refl (sym e)
-
 -- They are in the next page, and what they cost is counted.
 pub record Begun (g : Geometry) (r : Region) (former : Entry) (chip : List ℕ) (w : Work) (chip′ : List ℕ) (w′ : Work) : Type 0 where
   pub stored : chip′ ≡ sets chip (next-page g r (small (w .rec)) * g .W) (begun-words g former chip)
   pub kept : w′ .rec ≡ w .rec
   pub counting : counts (w′ .counts) ≡ read-if-place former (counts (w .counts))
+
+begun-entry : (g : Geometry) (e : Entry) {chip : List ℕ} {w w′ : Work} → w′ .rec ≡ w .rec
+    → counts (w′ .counts) ≡ read-if-place e (counts (w .counts)) → Does-by-chip (begun g e) chip w (begun-words g e chip) w′
+unfolding begun
+begun-entry g (Place p) kept counting spare directory cache = read-by-chip g p kept counting spare directory cache
+begun-entry g Nowhere kept counting spare directory cache =
+    does-ends (does-give _) (state-same refl refl refl refl (ap small (sym kept))) (sym counting)
+
+-- In the definition the chip is as before until the page is programmed.
+pub begun-does : {g : Geometry} {r : Region} {former : Entry} {chip chip′ : List ℕ} {w w′ : Work} → Begun g r former chip w chip′ w′
+    → Does-by-chip (begun g former) chip w (begun-words g former chip) w′
+begun-does {g} {former = former} h = begun-entry g former (h .kept) (h .counting)
+
+-- A page's worth of words, and room in the counts for one operation less.
+pub length-begun : {g : Geometry} {chip : List ℕ} → Chip-lent g chip → (e : Entry) → ((p : ℕ) → e ≡ Place p → p < pages g)
+    → length (begun-words g e chip) ≡ g .W
+length-begun {g} {chip} lent (Place p) on-chip = length-words-of g p chip (on-chip p refl) (lent .chip-fits)
+length-begun {g} lent Nowhere on-chip = length-replicate (g .W) none
+
+room-after-entry : (n : ℕ) (e : Entry) (c c′ : Counted) → Room-to-count (n + 1) c → counts c′ ≡ read-if-place e (counts c)
+    → Room-to-count n c′
+room-after-entry n (Place p) c c′ room e = room-after-read n c c′ room e
+room-after-entry n Nowhere c c′ room e =
+    record {
+      reads = omega (arith, room .reads, ap (λ (x : Counts). x .reads) e);
+      programs = omega (arith, room .programs, ap (λ (x : Counts). x .programs) e);
+      erases = omega (arith, room .erases, ap (λ (x : Counts). x .erases) e);
+    }
+
+pub room-after-begun : {g : Geometry} {r : Region} {former : Entry} {chip chip′ : List ℕ} {w w′ : Work} (n : ℕ)
+    → Begun g r former chip w chip′ w′ → Room-to-count (n + 1) (w .counts) → Room-to-count n (w′ .counts)
+room-after-begun {former = former} {w = w} {w′} n h room = room-after-entry n former (w .counts) (w′ .counts) room (h .counting)
 
 pub begun-is : (g : Geometry) (r : Region) {former f : Entry} {q : ℕ} {chip chip′ : List ℕ} {w w′ : Work}
     → former ≡ f → q ≡ next-page g r (small (w .rec)) → chip′ ≡ sets chip (q * g .W) (begun-words g f chip)
@@ -154,7 +198,11 @@ begun-is g r {q = q} {chip = chip} {w = w} e is-next stored kept counting =
       counting = counting ∙ (rw e refl);
     }
 
--- One more word set in a page that is stored at q.
+-- No word set; one more set in a page that is stored at q.
+pub no-word-set : (g : Geometry) (words : List ℕ) → set-words g [] words ≡ words
+unfolding set-words
+no-word-set g words = refl
+
 set-words-snoc : (g : Geometry) (ms : List Mapping) (m : Mapping) (words : List ℕ)
     → set-words g (ms ++ m ∷ []) words ≡ set (set-words g ms words) (translation-word g (m .logical)) (m .physical)
 unfolding set-words

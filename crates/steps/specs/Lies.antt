@@ -1,6 +1,6 @@
 -- What the leaves ask of the lists that they are lent, and so where pages and blocks lie in these: in range, and no product wraps.
 use Prim.Native.Nat.{ℕ, _+_, _*_, _≤_, _<_}
-use mathlib.Core.Path.{_≡_, refl}
+use mathlib.Core.Path.{_≡_, refl, _∙_, sym, subst}
 use mathlib.Core.Logic.{_⊎_, inl, inr}
 use mathlib.Core.List.{List}
 use native.Mathlib.Nat.{mul-le-mul-right, add-mul, mod-lt}
@@ -11,6 +11,8 @@ use Rattle.scope.specs.Geometry.{Geometry, Accepted, blocks, pages}
 use Rattle.scope.specs.Regions.{Region, Has-block, page-in}
 use Rattle.scope.specs.SmallRecord.{SmallRecord, open-block, next-offset, with-open, advanced}
 use Rattle.scope.specs.Lent.{chip-size, spare-size, translation-word}
+use Rattle.lent.specs.declared.Record.{Record}
+use Rattle.lent.specs.Model.{small}
 use Rattle.flash.specs.Cases.{below?}
 use Rattle.flash.specs.Stores.{slot-below}
 use Rattle.flash.specs.Places.{block-on-chip}
@@ -23,6 +25,13 @@ pub record Chip-lent (g : Geometry) (chip : List ℕ) : Type 0 where
 pub record Spare-lent (g : Geometry) (spare : List ℕ) : Type 0 where
   pub accepted : Accepted g
   pub spare-fits : length spare ≡ spare-size g
+
+-- So it stays where its length does.
+pub chip-still : {g : Geometry} {chip chip′ : List ℕ} → Chip-lent g chip → length chip′ ≡ length chip → Chip-lent g chip′
+chip-still lent e = record { accepted = lent .accepted; chip-fits = e ∙ lent .chip-fits }
+
+pub spare-still : {g : Geometry} {spare spare′ : List ℕ} → Spare-lent g spare → length spare′ ≡ length spare → Spare-lent g spare′
+spare-still lent e = record { accepted = lent .accepted; spare-fits = e ∙ lent .spare-fits }
 
 -- ---- pages
 
@@ -96,22 +105,25 @@ block-lies {g} chip spare b h =
 -- ---- the open block's next page
 
 abbrev pub next-page : Geometry → Region → SmallRecord → ℕ
-next-page g r small = page-in g (open-block r small) (next-offset r small)
+next-page g r s = page-in g (open-block r s) (next-offset r s)
 
 -- It has one: the open block lies in its region, and its next offset is below P.
-pub record Has-next (g : Geometry) (r : Region) (small : SmallRecord) : Type 0 where
-  pub in-region : Has-block g r (open-block r small)
-  pub room : next-offset r small < g .P
+pub record Has-next (g : Geometry) (r : Region) (s : SmallRecord) : Type 0 where
+  pub in-region : Has-block g r (open-block r s)
+  pub room : next-offset r s < g .P
 
-pub next-on-chip : {g : Geometry} {r : Region} {small : SmallRecord} → Has-next g r small → next-page g r small < pages g
-next-on-chip {g} {r} {small} h =
-    slot-below (g .P) (blocks g) (open-block r small) (next-offset r small) (block-on-chip g r (open-block r small) (h .in-region)) (h .room)
+pub next-same : {g : Geometry} {r : Region} {rec rec′ : Record} → rec′ ≡ rec → Has-next g r (small rec) → Has-next g r (small rec′)
+next-same {g} {r} e h = subst (λ (k : Record). Has-next g r (small k)) (sym e) h
 
-pub next-to : {g : Geometry} {r : Region} {small : SmallRecord} → Accepted g → Has-next g r small → next-page g r small < 65536
+pub next-on-chip : {g : Geometry} {r : Region} {s : SmallRecord} → Has-next g r s → next-page g r s < pages g
+next-on-chip {g} {r} {s} h =
+    slot-below (g .P) (blocks g) (open-block r s) (next-offset r s) (block-on-chip g r (open-block r s) (h .in-region)) (h .room)
+
+pub next-to : {g : Geometry} {r : Region} {s : SmallRecord} → Accepted g → Has-next g r s → next-page g r s < 65536
 next-to ok h = omega (arith, few-pages ok, next-on-chip h)
 
 -- Its words lie in the chip, and its spare words in the spare.
-module _ {g : Geometry} {r : Region} {small : SmallRecord} (next : Has-next g r small) {q : ℕ} (is-next : q ≡ next-page g r small) where
+module _ {g : Geometry} {r : Region} {s : SmallRecord} (next : Has-next g r s) {q : ℕ} (is-next : q ≡ next-page g r s) where
   pub next-words-lie : {chip : List ℕ} → Chip-lent g chip → Words-lie g chip q
   next-words-lie lent = words-lie lent q (rw is-next (next-on-chip next))
 
@@ -119,9 +131,9 @@ module _ {g : Geometry} {r : Region} {small : SmallRecord} (next : Has-next g r 
   next-spare-lies lent = spare-lies lent q (rw is-next (next-on-chip next))
 
 -- The same by the record's numbers, and the record that names the page behind it.
-module _ (r : Region) (small : SmallRecord) {b i : ℕ} (is-b : b ≡ open-block r small) (is-i : i ≡ next-offset r small) where
-  pub next-is : (g : Geometry) → b * g .P + i ≡ next-page g r small
+module _ (r : Region) (s : SmallRecord) {b i : ℕ} (is-b : b ≡ open-block r s) (is-i : i ≡ next-offset r s) where
+  pub next-is : (g : Geometry) → b * g .P + i ≡ next-page g r s
   next-is g = rw (is-b, is-i) refl
 
-  pub advanced-is : with-open r b (i + 1) small ≡ advanced r small
+  pub advanced-is : with-open r b (i + 1) s ≡ advanced r s
   advanced-is = rw (is-b, is-i, add-one) refl
