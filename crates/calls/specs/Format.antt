@@ -13,7 +13,7 @@ use Rattle.scope.specs.Requests.{format-steps}
 use Rattle.scope.specs.Calls.{state-sizes, size-tests, format}
 use Rattle.requests.specs.Fresh.{Sized}
 use Rattle.calls.specs.Answers.{put, Answers, does-answers, refuses, admits}
-use Rattle.calls.specs.Tested.{sizes-pass, lengths-pass}
+use Rattle.calls.specs.Tested.{sizes-pass, geometry-passes, lengths-pass}
 
 -- The code tests with `right`, its own name for whether the lengths beside the state's are right.
 module _ (g : Geometry) (s : State) {right others : Bool} {n : ℕ} (named : right ≡ others)
@@ -23,8 +23,8 @@ module _ (g : Geometry) (s : State) {right others : Bool} {n : ℕ} (named : rig
 
   pub format-sized : n ≡ DONE → Sized g (s .chip) (s .spare) (s .directory) (s .cache)
   format-sized e =
-      let pass = sizes-pass g (right-sizes (state-sizes g s) && right) (sym e ∙ tested) in
-      record { accepted = pass .accepts; lengths = lengths-pass g s right (pass .sized) }
+      let pass = sizes-pass g s right (sym e ∙ tested) in
+      record { accepted = geometry-passes g s right pass; lengths = lengths-pass g s right pass }
 
   pub format-refused : {counts counts′ : List ℕ} → n ≢ DONE → counts′ ≡ put counts no-counts
       → Answers (format g others s) counts n s counts′

@@ -2,3 +2,4 @@
 pub mod Answers
 pub mod Tested
 pub mod Format
+pub mod Check

@@ -1,33 +1,96 @@
--- What the tests' answer tells: 0 only where the geometry is accepted, the lengths are right and the state is sound.
-use Prim.Native.Nat.{ℕ}
-use mathlib.Core.Path.{_≡_, refl, sym, _∙_}
-use mathlib.Core.Bool.{Bool, true, false, not, _&&_}
-use mathlib.Core.List.{List, []}
+-- What the tests' answer tells: 0 only where the geometry is accepted, the lengths are right, the state is sound and the page is below L.
+-- And that a test that applies answers for all that follow it.
+use Prim.Native.Nat.{ℕ, _≤_, _<_}
+use mathlib.Core.Path.{_≡_}
+use mathlib.Core.Logic.{_≢_}
+use mathlib.Core.Bool.{Bool, true, false, _&&_}
+use mathlib.Core.List.{List, [], _∷_, _++_}
 use native.Mathlib.Omega.{arith}
+use borrow.Author.Tests.{le-leb, lt-leb}
 use Rattle.flash.specs.Cases.{on, and-true}
-use Rattle.flash.specs.Words.{Lengths-fit}
+use Rattle.flash.specs.Words.{Lengths}
 use Rattle.scope.specs.Geometry.{Geometry, Accepted, accepted}
 use Rattle.scope.specs.Lent.{State}
-use Rattle.scope.specs.Replies.{DONE, GEOMETRY, LENGTH, first-applying, right-sizes}
-use Rattle.scope.specs.Calls.{state-sizes, size-tests}
-use Rattle.scope.specs.Laws.Decided.{accepted-decided}
+use Rattle.scope.specs.Sound.{Sound}
+use Rattle.scope.specs.Decisions.{sound}
+use Rattle.scope.specs.Replies.{DONE, DAMAGED, PAGE, Test, first-applying, right-sizes}
+use Rattle.scope.specs.Calls.{state-sizes, size-tests, state-tests, page-tests}
+use Rattle.scope.specs.Laws.Decided.{accepted-decided, sound-decided}
 use Rattle.soundness.specs.Sizes.{sizes-fit}
 
--- GEOMETRY and LENGTH.
-pub record Sizes-pass (g : Geometry) (sizes : Bool) : Type 0 where
-  pub accepts : Accepted g
-  pub sized : sizes ≡ true
-
-pub sizes-pass : (g : Geometry) (sizes : Bool) → DONE ≡ first-applying (size-tests g sizes) → Sizes-pass g sizes
+-- The first of more tests.
+earlier-applies : (ts us : List Test) {n : ℕ} → n ≡ first-applying ts → n ≢ DONE → n ≡ first-applying (ts ++ us)
 unfolding first-applying
-sizes-pass g sizes =
-    on (accepted g)
-    (λ a. on sizes
-    (λ z. λ _. record { accepts = accepted-decided g .holds a; sized = z })
-    (λ z. rw (a, z) (λ e. absurd (omega arith))))
-    (λ a. rw a (λ e. absurd (omega arith)))
+earlier-applies [] us e h = absurd (h e)
+earlier-applies (t ∷ ts) us e h =
+    on (t .applies)
+    (λ a. rw a (rw a at e))
+    (λ a. rw a (earlier-applies ts us (rw a at e) h))
 
--- The state's lists then have 01's lengths.
-pub lengths-pass : (g : Geometry) (s : State) (others : Bool) → right-sizes (state-sizes g s) && others ≡ true
-    → Lengths-fit g (s .chip) (s .spare) (s .directory) (s .cache)
-lengths-pass g s others e = sizes-fit g (s .chip) (s .spare) (s .directory) (s .cache) (and-true (right-sizes (state-sizes g s)) others e .0)
+-- `others`: whether the lengths beside the state's are right.
+module _ (g : Geometry) (s : State) (others : Bool) where
+  abbrev sizes : Bool
+  sizes = right-sizes (state-sizes g s) && others
+
+  -- GEOMETRY and LENGTH passed.
+  pub record Sizes-pass : Type 0 where
+    pub accepts : accepted g ≡ true
+    pub sized : sizes ≡ true
+
+  pub sizes-pass : DONE ≡ first-applying (size-tests g sizes) → Sizes-pass
+  unfolding first-applying
+  sizes-pass =
+      on (accepted g)
+      (λ a. on sizes (λ z. λ _. record { accepts = a; sized = z }) (λ z. rw (a, z) (λ e. absurd (omega arith))))
+      (λ a. rw a (λ e. absurd (omega arith)))
+
+  -- Then the geometry is accepted, and the state's lists have its lengths.
+  pub geometry-passes : Sizes-pass → Accepted g
+  geometry-passes p = accepted-decided g .holds (p .accepts)
+
+  pub lengths-pass : Sizes-pass → Lengths g s
+  lengths-pass p = sizes-fit g (s .chip) (s .spare) (s .directory) (s .cache) (and-true (right-sizes (state-sizes g s)) others (p .sized) .0)
+
+  -- The next test's answer, and that of one before it.
+  pub size-applies : {n : ℕ} → n ≡ first-applying (size-tests g sizes) → n ≢ DONE → n ≡ first-applying (state-tests g sizes s)
+  size-applies = earlier-applies (size-tests g sizes) _
+
+  pub damaged : Sizes-pass → sound g s ≡ false → DAMAGED ≡ first-applying (state-tests g sizes s)
+  unfolding first-applying
+  damaged p e = rw (p .accepts, p .sized, e)
+
+  pub undamaged : Sizes-pass → sound g s ≡ true → DONE ≡ first-applying (state-tests g sizes s)
+  unfolding first-applying
+  undamaged p e = rw (p .accepts, p .sized, e)
+
+  -- DAMAGED passed too.
+  pub record State-passes : Type 0 where
+    pub sizes-passed : Sizes-pass
+    pub is-sound : sound g s ≡ true
+
+  pub state-passes : DONE ≡ first-applying (state-tests g sizes s) → State-passes
+  unfolding first-applying
+  state-passes =
+      on (accepted g)
+      (λ a. on sizes
+      (λ z. on (sound g s)
+      (λ d. λ _. record { sizes-passed = record { accepts = a; sized = z }; is-sound = d })
+      (λ d. rw (a, z, d) (λ e. absurd (omega arith))))
+      (λ z. rw (a, z) (λ e. absurd (omega arith))))
+      (λ a. rw a (λ e. absurd (omega arith)))
+
+  pub soundness-passes : State-passes → Sound g s
+  soundness-passes p = sound-decided g s .holds (p .is-sound)
+
+  module _ (l : ℕ) where
+    pub state-applies : {n : ℕ} → n ≡ first-applying (state-tests g sizes s) → n ≢ DONE
+        → n ≡ first-applying (state-tests g sizes s ++ page-tests g l)
+    state-applies = earlier-applies (state-tests g sizes s) (page-tests g l)
+
+    pub past-limit : State-passes → g .L ≤ l → PAGE ≡ first-applying (state-tests g sizes s ++ page-tests g l)
+    unfolding first-applying
+    past-limit p h = rw (p .sizes-passed .accepts, p .sizes-passed .sized, p .is-sound, le-leb (g .L) l h)
+
+    pub below-limit : State-passes → l < g .L → DONE ≡ first-applying (state-tests g sizes s ++ page-tests g l)
+    unfolding first-applying
+    below-limit p h = rw (p .sizes-passed .accepts, p .sizes-passed .sized, p .is-sound, lt-leb (g .L) l h)

@@ -8,10 +8,11 @@ use crate::counting::put_counts;
 use crate::counting::put_none;
 use crate::tests::lengths_right;
 use crate::tests::size_answer;
+use crate::tests::state_answer;
 use lent::Geometry;
 use lent::Record;
 ghost use Rattle.lent.specs.Model.{geometry, state};
-ghost use Rattle.scope.specs.Calls.{format};
+ghost use Rattle.scope.specs.Calls.{format, check};
 ghost use Rattle.calls.specs.Answers.{Answers, right-lengths};
 
 // The reply number, and the small record after the call.
@@ -58,4 +59,28 @@ pub fn format(
         answer: 0,
         rec: new,
     }
+}
+
+// Changes nothing but the counts.
+pub fn check(
+    rec: Record,
+    fits: bool,
+    g: Geometry,
+    chip: &[u32],
+    spare: &[u32],
+    directory: &[u32],
+    cache: &[u32],
+    counts: &mut [u32],
+) -> u32
+    ensures { λ r. ⌜ Answers
+        (check (geometry g) (right-lengths fits (now (counts .entry)))
+        (state (now (chip .entry)) (now (spare .entry)) (now (directory .entry)) (now (cache .entry)) rec))
+        (now (counts .entry)) r
+        (state (now (chip .entry)) (now (spare .entry)) (now (directory .entry)) (now (cache .entry)) rec)
+        (now (counts .exit)) ⌝ }
+{
+    let right = lengths_right(fits, counts.len());
+    let answer = state_answer(rec, right, g, chip, spare, directory, cache);
+    put_none(counts);
+    answer
 }

@@ -1,14 +1,17 @@
 // Tests in number order, each answered with its number, and 0 where none applies. What is tested of a slice alone is its length, which
 // comes by value.
 use lent::Geometry;
+use lent::Record;
 use soundness::geometry::accepts;
 use soundness::geometry::sizes_right;
+use soundness::sound::is_sound;
 ghost use mathlib.Core.Path.{_≡_};
 ghost use mathlib.Core.Bool.{_&&_};
+ghost use mathlib.Core.List.{_++_};
 ghost use lib.Dec.{eqb};
-ghost use Rattle.lent.specs.Model.{geometry};
+ghost use Rattle.lent.specs.Model.{geometry, state};
 ghost use Rattle.scope.specs.Boundary.{counts-words};
-ghost use Rattle.scope.specs.Calls.{size-tests};
+ghost use Rattle.scope.specs.Calls.{state-sizes, size-tests, state-tests, page-tests};
 ghost use Rattle.scope.specs.Replies.{first-applying, right-sizes};
 ghost use Rattle.soundness.specs.Sizes.{sizes};
 
@@ -41,6 +44,62 @@ pub fn size_answer(
     }
     if !fits {
         return 3;
+    }
+    0
+}
+
+// These, and DAMAGED.
+pub fn state_answer(
+    rec: Record,
+    fits: bool,
+    g: Geometry,
+    chip: &[u32],
+    spare: &[u32],
+    directory: &[u32],
+    cache: &[u32],
+) -> u32
+    ensures { λ r. ⌜ r ≡ first-applying (state-tests (geometry g)
+        (right-sizes (state-sizes (geometry g) (state (now (chip .entry)) (now (spare .entry)) (now (directory .entry)) (now (cache .entry)) rec)) && fits)
+        (state (now (chip .entry)) (now (spare .entry)) (now (directory .entry)) (now (cache .entry)) rec)) ⌝ }
+{
+    let sizes = size_answer(
+        g,
+        fits,
+        chip.len(),
+        spare.len(),
+        directory.len(),
+        cache.len(),
+    );
+    if sizes != 0 {
+        return sizes;
+    }
+    if !is_sound(g, chip, spare, directory, cache, rec) {
+        return 4;
+    }
+    0
+}
+
+// These, and PAGE.
+pub fn page_answer(
+    rec: Record,
+    fits: bool,
+    g: Geometry,
+    page: u32,
+    chip: &[u32],
+    spare: &[u32],
+    directory: &[u32],
+    cache: &[u32],
+) -> u32
+    ensures { λ r. ⌜ r ≡ first-applying (state-tests (geometry g)
+        (right-sizes (state-sizes (geometry g) (state (now (chip .entry)) (now (spare .entry)) (now (directory .entry)) (now (cache .entry)) rec)) && fits)
+        (state (now (chip .entry)) (now (spare .entry)) (now (directory .entry)) (now (cache .entry)) rec) ++ page-tests (geometry g) page) ⌝ }
+{
+    let first = state_answer(rec, fits, g, chip, spare, directory, cache);
+    if first != 0 {
+        return first;
+    }
+    if g.l <= page {
+        return 6;
     }
     0
 }

@@ -1,0 +1,31 @@
+-- `calls::check` meets its contract.
+use borrow.Author.Needs.{needs}
+use denote.Ref.{now}
+use Rattle.lent.specs.Model.{geometry, state}
+use Rattle.calls.specs.Check.{check-answers}
+use Rattle.calls.proofs.check.Statement.{statement}
+use Rattle.calls.proofs.check.Tie as tie
+
+lengths-right-requires : tie.Need-lengths-right-requires
+lengths-right-requires c κs = search needs
+
+state-answer-requires : tie.Need-state-answer-requires
+state-answer-requires c κs = search needs
+
+put-none-requires : tie.Need-put-none-requires
+put-none-requires c κs = search needs
+
+same-length : tie.Need-same-length
+same-length c = search needs
+
+returns : tie.Need-returns
+returns c =
+    let tested = c .before .before .before .before in
+    let a = tested .before .before .before .before .before .before .before .args in
+    check-answers (geometry (a .g)) (state (now (a .chip)) (now (a .spare)) (now (a .directory)) (now (a .cache)) (a .rec))
+    (tested .before .lengths-right .ensures) (tested .state-answer .ensures) (c .before .before .put-none .ensures)
+
+pub check-spec : {M : Type 1} → statement M
+check-spec =
+    tie.close
+    (tie.spec lengths-right-requires state-answer-requires put-none-requires same-length returns)

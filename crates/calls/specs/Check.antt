@@ -1,0 +1,30 @@
+-- Check: the tests' answer is the call's, and nothing is done.
+use Prim.Native.Nat.{ℕ}
+use mathlib.Core.Path.{_≡_, ap, sym, _∙_}
+use mathlib.Core.Bool.{Bool, _&&_}
+use mathlib.Core.List.{List}
+use Rattle.flash.specs.Cases.{same?}
+use Rattle.lent.specs.Does.{Does}
+use Rattle.lent.specs.DoesLaws.{does-give}
+use Rattle.scope.specs.Geometry.{Geometry}
+use Rattle.scope.specs.Lent.{State}
+use Rattle.scope.specs.Operations.{no-counts, give}
+use Rattle.scope.specs.Replies.{DONE, first-applying, right-sizes}
+use Rattle.scope.specs.Calls.{state-sizes, state-tests, check}
+use Rattle.calls.specs.Answers.{put, Answers, does-answers, refuses, admits}
+
+-- The code tests with `right`, its own name for whether the lengths beside the state's are right.
+module _ (g : Geometry) (s : State) {right others : Bool} {n : ℕ} (named : right ≡ others)
+    (tested : n ≡ first-applying (state-tests g (right-sizes (state-sizes g s) && right) s)) where
+  answered : n ≡ first-applying (state-tests g (right-sizes (state-sizes g s) && others) s)
+  answered = tested ∙ ap (λ (b : Bool). first-applying (state-tests g (right-sizes (state-sizes g s) && b) s)) named
+
+  does-check : Does (check g others) s no-counts n s no-counts
+  unfolding check
+  does-check =
+      same? n DONE
+      (λ z. rw z (admits _ (λ t. t) (λ n. n) (give DONE) (sym z ∙ answered) (does-give DONE)))
+      (λ z. refuses _ (λ t. t) (λ n. n) (give DONE) answered z)
+
+  pub check-answers : {counts counts′ : List ℕ} → counts′ ≡ put counts no-counts → Answers (check g others s) counts n s counts′
+  check-answers e = does-answers no-counts does-check e
