@@ -4,3 +4,4 @@ pub mod Index
 pub mod Starts
 pub mod Moving
 pub mod Collecting
+pub mod Writing

@@ -1,4 +1,22 @@
 // Update of a translation page, and room in the translation region, in code: each does its definition.
+use lent::Geometry;
+use lent::Region;
+use lent::Work;
+use page::begin;
+use page::finish;
+use steps::chip::next_page;
+use steps::chip::set_word;
+use touched::set_words;
+ghost use mathlib.Core.List.{[], _∷_};
+ghost use Prim.Native.Nat.{_≤_};
+ghost use Rattle.scope.specs.Lent.{translation-page};
+ghost use Rattle.scope.specs.Steps.{of-page, update};
+ghost use Rattle.lent.specs.Model.{geometry};
+ghost use Rattle.update.specs.Moves.{moves};
+ghost use Rattle.update.specs.Index.{Does-index, Index-ready};
+ghost use Rattle.update.specs.Writing.{Page-ready};
+
+pub mod page;
 pub mod room;
 pub mod touched;
 
@@ -7,4 +25,49 @@ pub struct Waiting {
     pub logical: [u32; 64],
     pub physical: [u32; 64],
     pub n: usize,
+}
+
+// The translation page of logical page l is updated with that one mapping.
+pub fn update_one(
+    work: Work,
+    g: Geometry,
+    l: u32,
+    place: u32,
+    chip: &mut [u32],
+    spare: &mut [u32],
+    directory: &mut [u32],
+) -> Work
+    requires { ⌜ Index-ready (geometry g) (now chip) (now spare) (now directory) work (record { logical = l; physical = place } ∷ []) ⌝ }
+    ensures { λ r. ⌜ Does-index (update (geometry g) (translation-page (geometry g) l) (record { logical = l; physical = place } ∷ []))
+        (now (chip .entry)) (now (spare .entry)) (now (directory .entry)) work tt
+        (now (chip .exit)) (now (spare .exit)) (now (directory .exit)) r ⌝ }
+{
+    let t = l / g.w;
+    let begun = begin(work, g, t, chip, spare, directory);
+    let rec = begun.rec;
+    let q = next_page(g, Region::Translation, rec);
+    set_word(g, q, l, place, chip);
+    finish(begun, g, t, spare, directory)
+}
+
+// Translation page t is updated with all that waits for it.
+fn update_page(
+    work: Work,
+    g: Geometry,
+    t: u32,
+    waiting: Waiting,
+    chip: &mut [u32],
+    spare: &mut [u32],
+    directory: &mut [u32],
+) -> Work
+    requires { ⌜ Page-ready (geometry g) (now chip) (now spare) (now directory) work t × (waiting .n ≤ 64) ⌝ }
+    ensures { λ r. ⌜ Does-index (update (geometry g) t (of-page (geometry g) t (moves waiting)))
+        (now (chip .entry)) (now (spare .entry)) (now (directory .entry)) work tt
+        (now (chip .exit)) (now (spare .exit)) (now (directory .exit)) r ⌝ }
+{
+    let begun = begin(work, g, t, chip, spare, directory);
+    let rec = begun.rec;
+    let q = next_page(g, Region::Translation, rec);
+    set_words(g, q, t, waiting, chip);
+    finish(begun, g, t, spare, directory)
 }

@@ -1,0 +1,46 @@
+-- `update::page::begin` meets its contract: room is made, and the law of room gives what the words' page asks for.
+use native.Mathlib.Omega.{arith}
+use mathlib.Core.Path.{sym, _∙_}
+use borrow.Author.Needs.{needs}
+use Rattle.update.specs.Index.{chip-of, less-room}
+use Rattle.update.specs.Writing.{roomy, begins-so}
+use Rattle.update.proofs.page.begin.Statement.{statement}
+use Rattle.update.proofs.page.begin.Tie as tie
+
+room-requires : tie.Need-room-requires
+room-requires c κs = search needs
+
+named-requires : tie.Need-named-requires
+named-requires c κs = search needs
+
+begin-next-requires : tie.Need-begin-next-requires
+begin-next-requires c κs =
+    let made = c .before .before .before .before .before .before .before .before .before in
+    let now-roomy = roomy (made .before .before .before .before .before .before .before .pre) (made .room .ensures) in (
+      (chip-of (now-roomy .lent), λ p e. now-roomy .former p (sym (c .before .named .ensures) ∙ e)),
+      (now-roomy .next, less-room (omega arith) (now-roomy .counting)),
+    )
+
+same-length : tie.Need-same-length
+same-length c = search needs
+
+same-length-2 : tie.Need-same-length-2
+same-length-2 c = search needs
+
+same-length-3 : tie.Need-same-length-3
+same-length-3 c = search needs
+
+returns : tie.Need-returns
+returns c = begins-so (c .before .before .before .before .before .before .before .before .before .before .before .before .room .ensures) (c .before .before .before .before .named .ensures) (c .before .before .begin-next .ensures)
+
+pub begin-spec : {M : Type 1} → statement M
+begin-spec =
+    tie.close
+    (tie.spec
+    room-requires
+    named-requires
+    begin-next-requires
+    same-length
+    same-length-2
+    same-length-3
+    returns)

@@ -1,0 +1,52 @@
+-- `update::update_page` meets its contract: the definition's steps, the words of all that waits set in the page that is programmed.
+use borrow.Author.Needs.{needs}
+use Rattle.update.specs.Index.{chip-of}
+use Rattle.update.specs.Writing.{still-roomy, next-here, all-words, finish-ready, update-does}
+use Rattle.update.proofs.update_page.Statement.{statement}
+use Rattle.update.proofs.update_page.Tie as tie
+
+begin-requires : tie.Need-begin-requires
+begin-requires c κs = search needs
+
+next-page-requires : tie.Need-next-page-requires
+next-page-requires c κs =
+    let ready = c .before .before .before .before .before .before .before .before .before .before .before .before .before .before .pre .0 in
+    (ready .lent .accepted, still-roomy ready (c .before .before .before .before .before .before .before .begin .ensures) .next)
+
+set-words-requires : tie.Need-set-words-requires
+set-words-requires c κs =
+    let start = c .before .before .before .before .before .before .before .before .before .before .before .before .before .before .before .before in
+    let begins = c .before .before .before .before .before .before .before .before .before .begin .ensures in
+    (chip-of (still-roomy (start .pre .0) begins .lent), next-here (start .pre .0) begins (c .before .next-page .ensures), start .pre .1)
+
+finish-requires : tie.Need-finish-requires
+finish-requires c κs = finish-ready (still-roomy (c .before .before .before .before .before .before .before .before .before .before .before .before .before .before .before .before .before .before .before .before .before .pre .0) (c .before .before .before .before .before .before .before .before .before .before .before .before .before .before .begin .ensures))
+
+same-length : tie.Need-same-length
+same-length c = search needs
+
+same-length-2 : tie.Need-same-length-2
+same-length-2 c = search needs
+
+same-length-3 : tie.Need-same-length-3
+same-length-3 c = search needs
+
+returns : tie.Need-returns
+returns c =
+    let begins = c .before .before .before .before .before .before .before .before .before .before .before .before .before .before .before .before .before .before .before .begin .ensures in
+    update-does _ begins
+    (all-words (c .before .before .before .before .before .before .before .before .before .before .before .before .before .before .before .before .before .before .before .before .before .before .before .before .before .before .pre .0) begins (c .before .before .before .before .before .before .before .before .before .before .before .next-page .ensures) _ (c .before .before .before .before .before .before .before .before .before .set-words .ensures))
+    (c .before .before .before .before .finish .ensures)
+
+pub update-page-spec : {M : Type 1} → statement M
+update-page-spec =
+    tie.close
+    (tie.spec
+    begin-requires
+    next-page-requires
+    set-words-requires
+    finish-requires
+    same-length
+    same-length-2
+    same-length-3
+    returns)
