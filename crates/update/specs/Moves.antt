@@ -70,10 +70,6 @@ sets-own l at n h =
     let size : length (take n (drop at l)) ≡ n = length-part l at n h in
     sets-eq (take n (drop at l)) l at (omega arith) ∙ (rw (size, ← take-add at n l) (take-append-drop (at + n) l))
 
--- A chip of the right size stays one.
-pub chip-still : {g : Geometry} {chip chip′ : List ℕ} → Chip-lent g chip → length chip′ ≡ length chip → Chip-lent g chip′
-chip-still lent e = record { accepted = lent .accepted; chip-fits = e ∙ lent .chip-fits }
-
 -- The words of page q are those that it had, with what waits for translation page t set.
 pub record Words-set (g : Geometry) (q t : ℕ) (chip : List ℕ) (w : List Mapping) (chip′ : List ℕ) : Type 0 where
   pub words : chip′ ≡ sets chip (q * g .W) (set-words g (of-page g t w) (words-of g q chip))

@@ -13,8 +13,8 @@ use Rattle.scope.specs.Geometry.{Geometry, pages}
 use Rattle.scope.specs.Regions.{Region, Translation, page-in, Has-page}
 use Rattle.scope.specs.SmallRecord.{open-block, next-offset}
 use Rattle.scope.specs.Lent.{none, valid, State, Mapping, state-of, owner-of, is-valid}
-use Rattle.scope.specs.Operations.{Counts, give, look, perform, set-small, _>>=_}
-use Rattle.scope.specs.Room.{Following, read-page, program-next, move-if-valid, move-pages}
+use Rattle.scope.specs.Operations.{Counts}
+use Rattle.scope.specs.Room.{Following, move-if-valid, move-pages}
 use Rattle.scope.specs.Steps.{directory-names-it, directory-follows}
 use Rattle.flash.specs.Counting.{count-add}
 use Rattle.flash.specs.Places.{page-on-chip, page-in-region}
@@ -57,12 +57,6 @@ module _ {g : Geometry} {chip spare directory : List ℕ} {w : Work} {p : ℕ} (
   pub owner-listed : state-of p spare ≡ valid → owner-of p spare < length directory
   owner-listed is-valid =
       omega (arith, ready .lent .directory-fits, ready .fits .pages-fit p (ready .here) .owned (λ e. omega arith))
-
--- The owner that relocate hands back is the page's.
-pub relocated-owner : (g : Geometry) (r : Region) (p : ℕ) {s s′ : State} {c c′ : Counts} {m : Mapping}
-    → Does (relocate g r p) s c m s′ c′ → m .logical ≡ owner-of p (s .spare)
-unfolding relocate read-page program-next look perform set-small give _>>=_
-relocated-owner g r p d = sym (ap (λ (m : Mapping). m .logical) (d .value))
 
 module _ (g : Geometry) (p : ℕ) {chip spare directory : List ℕ} {w : Work} where
   -- A valid page is moved, and the directory follows.

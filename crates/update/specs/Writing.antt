@@ -5,31 +5,30 @@ use mathlib.Core.Path.{_≡_, refl, sym, ap, subst, _∙_}
 use mathlib.Core.Logic.{inl}
 use mathlib.Core.List.{List, [], _∷_, _++_, append-assoc}
 use native.Mathlib.Omega.{arith}
-use lib.ListN.{length, set, take, drop, length-replicate}
+use lib.ListN.{length, set, take, drop}
 use lib.Seq.{sets, sets-eq, set-set, length-sets, length-take-le, take-at, drop-at}
 use Rattle.scope.specs.Geometry.{Geometry, M, pages}
 use Rattle.scope.specs.Regions.{Translation}
 use Rattle.scope.specs.SmallRecord.{open-block, next-offset}
-use Rattle.scope.specs.Lent.{none, Entry, Place, Nowhere, State, Mapping, chip-size, words-of, named, translation-page, translation-word}
+use Rattle.scope.specs.Lent.{none, Entry, Place, State, Mapping, words-of, named, translation-page, translation-word}
 use Rattle.scope.specs.Sound.{Names}
-use Rattle.scope.specs.Operations.{Step, Counts}
+use Rattle.scope.specs.Operations.{Step, _>>=_, _>>_}
 use Rattle.scope.specs.Room.{make-room, program-next}
 use Rattle.scope.specs.Steps.{set-words, mark-old, directory-names-it, directory-follows, update}
 use Rattle.flash.specs.Places.{page-on-chip}
-use Rattle.flash.specs.Words.{Lengths, length-words-of}
+use Rattle.flash.specs.Words.{Lengths}
 use Rattle.region.specs.Holds.{Region-holds}
 use Rattle.region.specs.DirectoryFollows.{in-directory, translation-room-law}
 use Rattle.promises.specs.Index.{page-below}
 use Rattle.promises.specs.Stored.{length-set-words}
 use Rattle.promises.specs.Update.{update-bound}
 use Rattle.lent.specs.declared.Work.{Work}
-use Rattle.lent.specs.declared.Counts.{Counts as Counted}
 use Rattle.lent.specs.Model.{small, counts}
 use Rattle.lent.specs.DoesLaws.{does-ends, state-same, does-look, does-bind}
-use Rattle.lent.specs.Shapes.{Does-directory, Room-to-count, room-after, room-after-read}
+use Rattle.lent.specs.Shapes.{Does-directory, Room-to-count, room-after}
 use Rattle.words.specs.Runs.{set-before}
-use Rattle.steps.specs.Lies.{Spare-lent, words-lie, next-page, Has-next, next-on-chip}
-use Rattle.steps.specs.Chip.{marked, Claimed, program-does, mark-old-does, read-if-place, begun-words, Begun, begun-does, one-word-set}
+use Rattle.steps.specs.Lies.{Spare-lent, words-lie, next-page, Has-next, next-same, next-on-chip}
+use Rattle.steps.specs.Chip.{marked, Claimed, program-does, mark-old-does, begun-words, Begun, begun-does, length-begun, room-after-begun, no-word-set, one-word-set}
 use Rattle.update.specs.Index.{Does-index, no-cache, index-state, Index-lent, chip-of, spare-of, index-lengths, lengths-lent, less-room, Index-ready, Room-ready}
 
 -- What an update of translation page t asks for.
@@ -98,21 +97,6 @@ pub begins-so : {g : Geometry} {t : ℕ} {chip spare directory chip₁ chip′ s
 begins-so {g} {chip₁ = chip₁} {chip′} {w₁ = w₁} {w′} made is-named begins =
     record { chip₁ = chip₁; w₁ = w₁; made = made; begins = subst (λ e. Begun g Translation e chip₁ w₁ chip′ w′) is-named begins }
 
--- What is read is counted, and no more.
-room-after-begun : (former : Entry) (c c′ : Counted) → Room-to-count 2 c → counts c′ ≡ read-if-place former (counts c) → Room-to-count 1 c′
-room-after-begun (Place p) c c′ room e = room-after-read 1 c c′ room e
-room-after-begun Nowhere c c′ room e =
-    record {
-      reads = omega (arith, room .reads, ap (λ (x : Counts). x .reads) e);
-      programs = omega (arith, room .programs, ap (λ (x : Counts). x .programs) e);
-      erases = omega (arith, room .erases, ap (λ (x : Counts). x .erases) e);
-    }
-
-length-begun : (g : Geometry) (former : Entry) (chip : List ℕ) → length chip ≡ chip-size g → ((p : ℕ) → former ≡ Place p → p < pages g)
-    → length (begun-words g former chip) ≡ g .W
-length-begun g (Place p) chip fits on-chip = length-words-of g p chip (on-chip p refl) fits
-length-begun g Nowhere chip fits on-chip = length-replicate (g .W) none
-
 module _ {g : Geometry} {chip spare directory chip′ spare′ directory′ : List ℕ} {w w′ : Work} {t : ℕ} (ready : Page-ready g chip spare directory w t)
     (b : Begins g t chip spare directory w chip′ spare′ directory′ w′) where
   before : Roomy g (b .chip₁) spare′ directory′ (b .w₁) t 2
@@ -127,14 +111,14 @@ module _ {g : Geometry} {chip spare directory chip′ spare′ directory′ : Li
           spare-fits = before .lent .spare-fits;
           directory-fits = before .lent .directory-fits;
         };
-        next = rw (b .begins .kept) (before .next);
+        next = next-same (b .begins .kept) (before .next);
         listed = before .listed;
         former = before .former;
-        counting = room-after-begun (named t directory′) (b .w₁ .counts) (w′ .counts) (before .counting) (b .begins .counting);
+        counting = room-after-begun 1 (b .begins) (before .counting);
       }
 
   words-begun : length (begun-words g (named t directory′) (b .chip₁)) ≡ g .W
-  words-begun = length-begun g (named t directory′) (b .chip₁) (before .lent .chip-fits) (before .former)
+  words-begun = length-begun (chip-of (before .lent)) (named t directory′) (before .former)
 
 -- ---- words set in the page
 
@@ -171,9 +155,9 @@ module _ {g : Geometry} {chip spare directory chip′ spare′ directory′ : Li
   -- One word, and all those of a list of mappings.
   pub one-word : {chip″ : List ℕ} (m : Mapping) → chip″ ≡ set chip′ (q * g .W + translation-word g (m .logical)) (m .physical)
       → chip″ ≡ sets (b .chip₁) (next-page g Translation (small (w′ .rec)) * g .W) (set-words g (m ∷ []) words)
-  unfolding set-words
   one-word m e =
-      one-word-set g q [] m (b .chip₁) words (ready .lent .accepted .W-from) long stored e
+      let none = no-word-set g words in
+      one-word-set g q [] m (b .chip₁) words (ready .lent .accepted .W-from) (ap length none ∙ long) (stored ∙ ap (sets (b .chip₁) (q * g .W)) (sym none)) e
       ∙ ap (λ (k : ℕ). sets (b .chip₁) (k * g .W) (set-words g (m ∷ []) words)) is-next
 
   pub all-words : {chip″ : List ℕ} (ms : List Mapping) → chip″ ≡ sets chip′ (q * g .W) (set-words g ms (words-of g q chip′))
@@ -235,10 +219,10 @@ pub update-does : {g : Geometry} {t : ℕ} (ms : List Mapping) {chip spare direc
     → Written g t spare₁ directory₁ w₁ spare₂ directory₂ w₂
     → Does-index (update g t ms) chip spare directory w tt chip₂ spare₂ directory₂ w₂
 unfolding update
-update-does {g} {t} ms {directory₁ = directory₁} b set written cache =
+update-does {g} {t} ms {spare₁ = spare₁} {directory₁ = directory₁} b is-set written cache =
     does-ends
     (does-bind _ (b .made cache)
     (does-bind _ (does-look _)
-    (does-bind _ (does-ends (begun-does g (named t directory₁) (b .begins .counting)) (state-same refl refl refl refl (ap small (sym (b .begins .kept)))) refl)
+    (does-bind _ (begun-does (b .begins) spare₁ directory₁ cache)
     (written (b .chip₁) (set-words g ms (begun-words g (named t directory₁) (b .chip₁))) cache))))
-    (state-same (sym set) refl refl refl refl) refl
+    (state-same (sym is-set) refl refl refl refl) refl

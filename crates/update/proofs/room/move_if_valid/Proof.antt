@@ -4,7 +4,8 @@ use mathlib.Core.Path.{refl, sym, _∙_}
 use mathlib.Core.List.{[]}
 use borrow.Author.Needs.{needs}
 use Rattle.lent.specs.Model.{geometry}
-use Rattle.update.specs.Moving.{state-read, owner-listed, relocated-owner, move-moves, move-passes}
+use Rattle.steps.specs.Chip.{relocated-owner}
+use Rattle.update.specs.Moving.{state-read, owner-listed, move-moves, move-passes}
 use Rattle.update.proofs.room.move_if_valid.Statement.{statement}
 use Rattle.update.proofs.room.move_if_valid.Tie as tie
 

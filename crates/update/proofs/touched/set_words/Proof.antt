@@ -4,7 +4,8 @@ use mathlib.Core.Path.{_≡_, sym, subst}
 use Prim.Native.Nat.{_-_, _≤_}
 use borrow.Author.Needs.{needs}
 use Rattle.lent.specs.Model.{geometry}
-use Rattle.update.specs.Moves.{first-moves, no-moves, one-more, chip-still, Words-set, none-set, one-set}
+use Rattle.steps.specs.Lies.{chip-still}
+use Rattle.update.specs.Moves.{first-moves, no-moves, one-more, Words-set, none-set, one-set}
 use Rattle.update.proofs.touched.set_words.Statement.{statement}
 use Rattle.update.proofs.touched.set_words.Tie as tie
 
