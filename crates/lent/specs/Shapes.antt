@@ -51,20 +51,24 @@ pub record Room-to-count (n : ℕ) (c : Counted) : Type 0 where
   pub programs : c .programs + n < 4294967296
   pub erases : c .erases + n < 4294967296
 
+-- Equal counts, number by number, for omega to read.
+pub record Told (c d : Counts) : Type 0 where
+  pub reads : c .reads ≡ d .reads
+  pub programs : c .programs ≡ d .programs
+  pub erases : c .erases ≡ d .erases
+
+pub told : {c d : Counts} → c ≡ d → Told c d
+told e =
+    record {
+      reads = ap (λ (x : Counts). x .reads) e;
+      programs = ap (λ (x : Counts). x .programs) e;
+      erases = ap (λ (x : Counts). x .erases) e;
+    }
+
 -- Less room is left after a step, by no more than its operations cost.
 pub room-after : (n k : ℕ) (c c′ : Counted) (os : List Operation) → Room-to-count (n + k) c → cost os ≤ k
     → counts-add (counts c) (counted os) ≡ counts c′ → Room-to-count n c′
-room-after n k c c′ os room most e =
-    record {
-      reads = omega (arith, room .reads, ap (λ (x : Counts). x .reads) e);
-      programs = omega (arith, room .programs, ap (λ (x : Counts). x .programs) e);
-      erases = omega (arith, room .erases, ap (λ (x : Counts). x .erases) e);
-    }
+room-after n k c c′ os room most e = omega (arith, told e)
 
 pub room-after-read : (n : ℕ) (c c′ : Counted) → Room-to-count (n + 1) c → counts c′ ≡ one-read (counts c) → Room-to-count n c′
-room-after-read n c c′ room e =
-    record {
-      reads = omega (arith, room .reads, ap (λ (x : Counts). x .reads) e);
-      programs = omega (arith, room .programs, ap (λ (x : Counts). x .programs) e);
-      erases = omega (arith, room .erases, ap (λ (x : Counts). x .erases) e);
-    }
+room-after-read n c c′ room e = omega (arith, told e)

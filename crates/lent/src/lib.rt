@@ -6,6 +6,15 @@ ghost use Rattle.lent.specs.Model.{counts, entry};
 ghost use Rattle.lent.specs.DoesLaws.{one-read, one-program, one-erase};
 ghost use Rattle.lent.specs.Shapes.{Room-to-count};
 
+// No page; the word of an erased page, in the chip and in the spare; the other two states.
+pub const NONE: u32 = 4294967295;
+
+pub const ERASED: u32 = 4294967295;
+
+pub const VALID: u32 = 65535;
+
+pub const INVALID: u32 = 0;
+
 // The six numbers of a geometry.
 pub struct Geometry {
     pub p: u32,
@@ -60,7 +69,7 @@ pub enum Entry {
 pub fn decode(x: u32) -> Entry
     ensures { λ r. ⌜ entry r ≡ decode x ⌝ }
 {
-    if x == 4294967295 {
+    if x == NONE {
         Entry::Nowhere
     } else {
         Entry::Place(x)

@@ -9,7 +9,7 @@ use lib.Seq.{sets}
 use Rattle.scope.specs.Geometry.{Geometry, pages}
 use Rattle.scope.specs.Regions.{Region}
 use Rattle.scope.specs.SmallRecord.{advanced, opened}
-use Rattle.scope.specs.Lent.{none, valid, erased, Entry, Place, Nowhere, State, Mapping, words-of, owner-of, translation-word}
+use Rattle.scope.specs.Lent.{none, valid, invalid, erased, Entry, Place, Nowhere, State, Mapping, words-of, owner-of, translation-word}
 use Rattle.scope.specs.Operations.{Step, Mark, Erase, Counts, apply, give, look, perform, set-small, _>>=_, _>>_}
 use Rattle.scope.specs.Room.{Following, read-page, program-next, move-page, open-lowest, lowest-erased}
 use Rattle.scope.specs.Sound.{in-page}
@@ -21,7 +21,7 @@ use Rattle.lent.specs.declared.Work.{Work}
 use Rattle.lent.specs.Model.{state, small, counts}
 use Rattle.lent.specs.Does.{Does}
 use Rattle.lent.specs.DoesLaws.{one-read, one-program, one-erase, does-ends, does-value, state-same, does-give, does-look, does-look-at, does-bind, does-read, does-program, does-mark, does-erase, does-set-small}
-use Rattle.lent.specs.Shapes.{Does-flash, Does-by-chip, Room-to-count, room-after-read}
+use Rattle.lent.specs.Shapes.{Does-flash, Does-by-chip, Room-to-count, told, room-after-read}
 use Rattle.words.specs.Runs.{set-inside}
 use Rattle.steps.specs.Lies.{Chip-lent, next-page}
 
@@ -39,11 +39,11 @@ read-by-chip g p kept counting spare directory cache =
 
 -- A page is marked; the page that an entry names is, if it names one.
 abbrev pub marked : Entry → List ℕ → List ℕ
-marked (Place p) spare = set spare (p * 2) 0
+marked (Place p) spare = set spare (p * 2) invalid
 marked Nowhere spare = spare
 
 pub mark-does : (g : Geometry) (p : ℕ) {chip spare spare′ directory cache : List ℕ} {rec : Record} {c : Counts}
-    → spare′ ≡ set spare (p * 2) 0
+    → spare′ ≡ set spare (p * 2) invalid
     → Does (perform g (Mark p)) (state chip spare directory cache rec) c tt (state chip spare′ directory cache rec) c
 unfolding apply
 mark-does g p e = does-ends (does-mark g p) (state-same refl (sym e) refl refl refl) refl
@@ -107,7 +107,7 @@ relocate g r p = do
 pub relocate-does : (p : ℕ) {g : Geometry} {r : Region} {owner q q₀ : ℕ} {chip spare chip′ spare₁ spare′ : List ℕ} {w w₁ w′ : Work}
     → owner ≡ owner-of p spare → q₀ ≡ next-page g r (small (w .rec)) → chip′ ≡ sets chip (q₀ * g .W) (words-of g p chip)
     → w₁ .rec ≡ w .rec → counts (w₁ .counts) ≡ one-read (counts (w .counts))
-    → Claimed g r owner spare w₁ q spare₁ w′ → spare′ ≡ set spare₁ (p * 2) 0
+    → Claimed g r owner spare w₁ q spare₁ w′ → spare′ ≡ set spare₁ (p * 2) invalid
     → Does-flash (relocate g r p) chip spare w (record { logical = owner; physical = q }) chip′ spare′ w′
 unfolding relocate
 relocate-does p {g} {r} {chip = chip} its-owner is-next copied kept counting claimed is-marked directory cache =
@@ -177,12 +177,7 @@ length-begun {g} lent Nowhere on-chip = length-replicate (g .W) none
 room-after-entry : (n : ℕ) (e : Entry) (c c′ : Counted) → Room-to-count (n + 1) c → counts c′ ≡ read-if-place e (counts c)
     → Room-to-count n c′
 room-after-entry n (Place p) c c′ room e = room-after-read n c c′ room e
-room-after-entry n Nowhere c c′ room e =
-    record {
-      reads = omega (arith, room .reads, ap (λ (x : Counts). x .reads) e);
-      programs = omega (arith, room .programs, ap (λ (x : Counts). x .programs) e);
-      erases = omega (arith, room .erases, ap (λ (x : Counts). x .erases) e);
-    }
+room-after-entry n Nowhere c c′ room e = omega (arith, told e)
 
 pub room-after-begun : {g : Geometry} {r : Region} {former : Entry} {chip chip′ : List ℕ} {w w′ : Work} (n : ℕ)
     → Begun g r former chip w chip′ w′ → Room-to-count (n + 1) (w .counts) → Room-to-count n (w′ .counts)

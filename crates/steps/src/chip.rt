@@ -5,8 +5,11 @@ use crate::blocks::with_open;
 use lent::Entry;
 use lent::Geometry;
 use lent::Handed;
+use lent::INVALID;
+use lent::NONE;
 use lent::Record;
 use lent::Region;
+use lent::VALID;
 use lent::Work;
 use lent::count_erase;
 use lent::count_program;
@@ -20,7 +23,7 @@ ghost use mathlib.Core.Path.{_≡_};
 ghost use Prim.Native.Nat.{ℕ, _+_, _*_, _<_};
 ghost use lib.ListN.{length, set};
 ghost use Rattle.scope.specs.Geometry.{Accepted, blocks, pages};
-ghost use Rattle.scope.specs.Lent.{Place, is-valid, translation-word};
+ghost use Rattle.scope.specs.Lent.{invalid, Place, is-valid, translation-word};
 ghost use Rattle.scope.specs.Operations.{Erase, perform};
 ghost use Rattle.scope.specs.Room.{read-page, program-next};
 ghost use Rattle.scope.specs.Steps.{word-for};
@@ -49,15 +52,15 @@ pub fn is_valid(p: u32, spare: &[u32]) -> bool
     requires { ⌜ p * 2 < length (now spare) ⌝ }
     ensures { λ r. ⌜ r ≡ is-valid p (now (spare .entry)) ⌝ }
 {
-    spare[p as usize * 2] == 65535
+    spare[p as usize * 2] == VALID
 }
 
 // Page p is marked invalid.
 pub fn mark(p: u32, spare: &mut [u32])
     requires { ⌜ p * 2 < length (now spare) ⌝ }
-    ensures { λ _. ⌜ now (spare .exit) ≡ set (now (spare .entry)) (p * 2) 0 ⌝ }
+    ensures { λ _. ⌜ now (spare .exit) ≡ set (now (spare .entry)) (p * 2) invalid ⌝ }
 {
-    spare[p as usize * 2] = 0;
+    spare[p as usize * 2] = INVALID;
 }
 
 // The former page is, if there is one.
@@ -88,7 +91,7 @@ pub fn claim_next(g: Geometry, r: Region, owner: u32, spare: &mut [u32], work: W
     let rec = work.rec;
     let counts = work.counts;
     let q = next_page(g, r, rec);
-    store_two(spare, q as usize * 2, 65535, owner);
+    store_two(spare, q as usize * 2, VALID, owner);
     let b = open_block(rec, r);
     let i = next_offset(rec, r);
     let next = Work {
@@ -179,10 +182,7 @@ pub fn word_for(g: Geometry, l: u32, page: Entry, chip: &[u32], work: Work) -> H
     ensures { λ x. ⌜ Does-by-chip (word-for (geometry g) l (entry page)) (now (chip .entry)) work (x .value) (x .work) ⌝ }
 {
     let Entry::Place(q) = page else {
-        return Handed {
-            value: 4294967295,
-            work,
-        };
+        return Handed { value: NONE, work };
     };
     let w = g.w as usize;
     let word = chip[q as usize * w + l as usize % w];

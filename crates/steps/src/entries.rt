@@ -1,5 +1,6 @@
 // The cache's entries: found, moved to the front, entered, dropped and set, with the number of those in use.
 use lent::Geometry;
+use lent::NONE;
 use lent::Record;
 use lent::Work;
 use words::entries::put_front;
@@ -76,7 +77,7 @@ pub fn forget(i: usize, cache: &mut [u32], work: Work) -> Work
     ensures { λ r. ⌜ Does-cache (forget i) (now (cache .entry)) work tt (now (cache .exit)) r ⌝ }
 {
     let mut next = work;
-    store_three(cache, i * 3, 4294967295, 4294967295, 4294967295);
+    store_three(cache, i * 3, NONE, NONE, NONE);
     let less = work.rec.used - 1;
     next.rec.used = less;
     next

@@ -2,6 +2,8 @@
 // reads one word of an erased block.
 use crate::states::bit;
 use crate::states::count_state;
+use lent::ERASED;
+use lent::VALID;
 ghost use mathlib.Core.Path.{_≡_};
 ghost use mathlib.Core.Bool.{not, cond};
 ghost use Prim.Native.Nat.{_+_, _*_, _≤_, _<_};
@@ -18,7 +20,7 @@ pub fn erased_among(spare: &[u32], first: usize, n: usize, p: usize) -> usize
     let mut k = 0;
     let mut i = 0;
     while i < n {
-        k += bit(spare[(first + i) * p * 2], 4294967295);
+        k += bit(spare[(first + i) * p * 2], ERASED);
         i += 1;
     }
     k
@@ -31,7 +33,7 @@ pub fn lowest_erased_among(spare: &[u32], first: usize, n: usize, p: usize) -> u
 {
     let mut i = 0;
     while i < n {
-        if spare[(first + i) * p * 2] == 4294967295 {
+        if spare[(first + i) * p * 2] == ERASED {
             return i;
         }
         i += 1;
@@ -60,10 +62,10 @@ fn held(spare: &[u32], page: usize, p: usize) -> usize
     requires { ⌜ ((page + p) * 2 ≤ length (now spare)) × (1 ≤ p) ⌝ }
     ensures { λ r. ⌜ r ≡ cond (is-erased page (now (spare .entry))) (p + 1) (count p (λ i. is-valid (page + i) (now (spare .entry)))) ⌝ }
 {
-    if spare[page * 2] == 4294967295 {
+    if spare[page * 2] == ERASED {
         p + 1
     } else {
-        count_state(spare, page, p, 65535)
+        count_state(spare, page, p, VALID)
     }
 }
 

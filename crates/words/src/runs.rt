@@ -1,4 +1,5 @@
 // Runs of words filled, copied and stored. Each loop is one that the compiler turns into wide stores, and none tests an index twice.
+use lent::ERASED;
 ghost use mathlib.Core.Path.{_≡_};
 ghost use mathlib.Core.Logic.{_⊎_};
 ghost use mathlib.Core.List.{[], _∷_};
@@ -13,7 +14,7 @@ pub fn fill_erased(s: &mut [u32], at: usize, n: usize)
 {
     let mut i = 0;
     while i < n {
-        s[at + i] = 4294967295;
+        s[at + i] = ERASED;
         i += 1;
     }
 }

@@ -1,4 +1,5 @@
 // The spare's state words, two words a page: how many of a block's pages have a state.
+use lent::ERASED;
 ghost use mathlib.Core.Path.{_≡_};
 ghost use mathlib.Core.Bool.{cond};
 ghost use Prim.Native.Nat.{_+_, _*_, _≤_};
@@ -33,5 +34,5 @@ pub fn all_erased(spare: &[u32], first: usize, n: usize) -> bool
     requires { ⌜ (first + n) * 2 ≤ length (now spare) ⌝ }
     ensures { λ r. ⌜ r ≡ all n (λ i. is-erased (first + i) (now (spare .entry))) ⌝ }
 {
-    count_state(spare, first, n, 4294967295) == n
+    count_state(spare, first, n, ERASED) == n
 }

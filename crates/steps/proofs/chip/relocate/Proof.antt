@@ -1,14 +1,11 @@
 -- `steps::chip::relocate` meets its contract: a copy, a claim with the page's own owner, and a mark.
 use Prim.Native.Nat.{_+_, _*_}
-use mathlib.Core.Path.{sym, subst}
 use native.Mathlib.Omega.{arith}
 use borrow.Author.Needs.{needs}
-use Rattle.steps.specs.Lies.{Has-next, next-words-lie, words-lie, spare-lies, pages-apart}
+use Rattle.steps.specs.Lies.{next-same, next-words-lie, words-lie, spare-lies, pages-apart}
 use Rattle.steps.specs.Chip.{relocate-does}
 use Rattle.lent.specs.Shapes.{room-after-read}
 use Rattle.words.specs.Runs.{getD-any}
-use Rattle.lent.specs.Model.{geometry, region, small}
-use Rattle.lent.specs.declared.Record.{Record}
 use Rattle.steps.proofs.chip.relocate.Statement.{statement}
 use Rattle.steps.proofs.chip.relocate.Tie as tie
 
@@ -57,12 +54,8 @@ count-read-requires c κs = search needs
 claim-next-requires : tie.Need-claim-next-requires
 claim-next-requires c κs =
     let start = c .before .before .before .before .before .before .before .before .before .before .before .before in
-    let a = start .args in
-    let read = c .before .count-read .ensures in (
-      start .pre .0 .1,
-      subst (λ (k : Record). Has-next (geometry (a .g)) (region (a .r)) (small k)) (sym (read .0)) (start .pre .1 .0),
-      room-after-read 1 _ _ (start .pre .1 .1) (read .1),
-    )
+    let read = c .before .count-read .ensures in
+    (start .pre .0 .1, next-same (read .0) (start .pre .1 .0), room-after-read 1 _ _ (start .pre .1 .1) (read .1))
 
 mark-requires : tie.Need-mark-requires
 mark-requires c κs =
