@@ -1,5 +1,7 @@
 -- The modules of this crate.
 pub mod Answers
+pub mod Sizes
 pub mod Tested
 pub mod Format
 pub mod Check
+pub mod Run

@@ -2,6 +2,7 @@
 // record, every lent list and the counts by citing the call's definition. `fits` says whether the lengths are right that only the caller
 // knows, as that of the record's words at the C boundary.
 pub mod counting;
+pub mod run;
 pub mod tests;
 
 use crate::counting::put_counts;

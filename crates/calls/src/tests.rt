@@ -14,6 +14,7 @@ ghost use Rattle.scope.specs.Boundary.{counts-words};
 ghost use Rattle.scope.specs.Calls.{state-sizes, size-tests, state-tests, page-tests};
 ghost use Rattle.scope.specs.Replies.{first-applying, right-sizes};
 ghost use Rattle.soundness.specs.Sizes.{sizes};
+ghost use Rattle.calls.specs.Sizes.{buffer-right, run-right};
 
 // The caller's own lengths and that of the counts.
 pub fn lengths_right(fits: bool, counts: usize) -> bool
@@ -23,6 +24,39 @@ pub fn lengths_right(fits: bool, counts: usize) -> bool
         return false;
     }
     counts == 3
+}
+
+// Those, and that of the page buffer.
+pub fn page_lengths_right(g: Geometry, fits: bool, buffer: usize, counts: usize) -> bool
+    ensures { λ r. ⌜ r ≡ buffer-right (geometry g) buffer (fits && eqb counts counts-words) ⌝ }
+{
+    if buffer != g.w as usize {
+        return false;
+    }
+    lengths_right(fits, counts)
+}
+
+// Those, and what a run of n requests lends. There are few enough before any number is multiplied.
+pub fn run_lengths_right(
+    g: Geometry,
+    fits: bool,
+    n: usize,
+    words: usize,
+    answers: usize,
+    counts: usize,
+) -> bool
+    ensures { λ r. ⌜ r ≡ run-right (geometry g) n words answers (fits && eqb counts counts-words) ⌝ }
+{
+    if 1024 < n {
+        return false;
+    }
+    if words != n * g.w as usize {
+        return false;
+    }
+    if answers != n {
+        return false;
+    }
+    lengths_right(fits, counts)
 }
 
 // GEOMETRY, and LENGTH of the state's slices and of all others together.

@@ -1,0 +1,47 @@
+-- A run in its parts: what `begin`, the requests served and `finish` do, and that together they are the call of the definitions.
+use Prim.Native.Nat.{ℕ}
+use mathlib.Core.Path.{_≡_, sym, ap, _∙_}
+use mathlib.Core.Bool.{Bool, _&&_}
+use mathlib.Core.List.{List, _++_}
+use lib.Dec.{eqb, leb}
+use Rattle.lent.specs.declared.Record.{Record}
+use Rattle.lent.specs.Model.{counts}
+use Rattle.scope.specs.Geometry.{Geometry}
+use Rattle.scope.specs.Lent.{State, Request, most-requests}
+use Rattle.scope.specs.Operations.{no-counts}
+use Rattle.scope.specs.Replies.{Test, first-applying, right-sizes}
+use Rattle.scope.specs.Boundary.{counts-words}
+use Rattle.scope.specs.Calls.{state-sizes, state-tests}
+use Rattle.calls.specs.declared.run.Request.{Request as Asked}
+use Rattle.calls.specs.declared.run.Running.{Running}
+use Rattle.calls.specs.Answers.{put}
+use Rattle.calls.specs.Sizes.{sizes-of-run, run-right, with-run}
+
+abbrev pub request : Asked → Request
+request q = record { kind = q .kind; page = q .page }
+
+-- The tests of a run of n requests, by the lengths of what it lends.
+abbrev pub run-tests : Geometry → Bool → ℕ → ℕ → ℕ → State → List Test
+run-tests g boundary n words answers s =
+    state-tests g (right-sizes (state-sizes g s ++ sizes-of-run g n words answers) && leb n most-requests && boundary) s
+
+-- The code tests with `right`, its own name for whether the lengths beside the state's are right.
+pub run-tested : (g : Geometry) (s : State) (n words answers : ℕ) (others : Bool) {r : ℕ} {right : Bool}
+    → right ≡ run-right g n words answers others → r ≡ first-applying (state-tests g (right-sizes (state-sizes g s) && right) s)
+    → r ≡ first-applying (run-tests g others n words answers s)
+run-tested g s n words answers others named tested =
+    tested
+    ∙ ap (λ (b : Bool). first-applying (state-tests g (right-sizes (state-sizes g s) && b) s)) named
+    ∙ ap (λ (b : Bool). first-applying (state-tests g b s)) (sym (with-run g s n words answers others))
+
+-- The tests made, and nothing else.
+pub record Begun (g : Geometry) (fits : Bool) (n words answers counted : ℕ) (s : State) (r : Running) (s′ : State) : Type 0 where
+  pub tested : r .answer ≡ first-applying (run-tests g (fits && eqb counted counts-words) n words answers s)
+  pub uncounted : counts (r .counts) ≡ no-counts
+  pub kept : s′ ≡ s
+
+-- The counts handed over.
+pub record Finished (cur : Running) (given : List ℕ) (answer : ℕ) (rec : Record) (given′ : List ℕ) : Type 0 where
+  pub answered : answer ≡ cur .answer
+  pub recorded : rec ≡ cur .rec
+  pub handed : given′ ≡ put given (counts (cur .counts))
