@@ -1,5 +1,5 @@
-// The numbers that travel by value: the geometry, the small record, the counts, a region, and an entry taken apart. Their models,
-// and the shape of every step's contract, stand in specs/.
+// The words that have a meaning, and the numbers that travel by value: the geometry, the small record, the counts, a region, and an
+// entry taken apart. Their models, and the shape of every step's contract, stand in specs/.
 ghost use mathlib.Core.Path.{_≡_};
 ghost use Rattle.scope.specs.Lent.{decode};
 ghost use Rattle.lent.specs.Model.{counts, entry};

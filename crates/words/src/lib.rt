@@ -1,5 +1,5 @@
-// Leaves over lent slices, each with a contract on the whole list. runs: words filled and copied; entries: the cache's entries;
-// states: the spare's state words.
+// Leaves over lent slices, each with a contract on the whole list. runs: words filled, copied and stored; entries: the cache's
+// entries; states: the spare's state words; blocks: searches by the state of a block's first page.
 pub mod blocks;
 pub mod entries;
 pub mod runs;
