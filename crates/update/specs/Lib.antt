@@ -5,3 +5,4 @@ pub mod Starts
 pub mod Moving
 pub mod Collecting
 pub mod Writing
+pub mod Settling

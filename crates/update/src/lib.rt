@@ -6,15 +6,17 @@ use page::begin;
 use page::finish;
 use steps::chip::next_page;
 use steps::chip::set_word;
+use touched::next_touched;
 use touched::set_words;
 ghost use mathlib.Core.List.{[], _∷_};
 ghost use Prim.Native.Nat.{_≤_};
 ghost use Rattle.scope.specs.Lent.{translation-page};
-ghost use Rattle.scope.specs.Steps.{of-page, update};
+ghost use Rattle.scope.specs.Steps.{of-page, update, update-all};
 ghost use Rattle.lent.specs.Model.{geometry};
 ghost use Rattle.update.specs.Moves.{moves};
 ghost use Rattle.update.specs.Index.{Does-index, Index-ready};
 ghost use Rattle.update.specs.Writing.{Page-ready};
+ghost use Rattle.update.specs.Settling.{Settle-ready};
 
 pub mod page;
 pub mod room;
@@ -70,4 +72,28 @@ fn update_page(
     let q = next_page(g, Region::Translation, rec);
     set_words(g, q, t, waiting, chip);
     finish(begun, g, t, spare, directory)
+}
+
+// All that waits is settled: each translation page that it touches, in rising number, is updated once.
+pub fn settle(
+    work: Work,
+    g: Geometry,
+    waiting: Waiting,
+    chip: &mut [u32],
+    spare: &mut [u32],
+    directory: &mut [u32],
+) -> Work
+    requires { ⌜ Settle-ready (geometry g) (now chip) (now spare) (now directory) work waiting ⌝ }
+    ensures { λ r. ⌜ Does-index (update-all (geometry g) (moves waiting))
+        (now (chip .entry)) (now (spare .entry)) (now (directory .entry)) work tt
+        (now (chip .exit)) (now (spare .exit)) (now (directory .exit)) r ⌝ }
+{
+    let m = directory.len() as u32;
+    let mut settled = work;
+    let mut t = next_touched(g, waiting, 0, m);
+    while t < m {
+        settled = update_page(settled, g, t, waiting, chip, spare, directory);
+        t = next_touched(g, waiting, t + 1, m);
+    }
+    settled
 }
