@@ -7,9 +7,9 @@ use native.Mathlib.Omega.{arith}
 use lib.Dec.{leb}
 use borrow.Author.Tests.{lt-ltb, le-ltb, le-leb, lt-leb}
 use Rattle.scope.specs.Geometry.{Geometry, blocks}
-use Rattle.scope.specs.Regions.{Region, Translation}
+use Rattle.scope.specs.Regions.{Translation}
 use Rattle.scope.specs.Lent.{State}
-use Rattle.scope.specs.Operations.{Erase, Counts, counts-add, counted, look, perform, set-small, _>>=_}
+use Rattle.scope.specs.Operations.{Erase, perform}
 use Rattle.scope.specs.Room.{erased-blocks, victim, move-pages, open-lowest, collect, open-or-collect, make-room}
 use Rattle.scope.specs.Steps.{directory-follows}
 use Rattle.flash.specs.Listed.{cost-none}
@@ -19,12 +19,11 @@ use Rattle.region.specs.DirectoryFollows.{directory-view, Translation-only, sin
 use Rattle.region.specs.Collect.{opened-lowest}
 use Rattle.lent.specs.declared.Work.{Work}
 use Rattle.lent.specs.Model.{small}
-use Rattle.lent.specs.Does.{Does}
 use Rattle.lent.specs.DoesLaws.{does-give, does-look, does-look-at, does-bind, does-cond-true, does-cond-false}
 use Rattle.lent.specs.Shapes.{Does-flash, Does-by-spare, Room-to-count, room-after}
 use Rattle.steps.specs.Whole.{Blocks-whole, open-full}
 use Rattle.update.specs.Index.{Does-index, no-cache, index-state, Index-lent, index-lengths, less-room, Room-ready}
-use Rattle.update.specs.Starts.{Starts, collection-starts}
+use Rattle.update.specs.Starts.{Starts, collection-starts, opened-is, opening-counts}
 use Rattle.update.specs.Moving.{Copy-ready, Copied-upto, still-lent, still-counting}
 
 -- Room where the open block is full: of two erased blocks one is opened, and else one is collected.
@@ -44,16 +43,6 @@ pub collect-ready : {g : Geometry} {chip spare directory : List ℕ} {w : Work} 
     → ((s : State) → s .spare ≡ spare → erased-blocks g Translation s ≡ n) → n < 2 → Collect-ready g chip spare directory w
 collect-ready {g} {chip} {spare} {directory} {w} full found one =
     record { full = full; few = omega (arith, found (index-state g chip spare directory w) refl) }
-
--- What opening a block leaves, and that it counts nothing.
-module _ (g : Geometry) (r : Region) {s s′ : State} {c c′ : Counts} (d : Does (open-lowest g r) s c tt s′ c′) where
-  opened-is : opened-lowest g r s ≡ s′
-  unfolding open-lowest look set-small _>>=_
-  opened-is = d .after
-
-  counts-kept : counts-add c (counted []) ≡ c′
-  unfolding open-lowest look set-small _>>=_
-  counts-kept = d .counting
 
 -- The erased block is opened, and the victim found.
 module _ {g : Geometry} {chip spare directory : List ℕ} {w w₁ : Work} {v : ℕ} (h : Collect-ready g chip spare directory w)
@@ -77,7 +66,7 @@ module _ {g : Geometry} {chip spare directory : List ℕ} {w w₁ : Work} {v : �
         starts = subst₂ (Starts g Translation directory-view (since g s₁)) (found s refl) is-opened
             (collection-starts (directory-follower g s₁) s (lent .accepted) (index-lengths w lent) (h .full .ready .holds) since-opened (h .full .full) (h .few));
         counting = room-after (2 * g .P) 0 (w .counts) (w₁ .counts) [] (less-room (omega arith) (h .full .ready .counting)) (omega (arith, cost-none))
-            (counts-kept g Translation (opened chip directory (no-cache g)));
+            (opening-counts g Translation (opened chip directory (no-cache g)));
       }
     where
       lent : Index-lent g chip spare directory

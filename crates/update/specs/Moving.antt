@@ -1,18 +1,17 @@
 -- A collection's copies: what a page's move does, followed by the directory, and what holds as they go on.
 use Prim.Native.Nat.{ℕ, zero, suc, _+_, _*_, _-_, _≤_, _<_}
-use mathlib.Core.Path.{_≡_, refl, sym, ap, subst}
-use mathlib.Core.Logic.{_≢_}
-use mathlib.Core.Bool.{Bool}
+use mathlib.Core.Path.{_≡_, ap, subst}
+use mathlib.Core.Bool.{Bool, true, false}
 use mathlib.Core.List.{List, [], _++_}
 use native.Mathlib.Numerals.{add-one}
 use native.Mathlib.Omega.{arith}
-use lib.ListN.{length, getD, set}
-use borrow.Author.Tests.{eq-eqb, ne-eqb}
+use lib.ListN.{length}
+use borrow.Author.Tests.{eqb-true}
 use Rattle.scope.specs.Counting.{count}
 use Rattle.scope.specs.Geometry.{Geometry, pages}
 use Rattle.scope.specs.Regions.{Region, Translation, page-in, Has-page}
 use Rattle.scope.specs.SmallRecord.{open-block, next-offset}
-use Rattle.scope.specs.Lent.{none, valid, State, Mapping, state-of, owner-of, is-valid}
+use Rattle.scope.specs.Lent.{valid, State, Mapping, state-of, owner-of, is-valid}
 use Rattle.scope.specs.Operations.{Counts}
 use Rattle.scope.specs.Room.{Following, move-if-valid, move-pages}
 use Rattle.scope.specs.Steps.{directory-names-it, directory-follows}
@@ -24,9 +23,8 @@ use Rattle.region.specs.DirectoryFollows.{directory-view, since, directory-foll
 use Rattle.region.specs.Copied.{Copied, move-pages-law}
 use Rattle.lent.specs.declared.Work.{Work}
 use Rattle.lent.specs.Does.{Does}
-use Rattle.lent.specs.DoesLaws.{does-ends, state-same, does-give, does-look-at, does-bind, does-set-directory}
-use Rattle.lent.specs.Shapes.{Does-flash, Room-to-count, room-after}
-use Rattle.words.specs.Runs.{getD-any}
+use Rattle.lent.specs.DoesLaws.{does-give, does-look-at, does-bind}
+use Rattle.lent.specs.Shapes.{Does-flash, Does-directory, Room-to-count, room-after}
 use Rattle.steps.specs.Lies.{spare-lies}
 use Rattle.steps.specs.Chip.{relocate, move-does}
 use Rattle.update.specs.Index.{Does-index, Index-lent, spare-of, no-cache, index-state, lengths-lent, less-room}
@@ -49,32 +47,27 @@ module _ {g : Geometry} {chip spare directory : List ℕ} {w : Work} {p : ℕ} (
   pub is-small : p < 65536
   is-small = spare-lies (spare-of (ready .lent)) p on-chip .page-to
 
-  -- The state as the code reads it.
-  pub state-read : getD spare (p * 2) 0 ≡ state-of p spare
-  state-read = getD-any spare (p * 2) 0 none (omega (arith, spare-lies (spare-of (ready .lent)) p on-chip .words))
-
   -- A valid page's owner has a word in the directory.
-  pub owner-listed : state-of p spare ≡ valid → owner-of p spare < length directory
-  owner-listed is-valid =
-      omega (arith, ready .lent .directory-fits, ready .fits .pages-fit p (ready .here) .owned (λ e. omega arith))
+  pub owner-listed : is-valid p spare ≡ true → owner-of p spare < length directory
+  owner-listed told =
+      omega (arith, ready .lent .directory-fits, ready .fits .pages-fit p (ready .here) .owned (λ e. omega (arith, eqb-true (state-of p spare) valid told)))
 
 module _ (g : Geometry) (p : ℕ) {chip spare directory : List ℕ} {w : Work} where
   -- A valid page is moved, and the directory follows.
-  pub move-moves : {chip′ spare′ directory′ : List ℕ} {w′ : Work} {t q : ℕ} → state-of p spare ≡ valid
+  pub move-moves : {chip′ spare′ directory′ : List ℕ} {w′ : Work} {t q : ℕ} → is-valid p spare ≡ true
       → Does-flash (relocate g Translation p) chip spare w (record { logical = t; physical = q }) chip′ spare′ w′
-      → directory′ ≡ set directory t q
+      → ((w : Work) → Does-directory (directory-names-it t q) directory w tt directory′ w)
       → Does-index (move-if-valid g Translation directory-follows p) chip spare directory w [] chip′ spare′ directory′ w′
-  unfolding move-if-valid directory-names-it
-  move-moves is-valid relocated follows cache =
-      does-bind _ (does-look-at _ (eq-eqb _ _ is-valid))
-      (move-does g Translation directory-follows p (relocated directory cache)
-      (does-bind _ (does-ends (does-set-directory _) (state-same refl refl (sym follows) refl refl) refl) (does-give [])))
+  unfolding move-if-valid
+  move-moves {chip′} {spare′} {w′ = w′} told relocated follows cache =
+      does-bind _ (does-look-at _ told)
+      (move-does g Translation directory-follows p (relocated directory cache) (does-bind _ (follows w′ chip′ spare′ cache) (does-give [])))
 
   -- Another is passed over.
-  pub move-passes : state-of p spare ≢ valid
+  pub move-passes : is-valid p spare ≡ false
       → Does-index (move-if-valid g Translation directory-follows p) chip spare directory w [] chip spare directory w
   unfolding move-if-valid
-  move-passes not-valid cache = does-bind _ (does-look-at _ (ne-eqb _ _ not-valid)) (does-give [])
+  move-passes told cache = does-bind _ (does-look-at _ told) (does-give [])
 
 -- ---- one page more
 

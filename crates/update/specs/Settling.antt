@@ -18,15 +18,9 @@ use Rattle.promises.specs.Update.{update-bound, Updated, update-law}
 use Rattle.lent.specs.declared.Work.{Work}
 use Rattle.lent.specs.DoesLaws.{does-give, does-for-none, does-for-more}
 use Rattle.lent.specs.Shapes.{Room-to-count, room-after}
-use Rattle.update.specs.declared.Waiting.{Waiting}
 use Rattle.update.specs.Index.{Does-index, no-cache, index-state, Index-lent, index-lengths, lengths-lent, less-room, Index-ready}
-use Rattle.update.specs.Moves.{moves, Next-touched}
+use Rattle.update.specs.Moves.{Next-touched}
 use Rattle.update.specs.Writing.{Page-ready}
-
--- What settling asks for.
-pub record Settle-ready (g : Geometry) (chip spare directory : List ℕ) (w : Work) (waiting : Waiting) : Type 0 where
-  pub ready : Index-ready g chip spare directory w (moves waiting)
-  pub few : waiting .n ≤ 64
 
 -- There are few translation pages.
 pub M-small : {g : Geometry} → Accepted g → M g < 65536

@@ -16,7 +16,6 @@ ghost use Rattle.lent.specs.Model.{geometry};
 ghost use Rattle.update.specs.Moves.{moves};
 ghost use Rattle.update.specs.Index.{Does-index, Index-ready};
 ghost use Rattle.update.specs.Writing.{Page-ready};
-ghost use Rattle.update.specs.Settling.{Settle-ready};
 
 pub mod page;
 pub mod room;
@@ -83,7 +82,7 @@ pub fn settle(
     spare: &mut [u32],
     directory: &mut [u32],
 ) -> Work
-    requires { ⌜ Settle-ready (geometry g) (now chip) (now spare) (now directory) work waiting ⌝ }
+    requires { ⌜ Index-ready (geometry g) (now chip) (now spare) (now directory) work (moves waiting) × (waiting .n ≤ 64) ⌝ }
     ensures { λ r. ⌜ Does-index (update-all (geometry g) (moves waiting))
         (now (chip .entry)) (now (spare .entry)) (now (directory .entry)) work tt
         (now (chip .exit)) (now (spare .exit)) (now (directory .exit)) r ⌝ }

@@ -6,7 +6,9 @@ use steps::blocks::erased_blocks;
 use steps::blocks::open_lowest;
 use steps::blocks::victim;
 use steps::chip::erase;
+use steps::chip::is_valid;
 use steps::chip::relocate;
+use steps::directory::names_it;
 ghost use mathlib.Core.List.{[]};
 ghost use Rattle.scope.specs.Regions.{Translation};
 ghost use Rattle.scope.specs.Room.{move-if-valid, move-pages, collect, open-or-collect, make-room};
@@ -28,12 +30,11 @@ fn move_if_valid(
     requires { ⌜ Move-ready (geometry g) (now chip) (now spare) (now directory) work p ⌝ }
     ensures { λ r. ⌜ Does-index (move-if-valid (geometry g) Translation directory-follows p) (now (chip .entry)) (now (spare .entry)) (now (directory .entry)) work [] (now (chip .exit)) (now (spare .exit)) (now (directory .exit)) r ⌝ }
 {
-    if spare[p as usize * 2] != 65535 {
+    if !is_valid(p, spare) {
         return work;
     }
     let moved = relocate(g, Region::Translation, p, chip, spare, work);
-    let t = moved.owner as usize;
-    directory[t] = moved.page;
+    names_it(moved.owner, moved.page, directory);
     moved.work
 }
 

@@ -17,32 +17,32 @@ abbrev μ-loop : tie.MeasureT-loop
 
 cast-m : tie.Need-cast-m Inv-loop μ-loop
 cast-m c =
-    let ready = c .before .before .before .pre .ready in
+    let ready = c .before .before .before .pre .0 in
     omega (arith, M-small (ready .lent .accepted), ready .lent .directory-fits)
 
 next-touched-requires : tie.Need-next-touched-requires Inv-loop μ-loop
 next-touched-requires c κs =
     let start = c .before .before .before in
-    (start .pre .ready .lent .accepted, start .pre .few, omega arith)
+    (start .pre .0 .lent .accepted, start .pre .1, omega arith)
 
 loop-holds : tie.Need-loop-holds Inv-loop μ-loop
-loop-holds c = settle-starts (c .before .before .before .before .pre .ready) refl (c .next-touched .ensures)
+loop-holds c = settle-starts (c .before .before .before .before .pre .0) refl (c .next-touched .ensures)
 
 update-page-requires : tie.Need-update-page-requires Inv-loop μ-loop
 update-page-requires c κs =
     let at-loop = c .before .before .before .before in
     let start = at-loop .before .before .before .before .before in
-    (settle-next (start .pre .ready) (at-loop .loop .inv) (c .before .before .before .loop-test .taken), start .pre .few)
+    (settle-next (start .pre .0) (at-loop .loop .inv) (c .before .before .before .loop-test .taken), start .pre .1)
 
 add-next-touched : tie.Need-add-next-touched Inv-loop μ-loop
 add-next-touched c =
-    let ready = c .before .before .before .before .before .before .before .before .before .before .before .before .before .before .before .before .pre .ready in
+    let ready = c .before .before .before .before .before .before .before .before .before .before .before .before .before .before .before .before .pre .0 in
     omega (arith, M-small (ready .lent .accepted), ready .lent .directory-fits, c .before .before .before .before .before .before .before .before .before .before .loop-test .taken)
 
 next-touched-requires-2 : tie.Need-next-touched-requires-2 Inv-loop μ-loop
 next-touched-requires-2 c κs =
     let start = c .before .before .before .before .before .before .before .before .before .before .before .before .before .before .before .before in
-    (start .pre .ready .lent .accepted, start .pre .few, omega (arith, c .before .before .before .before .before .before .before .before .before .before .loop-test .taken))
+    (start .pre .0 .lent .accepted, start .pre .1, omega (arith, c .before .before .before .before .before .before .before .before .before .before .loop-test .taken))
 
 loop-less : tie.Need-loop-less Inv-loop μ-loop
 loop-less c = omega (arith, c .next-touched2 .ensures .from-there, c .next-touched2 .ensures .up-to, c .before .before .before .before .before .before .before .before .before .before .before .loop-test .taken)
@@ -50,19 +50,19 @@ loop-less c = omega (arith, c .next-touched2 .ensures .from-there, c .next-touch
 loop-again : tie.Need-loop-again Inv-loop μ-loop
 loop-again c =
     let at-loop = c .before .before .before .before .before .before .before .before .before .before .before .before in
-    settle-goes-on (at-loop .before .before .before .before .before .pre .ready) (at-loop .loop .inv) (c .before .before .before .before .before .before .before .before .before .before .before .loop-test .taken) (c .before .before .before .before .before .before .before .update-page .ensures) (c .next-touched2 .ensures)
+    settle-goes-on (at-loop .before .before .before .before .before .pre .0) (at-loop .loop .inv) (c .before .before .before .before .before .before .before .before .before .before .before .loop-test .taken) (c .before .before .before .before .before .before .before .update-page .ensures) (c .next-touched2 .ensures)
 
 same-length : tie.Need-same-length Inv-loop μ-loop
-same-length c = c .before .loop .inv .so-far .lent .chip-fits ∙ sym (c .before .before .before .before .before .before .pre .ready .lent .chip-fits)
+same-length c = c .before .loop .inv .so-far .lent .chip-fits ∙ sym (c .before .before .before .before .before .before .pre .0 .lent .chip-fits)
 
 same-length-2 : tie.Need-same-length-2 Inv-loop μ-loop
-same-length-2 c = c .before .loop .inv .so-far .lent .spare-fits ∙ sym (c .before .before .before .before .before .before .pre .ready .lent .spare-fits)
+same-length-2 c = c .before .loop .inv .so-far .lent .spare-fits ∙ sym (c .before .before .before .before .before .before .pre .0 .lent .spare-fits)
 
 same-length-3 : tie.Need-same-length-3 Inv-loop μ-loop
-same-length-3 c = c .before .loop .inv .so-far .lent .directory-fits ∙ sym (c .before .before .before .before .before .before .pre .ready .lent .directory-fits)
+same-length-3 c = c .before .loop .inv .so-far .lent .directory-fits ∙ sym (c .before .before .before .before .before .before .pre .0 .lent .directory-fits)
 
 returns : tie.Need-returns Inv-loop μ-loop
-returns c = settle-ends (c .before .before .before .before .before .before .pre .ready) (c .before .loop .inv) (c .loop-test .left)
+returns c = settle-ends (c .before .before .before .before .before .before .pre .0) (c .before .loop .inv) (c .loop-test .left)
 
 pub settle-spec : {M : Type 1} → statement M
 settle-spec =
