@@ -1,16 +1,13 @@
--- A collection of the translation region, from a full open block and one erased block: what each of its parts asks for, and that the parts
--- together do it.
+-- A collection of the translation region, from a full open block and one erased block: what each of its parts asks for, from what the
+-- parts before it did.
 use Prim.Native.Nat.{ℕ, _*_, _≤_, _<_}
 use mathlib.Core.Path.{_≡_, refl, subst, subst₂}
 use mathlib.Core.List.{List, []}
 use native.Mathlib.Omega.{arith}
-use lib.Dec.{leb}
-use borrow.Author.Tests.{lt-ltb, le-ltb, le-leb, lt-leb}
 use Rattle.scope.specs.Geometry.{Geometry, blocks}
 use Rattle.scope.specs.Regions.{Translation}
 use Rattle.scope.specs.Lent.{State}
-use Rattle.scope.specs.Operations.{Erase, perform}
-use Rattle.scope.specs.Room.{erased-blocks, victim, move-pages, open-lowest, collect, open-or-collect, make-room}
+use Rattle.scope.specs.Room.{erased-blocks, victim, move-pages, open-lowest}
 use Rattle.scope.specs.Steps.{directory-follows}
 use Rattle.flash.specs.Listed.{cost-none}
 use Rattle.flash.specs.Places.{block-on-chip}
@@ -19,11 +16,11 @@ use Rattle.region.specs.DirectoryFollows.{directory-view, Translation-only, sin
 use Rattle.region.specs.Collect.{opened-lowest}
 use Rattle.lent.specs.declared.Work.{Work}
 use Rattle.lent.specs.Model.{small}
-use Rattle.lent.specs.DoesLaws.{does-give, does-look, does-look-at, does-bind, does-cond-true, does-cond-false}
-use Rattle.lent.specs.Shapes.{Does-flash, Does-by-spare, Room-to-count, room-after}
+use Rattle.lent.specs.Shapes.{Does-by-spare, Room-to-count, room-after}
 use Rattle.steps.specs.Whole.{Blocks-whole, open-full}
 use Rattle.update.specs.Index.{Does-index, no-cache, index-state, Index-lent, index-lengths, less-room, Room-ready}
-use Rattle.update.specs.Starts.{Starts, collection-starts, opened-is, opening-counts}
+use Rattle.update.specs.Starts.{Starts, collection-starts}
+use Rattle.update.specs.Room.{opened-is, opening-counts}
 use Rattle.update.specs.Moving.{Copy-ready, Copied-upto, still-lent, still-counting}
 
 -- Room where the open block is full: of two erased blocks one is opened, and else one is collected.
@@ -46,7 +43,8 @@ collect-ready {g} {chip} {spare} {directory} {w} full found one =
 
 -- The erased block is opened, and the victim found.
 module _ {g : Geometry} {chip spare directory : List ℕ} {w w₁ : Work} {v : ℕ} (h : Collect-ready g chip spare directory w)
-    (found : (s : State) → s .spare ≡ spare → victim g Translation s ≡ v) (opened : Does-by-spare (open-lowest g Translation) spare w tt w₁) where
+    (found : (s : State) → s .spare ≡ spare → victim g Translation s ≡ v)
+    (opened : Does-by-spare (open-lowest g Translation) spare w tt w₁) where
   abbrev s : State
   s = index-state g chip spare directory w
 
@@ -64,16 +62,18 @@ module _ {g : Geometry} {chip spare directory : List ℕ} {w w₁ : Work} {v : �
       record {
         lent = lent;
         starts = subst₂ (Starts g Translation directory-view (since g s₁)) (found s refl) is-opened
-            (collection-starts (directory-follower g s₁) s (lent .accepted) (index-lengths w lent) (h .full .ready .holds) since-opened (h .full .full) (h .few));
-        counting = room-after (2 * g .P) 0 (w .counts) (w₁ .counts) [] (less-room (omega arith) (h .full .ready .counting)) (omega (arith, cost-none))
-            (opening-counts g Translation (opened chip directory (no-cache g)));
+            (collection-starts (directory-follower g s₁) s (lent .accepted) (index-lengths w lent) (h .full .ready .holds) since-opened
+            (h .full .full) (h .few));
+        counting = room-after (2 * g .P) 0 (w .counts) (w₁ .counts) [] (less-room (omega arith) (h .full .ready .counting))
+            (omega (arith, cost-none)) (opening-counts g Translation (opened chip directory (no-cache g)));
       }
     where
       lent : Index-lent g chip spare directory
       lent = h .full .ready .lent
 
 -- The victim is erased after the copies.
-module _ {g : Geometry} {chip spare directory chip₁ spare₁ directory₁ : List ℕ} {w w₁ : Work} {v : ℕ} (ready : Copy-ready g chip spare directory w v)
+module _ {g : Geometry} {chip spare directory chip₁ spare₁ directory₁ : List ℕ} {w w₁ : Work} {v : ℕ}
+    (ready : Copy-ready g chip spare directory w v)
     (moved : Does-index (move-pages g Translation directory-follows v (g .P)) chip spare directory w [] chip₁ spare₁ directory₁ w₁) where
   all-copied : Copied-upto g chip spare directory w v (g .P) chip₁ spare₁ directory₁ w₁
   all-copied = record { upto = omega arith; does = moved }
@@ -90,45 +90,3 @@ module _ {g : Geometry} {chip spare directory chip₁ spare₁ directory₁ : Li
         on-chip = block-on-chip g Translation v (ready .starts .in-region);
         counting = less-room (omega arith) (still-counting ready all-copied);
       }
-
--- The parts together.
-pub collect-does : (g : Geometry) {chip spare directory chip₁ spare₁ directory₁ chip₂ spare₂ : List ℕ} {w w₀ w₁ w₂ : Work} {v : ℕ}
-    → ((s : State) → s .spare ≡ spare → victim g Translation s ≡ v)
-    → Does-by-spare (open-lowest g Translation) spare w tt w₀
-    → Does-index (move-pages g Translation directory-follows v (g .P)) chip spare directory w₀ [] chip₁ spare₁ directory₁ w₁
-    → Does-flash (perform g (Erase v)) chip₁ spare₁ w₁ tt chip₂ spare₂ w₂
-    → Does-index (collect g Translation directory-follows) chip spare directory w tt chip₂ spare₂ directory₁ w₂
-unfolding collect
-collect-does g {chip} {directory = directory} {directory₁ = directory₁} found opened moved erased cache =
-    does-bind _ (does-look-at _ (found _ refl))
-    (does-bind _ (opened chip directory cache)
-    (does-bind _ (moved cache)
-    (does-bind _ (does-give tt) (erased directory₁ cache))))
-
--- ---- make room where the open block is full, and where it may not be
-
-module _ (g : Geometry) {chip spare directory : List ℕ} {w : Work} {n : ℕ} (found : (s : State) → s .spare ≡ spare → erased-blocks g Translation s ≡ n) where
-  pub opens : {w′ : Work} → 2 ≤ n → Does-by-spare (open-lowest g Translation) spare w tt w′
-      → Does-index (open-or-collect g Translation directory-follows) chip spare directory w tt chip spare directory w′
-  unfolding open-or-collect
-  opens two opened cache =
-      does-bind _ (does-look-at _ (found _ refl)) (does-cond-true (leb 2 n) _ _ (le-leb 2 n two) (opened chip directory cache))
-
-  pub collects : {chip′ spare′ directory′ : List ℕ} {w′ : Work} → n < 2
-      → Does-index (collect g Translation directory-follows) chip spare directory w tt chip′ spare′ directory′ w′
-      → Does-index (open-or-collect g Translation directory-follows) chip spare directory w tt chip′ spare′ directory′ w′
-  unfolding open-or-collect
-  collects one collected cache =
-      does-bind _ (does-look-at _ (found _ refl)) (does-cond-false (leb 2 n) _ _ (lt-leb 2 n one) (collected cache))
-
-module _ (g : Geometry) {chip spare directory : List ℕ} {w : Work} where
-  pub has-room : w .rec .«translation_offset» < g .P
-      → Does-index (make-room g Translation directory-follows) chip spare directory w tt chip spare directory w
-  unfolding make-room
-  has-room room cache = does-bind _ (does-look _) (does-cond-true _ _ _ (lt-ltb _ _ room) (does-give tt))
-
-  pub makes-room : {chip′ spare′ directory′ : List ℕ} {w′ : Work} → g .P ≤ w .rec .«translation_offset»
-      → Does-index (open-or-collect g Translation directory-follows) chip spare directory w tt chip′ spare′ directory′ w′
-      → Does-index (make-room g Translation directory-follows) chip spare directory w tt chip′ spare′ directory′ w′
-  unfolding make-room
-  makes-room full made cache = does-bind _ (does-look _) (does-cond-false _ _ _ (le-ltb _ _ full) (made cache))

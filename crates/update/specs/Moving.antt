@@ -1,6 +1,7 @@
 -- A collection's copies: what a page's move does, followed by the directory, and what holds as they go on.
 use Prim.Native.Nat.{ℕ, zero, suc, _+_, _*_, _-_, _≤_, _<_}
 use mathlib.Core.Path.{_≡_, ap, subst}
+use mathlib.Core.Logic.{_≢_}
 use mathlib.Core.Bool.{Bool, true, false}
 use mathlib.Core.List.{List, [], _++_}
 use native.Mathlib.Numerals.{add-one}
@@ -11,7 +12,7 @@ use Rattle.scope.specs.Counting.{count}
 use Rattle.scope.specs.Geometry.{Geometry, pages}
 use Rattle.scope.specs.Regions.{Region, Translation, page-in, Has-page}
 use Rattle.scope.specs.SmallRecord.{open-block, next-offset}
-use Rattle.scope.specs.Lent.{valid, State, Mapping, state-of, owner-of, is-valid}
+use Rattle.scope.specs.Lent.{erased, valid, State, Mapping, state-of, owner-of, is-valid}
 use Rattle.scope.specs.Operations.{Counts}
 use Rattle.scope.specs.Room.{Following, move-if-valid, move-pages}
 use Rattle.scope.specs.Steps.{directory-names-it, directory-follows}
@@ -50,7 +51,8 @@ module _ {g : Geometry} {chip spare directory : List ℕ} {w : Work} {p : ℕ} (
   -- A valid page's owner has a word in the directory.
   pub owner-listed : is-valid p spare ≡ true → owner-of p spare < length directory
   owner-listed told =
-      omega (arith, ready .lent .directory-fits, ready .fits .pages-fit p (ready .here) .owned (λ e. omega (arith, eqb-true (state-of p spare) valid told)))
+      let written : state-of p spare ≢ erased = λ e. omega (arith, eqb-true (state-of p spare) valid told) in
+      omega (arith, ready .lent .directory-fits, ready .fits .pages-fit p (ready .here) .owned written)
 
 module _ (g : Geometry) (p : ℕ) {chip spare directory : List ℕ} {w : Work} where
   -- A valid page is moved, and the directory follows.
@@ -158,8 +160,8 @@ module _ {g : Geometry} {chip spare directory chip′ spare′ directory′ : Li
   next-ready more =
       record {
         lent = still-lent;
-        fits = subst (λ (x : State). Region-fits g Translation (x .chip) (x .spare) (open-block Translation (x .small)) (next-offset Translation (x .small)))
-            is-after (copied .copying .fits);
+        fits = subst (λ (x : State). Region-fits g Translation (x .chip) (x .spare) (open-block Translation (x .small))
+            (next-offset Translation (x .small))) is-after (copied .copying .fits);
         room = few;
         here = page-in-region g Translation v i (ready .starts .in-region) more;
         counting = still-counting;

@@ -43,8 +43,8 @@ upwards X t (suc d) step x =
     rw add-suc (step (t + d) (omega arith) (omega arith) (upwards X t d (λ k h l. step k h (omega arith)) x))
 
 -- The translation pages below t are done.
-pub record Settled-upto (g : Geometry) (ms : List Mapping) (chip spare directory : List ℕ) (w : Work) (t : ℕ) (chip′ spare′ directory′ : List ℕ) (w′ : Work)
-    : Type 0 where
+pub record Settled-upto (g : Geometry) (ms : List Mapping) (chip spare directory : List ℕ) (w : Work) (t : ℕ)
+    (chip′ spare′ directory′ : List ℕ) (w′ : Work) : Type 0 where
   pub does : Does-index (for t (λ k. update-touched g k (of-page g k ms))) chip spare directory w tt chip′ spare′ directory′ w′
   pub lent : Index-lent g chip′ spare′ directory′
   pub index : Index-holds g chip′ spare′ directory′ (w′ .rec .«open_translation») (w′ .rec .«translation_offset»)
@@ -100,7 +100,8 @@ unfolding update-touched
 touched-is g t [] h = absurd (omega arith)
 touched-is g t (m ∷ ms) h = refl
 
-module _ {g : Geometry} {ms : List Mapping} {chip spare directory chip₁ spare₁ directory₁ chip₂ spare₂ directory₂ : List ℕ} {w w₁ w₂ : Work} {t : ℕ}
+module _ {g : Geometry} {ms : List Mapping} {t : ℕ}
+    {chip spare directory chip₁ spare₁ directory₁ chip₂ spare₂ directory₂ : List ℕ} {w w₁ w₂ : Work}
     (below-L : (l : ℕ) → Waits ms l → l < g .L) (before : Settled-upto g ms chip spare directory w t chip₁ spare₁ directory₁ w₁)
     (below : t < M g) (touched : 1 ≤ length (of-page g t ms))
     (updated : Does-index (update g t (of-page g t ms)) chip₁ spare₁ directory₁ w₁ tt chip₂ spare₂ directory₂ w₂) where
@@ -122,21 +123,23 @@ module _ {g : Geometry} {ms : List Mapping} {chip spare directory chip₁ spare�
         does = λ cache. does-for-more _ t (before .does cache) (rw (touched-is g t (of-page g t ms) touched) (updated cache));
         lent = lengths-lent (before .lent .accepted) w₂ (subst (Lengths g) is-after (law .lengths));
         index = subst (Index-fits g) is-after (law .index);
-        counting = room-after (update-bound g * left g ms (suc t)) (update-bound g) (w₁ .counts) (w₂ .counts) (update g t (of-page g t ms) s .did)
-            (less-room (omega arith) (before .counting)) (law .costs) (updated (no-cache g) .counting);
+        counting = room-after (update-bound g * left g ms (suc t)) (update-bound g) (w₁ .counts) (w₂ .counts)
+            (update g t (of-page g t ms) s .did) (less-room (omega arith) (before .counting)) (law .costs) (updated (no-cache g) .counting);
       })
 
 -- ---- the loop: t is the next page that is touched, or M
 
-pub record Settling (g : Geometry) (ms : List Mapping) (chip spare directory : List ℕ) (w : Work) (m t : ℕ) (chip′ spare′ directory′ : List ℕ) (w′ : Work)
-    : Type 0 where
+pub record Settling (g : Geometry) (ms : List Mapping) (chip spare directory : List ℕ) (w : Work) (m t : ℕ)
+    (chip′ spare′ directory′ : List ℕ) (w′ : Work) : Type 0 where
   pub is-M : m ≡ M g
   pub up-to : t ≤ m
   pub touched : t < m → 1 ≤ length (of-page g t ms)
   pub so-far : Settled-upto g ms chip spare directory w t chip′ spare′ directory′ w′
 
-module _ {g : Geometry} {ms : List Mapping} {chip spare directory : List ℕ} {w : Work} {m : ℕ} (ready : Index-ready g chip spare directory w ms) where
-  pub settle-starts : {t : ℕ} → m ≡ length directory → Next-touched g ms 0 m t → Settling g ms chip spare directory w m t chip spare directory w
+module _ {g : Geometry} {ms : List Mapping} {chip spare directory : List ℕ} {w : Work} {m : ℕ}
+    (ready : Index-ready g chip spare directory w ms) where
+  pub settle-starts : {t : ℕ} → m ≡ length directory → Next-touched g ms 0 m t
+      → Settling g ms chip spare directory w m t chip spare directory w
   settle-starts is-m next =
       record {
         is-M = is-m ∙ ready .lent .directory-fits;
@@ -145,7 +148,8 @@ module _ {g : Geometry} {ms : List Mapping} {chip spare directory : List ℕ} {w
         so-far = to-next (none-settled ready) next;
       }
 
-  module _ {chip₁ spare₁ directory₁ : List ℕ} {w₁ : Work} {t : ℕ} (before : Settling g ms chip spare directory w m t chip₁ spare₁ directory₁ w₁) where
+  module _ {chip₁ spare₁ directory₁ : List ℕ} {w₁ : Work} {t : ℕ}
+      (before : Settling g ms chip spare directory w m t chip₁ spare₁ directory₁ w₁) where
     pub settle-next : t < m → Page-ready g chip₁ spare₁ directory₁ w₁ t
     settle-next below = next-page-ready (before .so-far) (omega (arith, before .is-M)) (before .touched below)
 
@@ -157,7 +161,8 @@ module _ {g : Geometry} {ms : List Mapping} {chip spare directory : List ℕ} {w
           is-M = before .is-M;
           up-to = next .up-to;
           touched = next .touched;
-          so-far = to-next (one-settled (ready .below-L) (before .so-far) (omega (arith, before .is-M)) (before .touched below) updated) next;
+          so-far = to-next
+              (one-settled (ready .below-L) (before .so-far) (omega (arith, before .is-M)) (before .touched below) updated) next;
         }
 
     pub settle-ends : m ≤ t → Does-index (update-all g ms) chip spare directory w tt chip₁ spare₁ directory₁ w₁

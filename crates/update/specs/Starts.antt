@@ -9,8 +9,7 @@ use Rattle.scope.specs.Regions.{Region, page-in, Has-block}
 use Rattle.scope.specs.SmallRecord.{open-block, next-offset}
 use Rattle.scope.specs.Lent.{erased, State, state-of}
 use Rattle.scope.specs.Blocks.{valid-pages}
-use Rattle.scope.specs.Operations.{Counts, counts-add, counted, look, set-small, _>>=_}
-use Rattle.scope.specs.Room.{Following, erased-blocks, lowest-erased, victim, open-lowest}
+use Rattle.scope.specs.Room.{Following, erased-blocks, lowest-erased, victim}
 use Rattle.flash.specs.Words.{Lengths}
 use Rattle.region.specs.Holds.{Holds}
 use Rattle.region.specs.Room.{Victim-law, Crowded, is-crowded, victim-of-crowded}
@@ -18,7 +17,6 @@ use Rattle.region.specs.Elsewhere.{open-with, offset-with}
 use Rattle.region.specs.Follower.{View, Invariant, Follower}
 use Rattle.region.specs.Moving.{Copying}
 use Rattle.region.specs.Collect.{opened-lowest, open-lowest-keeps}
-use Rattle.lent.specs.Does.{Does}
 
 -- Of the state with the block opened, s, and the victim v.
 pub record Starts (g : Geometry) (r : Region) (view : View) (Inv : Invariant) (v : ℕ) (s : State) : Type 0 where
@@ -48,13 +46,3 @@ collection-starts {g} {r} F s accepted lengths holds inv full few =
 
     law : Victim-law g r (s .spare) (victim g r s)
     law = victim-of-crowded g r s _ _ _ accepted (holds .fits) crowded
-
--- What opening a block leaves, and that it counts nothing.
-module _ (g : Geometry) (r : Region) {s s′ : State} {c c′ : Counts} (d : Does (open-lowest g r) s c tt s′ c′) where
-  pub opened-is : opened-lowest g r s ≡ s′
-  unfolding open-lowest look set-small _>>=_
-  opened-is = d .after
-
-  pub opening-counts : counts-add c (counted []) ≡ c′
-  unfolding open-lowest look set-small _>>=_
-  opening-counts = d .counting

@@ -9,7 +9,6 @@ use lib.ListN.{length, set, take, drop}
 use lib.Seq.{sets, sets-eq, set-set, length-sets, length-take-le, take-at, drop-at}
 use Rattle.scope.specs.Geometry.{Geometry, M, pages}
 use Rattle.scope.specs.Regions.{Translation}
-use Rattle.scope.specs.SmallRecord.{open-block, next-offset}
 use Rattle.scope.specs.Lent.{none, Entry, Place, State, Mapping, words-of, named, translation-page, translation-word}
 use Rattle.scope.specs.Sound.{Names}
 use Rattle.scope.specs.Operations.{Step, _>>=_, _>>_}
@@ -17,7 +16,7 @@ use Rattle.scope.specs.Room.{make-room, program-next}
 use Rattle.scope.specs.Steps.{set-words, mark-old, directory-names-it, directory-follows, update}
 use Rattle.flash.specs.Places.{page-on-chip}
 use Rattle.flash.specs.Words.{Lengths}
-use Rattle.region.specs.Holds.{Region-holds}
+use Rattle.region.specs.Holds.{Region-holds, Holds}
 use Rattle.region.specs.DirectoryFollows.{in-directory, translation-room-law}
 use Rattle.promises.specs.Index.{page-below}
 use Rattle.promises.specs.Stored.{length-set-words}
@@ -28,7 +27,8 @@ use Rattle.lent.specs.DoesLaws.{does-ends, state-same, does-look, does-bind}
 use Rattle.lent.specs.Shapes.{Does-directory, Room-to-count, room-after}
 use Rattle.words.specs.Runs.{set-before}
 use Rattle.steps.specs.Lies.{Spare-lent, words-lie, next-page, Has-next, next-same, next-on-chip}
-use Rattle.steps.specs.Chip.{marked, Claimed, program-does, mark-old-does, begun-words, Begun, begun-does, length-begun, room-after-begun, no-word-set, one-word-set}
+use Rattle.steps.specs.Chip.{marked, Claimed, program-does, mark-old-does}
+use Rattle.steps.specs.Chip.{begun-words, Begun, begun-does, length-begun, room-after-begun, no-word-set, one-word-set}
 use Rattle.update.specs.Index.{Does-index, no-cache, index-state, Index-lent, chip-of, spare-of, index-lengths, lengths-lent, less-room, Index-ready, Room-ready}
 
 -- What an update of translation page t asks for.
@@ -63,7 +63,8 @@ pub record Roomy (g : Geometry) (chip spare directory : List ℕ) (w : Work) (t 
   pub former : (p : ℕ) → named t directory ≡ Place p → p < pages g
   pub counting : Room-to-count n (w .counts)
 
-module _ {g : Geometry} {chip spare directory chip′ spare′ directory′ : List ℕ} {w w′ : Work} {t : ℕ} (ready : Page-ready g chip spare directory w t)
+module _ {g : Geometry} {chip spare directory chip′ spare′ directory′ : List ℕ} {w w′ : Work} {t : ℕ}
+    (ready : Page-ready g chip spare directory w t)
     (made : Does-index (make-room g Translation directory-follows) chip spare directory w tt chip′ spare′ directory′ w′) where
   abbrev s : State
   s = index-state g chip spare directory w
@@ -73,11 +74,13 @@ module _ {g : Geometry} {chip spare directory chip′ spare′ directory′ : Li
       let law = translation-room-law g s (ready .lent .accepted) (index-lengths w (ready .lent)) (ready .holds) in
       let is-after = made (no-cache g) .after in
       let lent = lengths-lent (ready .lent .accepted) w′ (subst (Lengths g) is-after (law .lengths)) in
-      let holds = subst (λ (x : State). Region-holds g Translation (x .chip) (x .spare) (open-block Translation (x .small)) (next-offset Translation (x .small)) (in-directory (x .directory)))
-      is-after (law .holds) in
+      let holds = subst (λ (x : State). Holds g Translation x (in-directory (x .directory))) is-after (law .holds) in
       record {
         lent = lent;
-        next = record { in-region = holds .fits .in-region; room = subst (λ (x : State). x .small .translation-offset < g .P) is-after (law .room) };
+        next = record {
+          in-region = holds .fits .in-region;
+          room = subst (λ (x : State). x .small .translation-offset < g .P) is-after (law .room);
+        };
         listed = omega (arith, lent .directory-fits, ready .below);
         former = λ p e. page-on-chip g Translation p (subst (Names g Translation spare′ t) e (holds .maps .names t (ready .below)) .0);
         counting = room-after 2 (2 * (g .P - 1) + 1) (w .counts) (w′ .counts) (make-room g Translation directory-follows s .did)
@@ -85,7 +88,8 @@ module _ {g : Geometry} {chip spare directory chip′ spare′ directory′ : Li
       }
 
 -- Room made, and the words that the update begins with put into the next page: over the chip and the work between the two.
-pub record Begins (g : Geometry) (t : ℕ) (chip spare directory : List ℕ) (w : Work) (chip′ spare′ directory′ : List ℕ) (w′ : Work) : Type 0 where
+pub record Begins (g : Geometry) (t : ℕ) (chip spare directory : List ℕ) (w : Work) (chip′ spare′ directory′ : List ℕ) (w′ : Work)
+    : Type 0 where
   pub chip₁ : List ℕ
   pub w₁ : Work
   pub made : Does-index (make-room g Translation directory-follows) chip spare directory w tt chip₁ spare′ directory′ w₁
@@ -97,7 +101,8 @@ pub begins-so : {g : Geometry} {t : ℕ} {chip spare directory chip₁ chip′ s
 begins-so {g} {chip₁ = chip₁} {chip′} {w₁ = w₁} {w′} made is-named begins =
     record { chip₁ = chip₁; w₁ = w₁; made = made; begins = subst (λ e. Begun g Translation e chip₁ w₁ chip′ w′) is-named begins }
 
-module _ {g : Geometry} {chip spare directory chip′ spare′ directory′ : List ℕ} {w w′ : Work} {t : ℕ} (ready : Page-ready g chip spare directory w t)
+module _ {g : Geometry} {chip spare directory chip′ spare′ directory′ : List ℕ} {w w′ : Work} {t : ℕ}
+    (ready : Page-ready g chip spare directory w t)
     (b : Begins g t chip spare directory w chip′ spare′ directory′ w′) where
   before : Roomy g (b .chip₁) spare′ directory′ (b .w₁) t 2
   before = roomy ready (b .made)
@@ -107,7 +112,9 @@ module _ {g : Geometry} {chip spare directory chip′ spare′ directory′ : Li
       record {
         lent = record {
           accepted = before .lent .accepted;
-          chip-fits = ap length (b .begins .stored) ∙ length-sets (b .chip₁) (next-page g Translation (small (b .w₁ .rec)) * g .W) (begun-words g (named t directory′) (b .chip₁)) ∙ before .lent .chip-fits;
+          chip-fits = ap length (b .begins .stored)
+              ∙ length-sets (b .chip₁) (next-page g Translation (small (b .w₁ .rec)) * g .W) (begun-words g (named t directory′) (b .chip₁))
+              ∙ before .lent .chip-fits;
           spare-fits = before .lent .spare-fits;
           directory-fits = before .lent .directory-fits;
         };
@@ -128,7 +135,8 @@ sets-over l i [] [] e = refl
 sets-over l i [] (u ∷ us) e = absurd (omega arith)
 sets-over l i (v ∷ vs) [] e = absurd (omega arith)
 sets-over l i (v ∷ vs) (u ∷ us) e =
-    ap (λ (k : List ℕ). sets k (suc i) us) (set-before (set l i v) i (suc i) vs u (omega arith) ∙ ap (λ (k : List ℕ). sets k (suc i) vs) (set-set l i v u))
+    ap (λ (k : List ℕ). sets k (suc i) us)
+    (set-before (set l i v) i (suc i) vs u (omega arith) ∙ ap (λ (k : List ℕ). sets k (suc i) vs) (set-set l i v u))
     ∙ sets-over (set l i u) (suc i) vs us (omega arith)
 
 -- A run is what stands there.
@@ -138,7 +146,8 @@ part-of-sets l i n vs len fits =
     ∙ ap (take n) (drop-at (take i l) (vs ++ drop (i + length vs) l) i (length-take-le i l (omega arith)))
     ∙ take-at vs (drop (i + length vs) l) n len
 
-module _ {g : Geometry} {chip spare directory chip′ spare′ directory′ : List ℕ} {w w′ : Work} {t q : ℕ} (ready : Page-ready g chip spare directory w t)
+module _ {g : Geometry} {chip spare directory chip′ spare′ directory′ : List ℕ} {w w′ : Work} {t q : ℕ}
+    (ready : Page-ready g chip spare directory w t)
     (b : Begins g t chip spare directory w chip′ spare′ directory′ w′) (is-next : q ≡ next-page g Translation (small (w′ .rec))) where
   pub next-here : q < pages g
   next-here = rw is-next (next-on-chip (still-roomy ready b .next))
@@ -150,14 +159,17 @@ module _ {g : Geometry} {chip spare directory chip′ spare′ directory′ : Li
   long = words-begun ready b
 
   stored : chip′ ≡ sets (b .chip₁) (q * g .W) words
-  stored = b .begins .stored ∙ ap (λ (k : ℕ). sets (b .chip₁) (k * g .W) words) (ap (λ r. next-page g Translation (small r)) (sym (b .begins .kept)) ∙ sym is-next)
+  stored =
+      b .begins .stored
+      ∙ ap (λ (k : ℕ). sets (b .chip₁) (k * g .W) words) (ap (λ r. next-page g Translation (small r)) (sym (b .begins .kept)) ∙ sym is-next)
 
   -- One word, and all those of a list of mappings.
   pub one-word : {chip″ : List ℕ} (m : Mapping) → chip″ ≡ set chip′ (q * g .W + translation-word g (m .logical)) (m .physical)
       → chip″ ≡ sets (b .chip₁) (next-page g Translation (small (w′ .rec)) * g .W) (set-words g (m ∷ []) words)
   one-word m e =
       let none = no-word-set g words in
-      one-word-set g q [] m (b .chip₁) words (ready .lent .accepted .W-from) (ap length none ∙ long) (stored ∙ ap (sets (b .chip₁) (q * g .W)) (sym none)) e
+      one-word-set g q [] m (b .chip₁) words (ready .lent .accepted .W-from) (ap length none ∙ long)
+      (stored ∙ ap (sets (b .chip₁) (q * g .W)) (sym none)) e
       ∙ ap (λ (k : ℕ). sets (b .chip₁) (k * g .W) (set-words g (m ∷ []) words)) is-next
 
   pub all-words : {chip″ : List ℕ} (ms : List Mapping) → chip″ ≡ sets chip′ (q * g .W) (set-words g ms (words-of g q chip′))
@@ -213,7 +225,8 @@ write-does g t {former} {spare₁ = spare₁} {spare₂} {directory} {w′ = w�
     (does-bind _ (mark-old-does g (named t directory) (is-marked ∙ ap (λ e. marked e spare₁) is-named)) (names w′ _ spare₂ cache))
 
 -- All parts together, where the words of the mappings have been set in the page.
-pub update-does : {g : Geometry} {t : ℕ} (ms : List Mapping) {chip spare directory chip₁ chip₂ spare₁ spare₂ directory₁ directory₂ : List ℕ} {w w₁ w₂ : Work}
+pub update-does : {g : Geometry} {t : ℕ} (ms : List Mapping)
+    {chip spare directory chip₁ chip₂ spare₁ spare₂ directory₁ directory₂ : List ℕ} {w w₁ w₂ : Work}
     → (b : Begins g t chip spare directory w chip₁ spare₁ directory₁ w₁)
     → chip₂ ≡ sets (b .chip₁) (next-page g Translation (small (w₁ .rec)) * g .W) (set-words g ms (begun-words g (named t directory₁) (b .chip₁)))
     → Written g t spare₁ directory₁ w₁ spare₂ directory₂ w₂

@@ -28,7 +28,9 @@ fn move_if_valid(
     directory: &mut [u32],
 ) -> Work
     requires { ⌜ Move-ready (geometry g) (now chip) (now spare) (now directory) work p ⌝ }
-    ensures { λ r. ⌜ Does-index (move-if-valid (geometry g) Translation directory-follows p) (now (chip .entry)) (now (spare .entry)) (now (directory .entry)) work [] (now (chip .exit)) (now (spare .exit)) (now (directory .exit)) r ⌝ }
+    ensures { λ r. ⌜ Does-index (move-if-valid (geometry g) Translation directory-follows p)
+        (now (chip .entry)) (now (spare .entry)) (now (directory .entry)) work []
+        (now (chip .exit)) (now (spare .exit)) (now (directory .exit)) r ⌝ }
 {
     if !is_valid(p, spare) {
         return work;
@@ -48,7 +50,9 @@ fn move_pages(
     directory: &mut [u32],
 ) -> Work
     requires { ⌜ Copy-ready (geometry g) (now chip) (now spare) (now directory) work v ⌝ }
-    ensures { λ r. ⌜ Does-index (move-pages (geometry g) Translation directory-follows v (g .p)) (now (chip .entry)) (now (spare .entry)) (now (directory .entry)) work [] (now (chip .exit)) (now (spare .exit)) (now (directory .exit)) r ⌝ }
+    ensures { λ r. ⌜ Does-index (move-pages (geometry g) Translation directory-follows v (g .p))
+        (now (chip .entry)) (now (spare .entry)) (now (directory .entry)) work []
+        (now (chip .exit)) (now (spare .exit)) (now (directory .exit)) r ⌝ }
 {
     let mut moved = work;
     let mut i = 0;
@@ -68,7 +72,9 @@ fn collect(
     directory: &mut [u32],
 ) -> Work
     requires { ⌜ Collect-ready (geometry g) (now chip) (now spare) (now directory) work ⌝ }
-    ensures { λ r. ⌜ Does-index (collect (geometry g) Translation directory-follows) (now (chip .entry)) (now (spare .entry)) (now (directory .entry)) work tt (now (chip .exit)) (now (spare .exit)) (now (directory .exit)) r ⌝ }
+    ensures { λ r. ⌜ Does-index (collect (geometry g) Translation directory-follows)
+        (now (chip .entry)) (now (spare .entry)) (now (directory .entry)) work tt
+        (now (chip .exit)) (now (spare .exit)) (now (directory .exit)) r ⌝ }
 {
     let v = victim(g, Region::Translation, spare);
     let opened = open_lowest(g, Region::Translation, spare, work);
@@ -85,7 +91,9 @@ fn open_or_collect(
     directory: &mut [u32],
 ) -> Work
     requires { ⌜ Full-ready (geometry g) (now chip) (now spare) (now directory) work ⌝ }
-    ensures { λ r. ⌜ Does-index (open-or-collect (geometry g) Translation directory-follows) (now (chip .entry)) (now (spare .entry)) (now (directory .entry)) work tt (now (chip .exit)) (now (spare .exit)) (now (directory .exit)) r ⌝ }
+    ensures { λ r. ⌜ Does-index (open-or-collect (geometry g) Translation directory-follows)
+        (now (chip .entry)) (now (spare .entry)) (now (directory .entry)) work tt
+        (now (chip .exit)) (now (spare .exit)) (now (directory .exit)) r ⌝ }
 {
     if 2 <= erased_blocks(g, Region::Translation, spare) {
         return open_lowest(g, Region::Translation, spare, work);
@@ -102,7 +110,9 @@ pub fn room(
     directory: &mut [u32],
 ) -> Work
     requires { ⌜ Room-ready (geometry g) (now chip) (now spare) (now directory) work ⌝ }
-    ensures { λ r. ⌜ Does-index (make-room (geometry g) Translation directory-follows) (now (chip .entry)) (now (spare .entry)) (now (directory .entry)) work tt (now (chip .exit)) (now (spare .exit)) (now (directory .exit)) r ⌝ }
+    ensures { λ r. ⌜ Does-index (make-room (geometry g) Translation directory-follows)
+        (now (chip .entry)) (now (spare .entry)) (now (directory .entry)) work tt
+        (now (chip .exit)) (now (spare .exit)) (now (directory .exit)) r ⌝ }
 {
     let offset = work.rec.translation_offset;
     if offset < g.p {

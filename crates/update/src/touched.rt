@@ -18,7 +18,8 @@ ghost use Rattle.update.specs.Moves.{moves, Next-touched, nearer};
 // In the translation page at q, the word of logical page l, where l is of translation page t.
 fn set_if_of(g: Geometry, q: u32, t: u32, l: u32, place: u32, chip: &mut [u32])
     requires { ⌜ Chip-lent (geometry g) (now chip) × (q < pages (geometry g)) ⌝ }
-    ensures { λ _. ⌜ now (chip .exit) ≡ cond (eqb (translation-page (geometry g) l) t) (set (now (chip .entry)) (q * g .w + translation-word (geometry g) l) place) (now (chip .entry)) ⌝ }
+    ensures { λ _. ⌜ now (chip .exit) ≡ cond (eqb (translation-page (geometry g) l) t)
+        (set (now (chip .entry)) (q * g .w + translation-word (geometry g) l) place) (now (chip .entry)) ⌝ }
 {
     if l / g.w == t {
         set_word(g, q, l, place, chip);
@@ -28,7 +29,8 @@ fn set_if_of(g: Geometry, q: u32, t: u32, l: u32, place: u32, chip: &mut [u32])
 // There, the words of all that waits for translation page t.
 pub fn set_words(g: Geometry, q: u32, t: u32, waiting: Waiting, chip: &mut [u32])
     requires { ⌜ Chip-lent (geometry g) (now chip) × (q < pages (geometry g)) × (waiting .n ≤ 64) ⌝ }
-    ensures { λ _. ⌜ now (chip .exit) ≡ sets (now (chip .entry)) (q * g .w) (set-words (geometry g) (of-page (geometry g) t (moves waiting)) (words-of (geometry g) q (now (chip .entry)))) ⌝ }
+    ensures { λ _. ⌜ now (chip .exit) ≡ sets (now (chip .entry)) (q * g .w)
+        (set-words (geometry g) (of-page (geometry g) t (moves waiting)) (words-of (geometry g) q (now (chip .entry)))) ⌝ }
 {
     let n = waiting.n;
     let mut i = 0;

@@ -36,21 +36,28 @@ update-page-requires c κs =
 
 add-next-touched : tie.Need-add-next-touched Inv-loop μ-loop
 add-next-touched c =
-    let ready = c .before .before .before .before .before .before .before .before .before .before .before .before .before .before .before .before .pre .0 in
-    omega (arith, M-small (ready .lent .accepted), ready .lent .directory-fits, c .before .before .before .before .before .before .before .before .before .before .loop-test .taken)
+    let tested = c .before .before .before .before .before .before .before .before .before .before in
+    let ready = tested .before .before .before .before .before .before .pre .0 in
+    omega (arith, M-small (ready .lent .accepted), ready .lent .directory-fits, tested .loop-test .taken)
 
 next-touched-requires-2 : tie.Need-next-touched-requires-2 Inv-loop μ-loop
 next-touched-requires-2 c κs =
-    let start = c .before .before .before .before .before .before .before .before .before .before .before .before .before .before .before .before in
-    (start .pre .0 .lent .accepted, start .pre .1, omega (arith, c .before .before .before .before .before .before .before .before .before .before .loop-test .taken))
+    let tested = c .before .before .before .before .before .before .before .before .before .before in
+    let start = tested .before .before .before .before .before .before in
+    (start .pre .0 .lent .accepted, start .pre .1, omega (arith, tested .loop-test .taken))
 
 loop-less : tie.Need-loop-less Inv-loop μ-loop
-loop-less c = omega (arith, c .next-touched2 .ensures .from-there, c .next-touched2 .ensures .up-to, c .before .before .before .before .before .before .before .before .before .before .before .loop-test .taken)
+loop-less c =
+    let next = c .next-touched2 .ensures in
+    omega (arith, next .from-there, next .up-to, c .before .before .before .before .before .before .before .before .before .before .before .loop-test .taken)
 
 loop-again : tie.Need-loop-again Inv-loop μ-loop
 loop-again c =
-    let at-loop = c .before .before .before .before .before .before .before .before .before .before .before .before in
-    settle-goes-on (at-loop .before .before .before .before .before .pre .0) (at-loop .loop .inv) (c .before .before .before .before .before .before .before .before .before .before .before .loop-test .taken) (c .before .before .before .before .before .before .before .update-page .ensures) (c .next-touched2 .ensures)
+    let updated = c .before .before .before .before .before .before .before in
+    let tested = updated .before .before .before .before in
+    let at-loop = tested .before in
+    settle-goes-on (at-loop .before .before .before .before .before .pre .0) (at-loop .loop .inv) (tested .loop-test .taken) (updated .update-page .ensures)
+    (c .next-touched2 .ensures)
 
 same-length : tie.Need-same-length Inv-loop μ-loop
 same-length c = c .before .loop .inv .so-far .lent .chip-fits ∙ sym (c .before .before .before .before .before .before .pre .0 .lent .chip-fits)

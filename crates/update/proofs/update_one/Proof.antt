@@ -13,17 +13,21 @@ begin-requires c κs = page-ready _ (c .before .before .before .before .before .
 
 next-page-requires : tie.Need-next-page-requires
 next-page-requires c κs =
-    let ready = page-ready _ (c .before .before .before .before .before .before .before .before .before .before .before .before .before .before .before .pre) in
-    (ready .lent .accepted, still-roomy ready (c .before .before .before .before .before .before .before .begin .ensures) .next)
+    let begun = c .before .before .before .before .before .before .before in
+    let ready = page-ready _ (begun .before .before .before .before .before .before .before .before .pre) in
+    (ready .lent .accepted, still-roomy ready (begun .begin .ensures) .next)
 
 set-word-requires : tie.Need-set-word-requires
 set-word-requires c κs =
-    let ready = page-ready _ (c .before .before .before .before .before .before .before .before .before .before .before .before .before .before .before .before .before .pre) in
-    let begins = c .before .before .before .before .before .before .before .before .before .begin .ensures in
-    (chip-of (still-roomy ready begins .lent), next-here ready begins (c .before .next-page .ensures))
+    let chosen = c .before in
+    let begun = chosen .before .before .before .before .before .before .before .before in
+    let ready = page-ready _ (begun .before .before .before .before .before .before .before .before .pre) in
+    (chip-of (still-roomy ready (begun .begin .ensures) .lent), next-here ready (begun .begin .ensures) (chosen .next-page .ensures))
 
 finish-requires : tie.Need-finish-requires
-finish-requires c κs = finish-ready (still-roomy (page-ready _ (c .before .before .before .before .before .before .before .before .before .before .before .before .before .before .before .before .before .before .before .before .before .before .pre)) (c .before .before .before .before .before .before .before .before .before .before .before .before .before .before .begin .ensures))
+finish-requires c κs =
+    let begun = c .before .before .before .before .before .before .before .before .before .before .before .before .before .before in
+    finish-ready (still-roomy (page-ready _ (begun .before .before .before .before .before .before .before .before .pre)) (begun .begin .ensures))
 
 same-length : tie.Need-same-length
 same-length c = search needs
@@ -36,10 +40,13 @@ same-length-3 c = search needs
 
 returns : tie.Need-returns
 returns c =
-    let begins = c .before .before .before .before .before .before .before .before .before .before .before .before .before .before .before .before .before .before .before .begin .ensures in
-    update-does _ begins
-    (one-word (page-ready _ (c .before .before .before .before .before .before .before .before .before .before .before .before .before .before .before .before .before .before .before .before .before .before .before .before .before .before .before .pre)) begins (c .before .before .before .before .before .before .before .before .before .before .before .next-page .ensures) _ (c .before .before .before .before .before .before .before .before .before .set-word .ensures))
-    (c .before .before .before .before .finish .ensures)
+    let finished = c .before .before .before .before in
+    let stored = finished .before .before .before .before .before in
+    let chosen = stored .before .before in
+    let begun = chosen .before .before .before .before .before .before .before .before in
+    update-does _ (begun .begin .ensures)
+    (one-word (page-ready _ (begun .before .before .before .before .before .before .before .before .pre)) (begun .begin .ensures) (chosen .next-page .ensures) _ (stored .set-word .ensures))
+    (finished .finish .ensures)
 
 pub update-one-spec : {M : Type 1} → statement M
 update-one-spec =

@@ -10,17 +10,24 @@ begin-requires c κs = search needs
 
 next-page-requires : tie.Need-next-page-requires
 next-page-requires c κs =
-    let ready = c .before .before .before .before .before .before .before .before .before .before .before .before .before .before .pre .0 in
-    (ready .lent .accepted, still-roomy ready (c .before .before .before .before .before .before .before .begin .ensures) .next)
+    let begun = c .before .before .before .before .before .before .before in
+    let ready = begun .before .before .before .before .before .before .before .pre .0 in
+    (ready .lent .accepted, still-roomy ready (begun .begin .ensures) .next)
 
 set-words-requires : tie.Need-set-words-requires
 set-words-requires c κs =
-    let start = c .before .before .before .before .before .before .before .before .before .before .before .before .before .before .before .before in
-    let begins = c .before .before .before .before .before .before .before .before .before .begin .ensures in
-    (chip-of (still-roomy (start .pre .0) begins .lent), next-here (start .pre .0) begins (c .before .next-page .ensures), start .pre .1)
+    let chosen = c .before in
+    let begun = chosen .before .before .before .before .before .before .before .before in
+    let start = begun .before .before .before .before .before .before .before in (
+      chip-of (still-roomy (start .pre .0) (begun .begin .ensures) .lent),
+      next-here (start .pre .0) (begun .begin .ensures) (chosen .next-page .ensures),
+      start .pre .1,
+    )
 
 finish-requires : tie.Need-finish-requires
-finish-requires c κs = finish-ready (still-roomy (c .before .before .before .before .before .before .before .before .before .before .before .before .before .before .before .before .before .before .before .before .before .pre .0) (c .before .before .before .before .before .before .before .before .before .before .before .before .before .before .begin .ensures))
+finish-requires c κs =
+    let begun = c .before .before .before .before .before .before .before .before .before .before .before .before .before .before in
+    finish-ready (still-roomy (begun .before .before .before .before .before .before .before .pre .0) (begun .begin .ensures))
 
 same-length : tie.Need-same-length
 same-length c = search needs
@@ -33,10 +40,13 @@ same-length-3 c = search needs
 
 returns : tie.Need-returns
 returns c =
-    let begins = c .before .before .before .before .before .before .before .before .before .before .before .before .before .before .before .before .before .before .before .begin .ensures in
-    update-does _ begins
-    (all-words (c .before .before .before .before .before .before .before .before .before .before .before .before .before .before .before .before .before .before .before .before .before .before .before .before .before .before .pre .0) begins (c .before .before .before .before .before .before .before .before .before .before .before .next-page .ensures) _ (c .before .before .before .before .before .before .before .before .before .set-words .ensures))
-    (c .before .before .before .before .finish .ensures)
+    let finished = c .before .before .before .before in
+    let stored = finished .before .before .before .before .before in
+    let chosen = stored .before .before in
+    let begun = chosen .before .before .before .before .before .before .before .before in
+    update-does _ (begun .begin .ensures)
+    (all-words (begun .before .before .before .before .before .before .before .pre .0) (begun .begin .ensures) (chosen .next-page .ensures) _ (stored .set-words .ensures))
+    (finished .finish .ensures)
 
 pub update-page-spec : {M : Type 1} → statement M
 update-page-spec =

@@ -3,12 +3,12 @@ use native.Mathlib.Omega.{arith}
 use mathlib.Core.Path.{sym, _∙_}
 use borrow.Author.Needs.{needs}
 use Rattle.update.specs.Index.{chip-of, less-room}
-use Rattle.update.specs.Writing.{roomy, begins-so}
+use Rattle.update.specs.Writing.{room-ready, roomy, begins-so}
 use Rattle.update.proofs.page.begin.Statement.{statement}
 use Rattle.update.proofs.page.begin.Tie as tie
 
 room-requires : tie.Need-room-requires
-room-requires c κs = search needs
+room-requires c κs = room-ready (c .before .before .before .before .before .before .pre)
 
 named-requires : tie.Need-named-requires
 named-requires c κs = search needs
@@ -31,7 +31,10 @@ same-length-3 : tie.Need-same-length-3
 same-length-3 c = search needs
 
 returns : tie.Need-returns
-returns c = begins-so (c .before .before .before .before .before .before .before .before .before .before .before .before .room .ensures) (c .before .before .before .before .named .ensures) (c .before .before .begin-next .ensures)
+returns c =
+    let stored = c .before .before in
+    let looked = stored .before .before in
+    begins-so (looked .before .before .before .before .before .before .before .before .room .ensures) (looked .named .ensures) (stored .begin-next .ensures)
 
 pub begin-spec : {M : Type 1} → statement M
 begin-spec =

@@ -15,7 +15,9 @@ claim-next-requires c κs = search needs
 
 mark-old-requires : tie.Need-mark-old-requires
 mark-old-requires c κs =
-    λ p e. omega (arith, c .before .before .before .before .before .before .before .before .before .pre .former p (sym (c .before .before .before .before .before .named .ensures) ∙ e), c .before .before .before .claim-next .kept)
+    let claimed = c .before .before .before in
+    let looked = claimed .before .before in
+    λ p e. omega (arith, looked .before .before .before .before .pre .former p (sym (looked .named .ensures) ∙ e), claimed .claim-next .kept)
 
 names-it-requires : tie.Need-names-it-requires
 names-it-requires c κs = search needs
@@ -28,8 +30,13 @@ same-length-2 c = search needs
 
 returns : tie.Need-returns
 returns c =
-    let start = c .before .before .before .before .before .before .before .before .before .before .before .before .before .before .before .before .before in
-    write-does (geometry (start .args .g)) (start .args .t) (c .before .before .before .before .before .before .before .before .before .before .before .before .before .named .ensures) (c .before .before .before .before .before .before .before .before .before .before .before .claim-next .ensures) (c .before .before .before .before .before .before .before .mark-old .ensures) (c .before .before .before .names-it .ensures)
+    let named = c .before .before .before in
+    let marked = named .before .before .before .before in
+    let claimed = marked .before .before .before .before in
+    let looked = claimed .before .before in
+    let a = looked .before .before .before .before .args in
+    write-does (geometry (a .g)) (a .t) (looked .named .ensures) (claimed .claim-next .ensures) (marked .mark-old .ensures)
+    (named .names-it .ensures)
 
 pub finish-spec : {M : Type 1} → statement M
 finish-spec =

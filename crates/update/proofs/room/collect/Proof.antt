@@ -1,8 +1,13 @@
 -- `update::room::collect` meets its contract: its parts are the definition's, each with what it asks for by the law of the part before.
+use mathlib.Core.Path.{refl}
 use borrow.Author.Needs.{needs}
+use Rattle.scope.specs.Regions.{Translation}
+use Rattle.scope.specs.Steps.{directory-follows}
 use Rattle.lent.specs.Model.{geometry}
+use Rattle.lent.specs.DoesLaws.{does-give}
 use Rattle.update.specs.Index.{chip-of, spare-of}
-use Rattle.update.specs.Collecting.{full-whole, copy-ready, erase-ready, collect-does}
+use Rattle.update.specs.Collecting.{full-whole, copy-ready, erase-ready}
+use Rattle.update.specs.Room.{collect-does}
 use Rattle.update.proofs.room.collect.Statement.{statement}
 use Rattle.update.proofs.room.collect.Tie as tie
 
@@ -23,7 +28,8 @@ erase-requires c κs =
     let copied = c .before .before .before .before .before .before .before .before in
     let opened = copied .before .before .before .before in
     let chosen = opened .before .before in
-    let ready = erase-ready (copy-ready (chosen .before .before .before .before .before .pre) (chosen .victim .ensures) (opened .open-lowest .ensures)) (copied .move-pages .ensures) in
+    let before = copy-ready (chosen .before .before .before .before .before .pre) (chosen .victim .ensures) (opened .open-lowest .ensures) in
+    let ready = erase-ready before (copied .move-pages .ensures) in
     (chip-of (ready .lent), spare-of (ready .lent), ready .on-chip, ready .counting)
 
 same-length : tie.Need-same-length
@@ -41,7 +47,10 @@ returns c =
     let copied = erased .before .before .before .before .before .before .before .before .before in
     let opened = copied .before .before .before .before in
     let chosen = opened .before .before in
-    collect-does (geometry (chosen .before .before .before .before .before .args .g)) (chosen .victim .ensures) (opened .open-lowest .ensures) (copied .move-pages .ensures) (erased .erase .ensures)
+    let a = chosen .before .before .before .before .before .args in
+    λ cache. collect-does (geometry (a .g)) Translation directory-follows (chosen .victim .ensures _ refl)
+    (opened .open-lowest .ensures (a .chip .now) (a .directory .now) cache) (copied .move-pages .ensures cache) (does-give tt)
+    (erased .erase .ensures _ cache)
 
 pub collect-spec : {M : Type 1} → statement M
 collect-spec =

@@ -63,10 +63,10 @@ same-length-3 c =
 
 returns : tie.Need-returns Inv-loop μ-loop
 returns c =
-    let start = c .before .before .before .before .before .before in
     let at-loop = c .before .before in
-    let end : at-loop .loop .i ≡ start .args .g .p = omega (arith, at-loop .loop .inv .upto) in
-    subst (λ n. Copied-upto (geometry (start .args .g)) (start .args .chip .now) (start .args .spare .now) (start .args .directory .now) (start .args .work) (start .args .v) n
+    let a = at-loop .before .before .before .before .args in
+    let end : at-loop .loop .i ≡ a .g .p = omega (arith, at-loop .loop .inv .upto) in
+    subst (λ n. Copied-upto (geometry (a .g)) (a .chip .now) (a .spare .now) (a .directory .now) (a .work) (a .v) n
     (at-loop .loop .chip) (at-loop .loop .spare) (at-loop .loop .directory) (at-loop .loop .moved))
     end (at-loop .loop .inv) .does
 

@@ -1,7 +1,11 @@
 -- `update::room::open_or_collect` meets its contract: the number of erased blocks decides, in code and definition alike.
+use mathlib.Core.Path.{refl}
 use borrow.Author.Needs.{needs}
+use Rattle.scope.specs.Regions.{Translation}
+use Rattle.scope.specs.Steps.{directory-follows}
 use Rattle.lent.specs.Model.{geometry}
-use Rattle.update.specs.Collecting.{full-whole, collect-ready, opens, collects}
+use Rattle.update.specs.Collecting.{full-whole, collect-ready}
+use Rattle.update.specs.Room.{opens-does, collects-does}
 use Rattle.update.proofs.room.open_or_collect.Statement.{statement}
 use Rattle.update.proofs.room.open_or_collect.Tie as tie
 
@@ -16,13 +20,17 @@ same-length c = search needs
 
 returns : tie.Need-returns
 returns c =
-    let counted = c .before .before .before in
-    opens (geometry (counted .before .before .before .before .before .args .g)) (counted .erased-blocks .ensures) (c .before .before .if1 .taken) (c .open-lowest .ensures)
+    let tested = c .before .before in
+    let counted = tested .before in
+    let a = counted .before .before .before .before .before .args in
+    λ cache. opens-does (geometry (a .g)) Translation directory-follows (counted .erased-blocks .ensures _ refl) (tested .if1 .taken)
+    (c .open-lowest .ensures (a .chip .now) (a .directory .now) cache)
 
 collect-requires : tie.Need-collect-requires
 collect-requires c κs =
-    let counted = c .before .before .before .before in
-    collect-ready (counted .before .before .before .before .before .pre) (counted .erased-blocks .ensures) (c .before .before .before .if1 .left)
+    let tested = c .before .before .before in
+    let counted = tested .before in
+    collect-ready (counted .before .before .before .before .before .pre) (counted .erased-blocks .ensures) (tested .if1 .left)
 
 same-length-2 : tie.Need-same-length-2
 same-length-2 c = search needs
@@ -35,8 +43,12 @@ same-length-4 c = search needs
 
 returns-2 : tie.Need-returns-2
 returns-2 c =
-    let counted = c .before .before .before .before .before .before .before .before .before .before .before in
-    collects (geometry (counted .before .before .before .before .before .args .g)) (counted .erased-blocks .ensures) (c .before .before .before .before .before .before .before .before .before .before .if1 .left) (c .before .before .before .before .before .before .collect .ensures)
+    let collected = c .before .before .before .before .before .before in
+    let tested = collected .before .before .before .before in
+    let counted = tested .before in
+    let g = geometry (counted .before .before .before .before .before .args .g) in
+    λ cache. collects-does g Translation directory-follows (counted .erased-blocks .ensures _ refl) (tested .if1 .left)
+    (collected .collect .ensures cache)
 
 pub open-or-collect-spec : {M : Type 1} → statement M
 open-or-collect-spec =

@@ -1,12 +1,14 @@
 -- `update::room::room` meets its contract: the open block's offset decides, in code and definition alike.
 use borrow.Author.Needs.{needs}
+use Rattle.scope.specs.Regions.{Translation}
+use Rattle.scope.specs.Steps.{directory-follows}
 use Rattle.lent.specs.Model.{geometry}
-use Rattle.update.specs.Collecting.{has-room, makes-room}
+use Rattle.update.specs.Room.{has-room-does, makes-room-does}
 use Rattle.update.proofs.room.room.Statement.{statement}
 use Rattle.update.proofs.room.room.Tie as tie
 
 returns : tie.Need-returns
-returns c = has-room (geometry (c .before .before .before .before .before .args .g)) (c .if1 .taken)
+returns c = λ cache. has-room-does (geometry (c .before .before .before .before .before .args .g)) Translation directory-follows (c .if1 .taken)
 
 open-or-collect-requires : tie.Need-open-or-collect-requires
 open-or-collect-requires c κs = search needs
@@ -21,7 +23,11 @@ same-length-3 : tie.Need-same-length-3
 same-length-3 c = search needs
 
 returns-2 : tie.Need-returns-2
-returns-2 c = makes-room (geometry (c .before .before .before .before .before .before .before .before .before .before .before .before .before .before .before .args .g)) (c .before .before .before .before .before .before .before .before .before .before .if1 .left) (c .before .before .before .before .before .before .open-or-collect .ensures)
+returns-2 c =
+    let made = c .before .before .before .before .before .before in
+    let tested = made .before .before .before .before in
+    let g = geometry (tested .before .before .before .before .before .args .g) in
+    λ cache. makes-room-does g Translation directory-follows (tested .if1 .left) (made .open-or-collect .ensures cache)
 
 pub room-spec : {M : Type 1} → statement M
 room-spec =
