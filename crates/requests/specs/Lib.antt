@@ -1,2 +1,10 @@
 -- The modules of this crate.
 pub mod Fresh
+pub mod Ready
+pub mod Dropping
+pub mod Translating
+pub mod Waiting
+pub mod Copying
+pub mod Room
+pub mod Collecting
+pub mod Answering

@@ -1,0 +1,68 @@
+-- `requests::answers::read` meets its contract: the entry at the rank that translate hands back says where l is.
+use mathlib.Core.Path.{sym, ap, _∙_}
+use native.Mathlib.Omega.{arith}
+use borrow.Author.Needs.{needs}
+use Rattle.scope.specs.Lent.{decode}
+use Rattle.lent.specs.Model.{geometry}
+use Rattle.update.specs.Index.{less-room}
+use Rattle.requests.specs.Ready.{Ready-for}
+use Rattle.requests.specs.Answering.{translated-lies, place-ready, read-does}
+use Rattle.requests.proofs.answers.read.Statement.{statement}
+use Rattle.requests.proofs.answers.read.Tie as tie
+
+translate-requires : tie.Need-translate-requires
+translate-requires c κs =
+    let ready = c .before .before .before .before .before .before .before .before .before .pre .0 .ready in
+    record {
+      ready = record { accepted = ready .accepted; lengths = ready .lengths; sound = ready .sound; countable = less-room (omega arith) (ready .countable) };
+      below = c .before .before .before .before .before .before .before .before .before .pre .0 .below;
+    }
+
+cast-physical : tie.Need-cast-physical
+cast-physical c = search needs
+
+physical-requires : tie.Need-physical-requires
+physical-requires c κs = translated-lies (c .before .before .before .before .before .before .before .before .before .before .before .before .before .before .before .before .before .before .before .before .before .pre .0) (c .before .before .before .before .before .before .before .before .before .before .before .translate .ensures)
+
+decode-requires : tie.Need-decode-requires
+decode-requires c κs = search needs
+
+read-place-requires : tie.Need-read-place-requires
+read-place-requires c κs = place-ready (c .before .before .before .before .before .before .before .before .before .before .before .before .before .before .before .before .before .before .before .before .before .before .before .before .before .pre .0) (c .before .before .before .before .before .before .before .before .before .before .before .before .before .before .before .translate .ensures) (c .before .before .decode .ensures ∙ ap decode (c .before .before .before .physical .ensures)) (c .before .before .before .before .before .before .before .before .before .before .before .before .before .before .before .before .before .before .before .before .before .before .before .before .before .pre .1)
+
+same-length : tie.Need-same-length
+same-length c = search needs
+
+same-length-2 : tie.Need-same-length-2
+same-length-2 c = search needs
+
+same-length-3 : tie.Need-same-length-3
+same-length-3 c = search needs
+
+same-length-4 : tie.Need-same-length-4
+same-length-4 c = search needs
+
+same-length-5 : tie.Need-same-length-5
+same-length-5 c = search needs
+
+returns : tie.Need-returns
+returns c =
+    let a = c .before .before .before .before .before .before .before .before .before .before .before .before .before .before .before .before .before .before .before .before .before .before .before .before .before .before .before .before .args in
+    read-does (geometry (a .g)) (a .l) (a .buffer .now) (c .before .before .before .before .before .before .before .before .before .before .before .before .before .before .before .before .before .before .translate .ensures)
+    (ap decode (sym (c .before .before .before .before .before .before .physical .ensures)) ∙ sym (c .before .before .before .before .before .decode .ensures)) (c .before .before .read-place .ensures _ _ _)
+
+pub read-spec : {M : Type 1} → statement M
+read-spec =
+    tie.close
+    (tie.spec
+    translate-requires
+    cast-physical
+    physical-requires
+    decode-requires
+    read-place-requires
+    same-length
+    same-length-2
+    same-length-3
+    same-length-4
+    same-length-5
+    returns)

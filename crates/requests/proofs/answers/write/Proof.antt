@@ -1,0 +1,52 @@
+-- `requests::answers::write` meets its contract: translate leaves a sound state, and so does make room, with l's entry at its rank.
+use native.Mathlib.Omega.{arith}
+use borrow.Author.Needs.{needs}
+use Rattle.lent.specs.Model.{geometry}
+use Rattle.update.specs.Index.{less-room}
+use Rattle.requests.specs.Ready.{Ready-for}
+use Rattle.requests.specs.Answering.{translate-ready, room-ready, writing-ready, write-does}
+use Rattle.requests.proofs.answers.write.Statement.{statement}
+use Rattle.requests.proofs.answers.write.Tie as tie
+
+translate-requires : tie.Need-translate-requires
+translate-requires c κs = translate-ready (c .before .before .before .before .before .before .before .before .before .pre .0)
+
+cast-i : tie.Need-cast-i
+cast-i c = search needs
+
+make-room-requires : tie.Need-make-room-requires
+make-room-requires c κs = room-ready (c .before .before .before .before .before .before .before .before .before .before .before .before .before .before .before .before .before .before .before .before .before .before .before .before .pre .0) (c .before .before .before .before .before .before .before .before .before .before .before .before .before .before .translate .ensures)
+
+place-requires : tie.Need-place-requires
+place-requires c κs = writing-ready (c .before .before .before .before .before .before .before .before .before .before .before .before .before .before .before .before .before .before .before .before .before .before .before .before .before .before .before .before .before .before .before .before .before .before .before .before .pre .0) (c .before .before .before .before .before .before .before .before .before .before .before .before .before .before .before .before .before .before .before .before .before .before .before .before .before .before .translate .ensures) (c .before .before .before .before .before .before .before .before .before .before .before .make-room .ensures) (c .before .before .before .before .before .before .before .before .before .before .before .before .before .before .before .before .before .before .before .before .before .before .before .before .before .before .before .before .before .before .before .before .before .before .before .before .pre .1)
+
+same-length : tie.Need-same-length
+same-length c = omega (arith, c .before .before .before .before .before .before .place .kept, c .before .before .before .before .before .before .before .before .before .before .before .before .before .before .before .before .before .before .make-room .kept, c .before .before .before .before .before .before .before .before .before .before .before .before .before .before .before .before .before .before .before .before .before .before .before .before .before .before .before .before .before .before .before .before .before .translate .kept)
+
+same-length-2 : tie.Need-same-length-2
+same-length-2 c = omega (arith, c .before .before .before .before .before .before .place .kept, c .before .before .before .before .before .before .before .before .before .before .before .before .before .before .before .before .before .before .make-room .kept, c .before .before .before .before .before .before .before .before .before .before .before .before .before .before .before .before .before .before .before .before .before .before .before .before .before .before .before .before .before .before .before .before .before .translate .kept)
+
+same-length-3 : tie.Need-same-length-3
+same-length-3 c = omega (arith, c .before .before .before .before .before .before .place .kept, c .before .before .before .before .before .before .before .before .before .before .before .before .before .before .before .before .before .before .make-room .kept, c .before .before .before .before .before .before .before .before .before .before .before .before .before .before .before .before .before .before .before .before .before .before .before .before .before .before .before .before .before .before .before .before .before .translate .kept)
+
+same-length-4 : tie.Need-same-length-4
+same-length-4 c = omega (arith, c .before .before .before .before .before .before .place .kept, c .before .before .before .before .before .before .before .before .before .before .before .before .before .before .before .before .before .before .make-room .kept, c .before .before .before .before .before .before .before .before .before .before .before .before .before .before .before .before .before .before .before .before .before .before .before .before .before .before .before .before .before .before .before .before .before .translate .kept)
+
+returns : tie.Need-returns
+returns c =
+    let a = c .before .before .before .before .before .before .before .before .before .before .before .before .before .before .before .before .before .before .before .before .before .before .before .before .before .before .before .before .before .before .before .before .before .before .before .before .before .before .before .before .before .before .before .args in
+    write-does (geometry (a .g)) (a .l) (a .buffer .now) (c .before .before .before .before .before .before .before .before .before .before .before .before .before .before .before .before .before .before .before .before .before .before .before .before .before .before .before .before .before .before .before .before .before .translate .ensures) (c .before .before .before .before .before .before .before .before .before .before .before .before .before .before .before .before .before .before .make-room .ensures) (c .before .before .before .before .before .before .place .ensures _)
+
+pub write-spec : {M : Type 1} → statement M
+write-spec =
+    tie.close
+    (tie.spec
+    translate-requires
+    cast-i
+    make-room-requires
+    place-requires
+    same-length
+    same-length-2
+    same-length-3
+    same-length-4
+    returns)

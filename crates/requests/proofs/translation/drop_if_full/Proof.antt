@@ -1,0 +1,40 @@
+-- `requests::translation::drop_if_full` meets its contract: the code's test is the definition's.
+use native.Mathlib.Omega.{arith}
+use borrow.Author.Needs.{needs}
+use Rattle.lent.specs.Model.{geometry}
+use Rattle.requests.specs.Translating.{drop-none-does, drop-last-does}
+use Rattle.requests.proofs.translation.drop_if_full.Statement.{statement}
+use Rattle.requests.proofs.translation.drop_if_full.Tie as tie
+
+returns : tie.Need-returns
+returns c = drop-none-does (geometry (c .before .before .before .before .before .before .before .args .g)) (c .if1 .taken)
+
+drop-entry-requires : tie.Need-drop-entry-requires
+drop-entry-requires c κs = (c .before .before .before .before .before .before .before .before .before .before .before .pre, omega (arith, c .before .before .before .before .if1 .left, c .before .before .before .before .before .before .before .before .before .before .before .pre .accepted .C-from))
+
+same-length : tie.Need-same-length
+same-length c = search needs
+
+same-length-2 : tie.Need-same-length-2
+same-length-2 c = search needs
+
+same-length-3 : tie.Need-same-length-3
+same-length-3 c = search needs
+
+same-length-4 : tie.Need-same-length-4
+same-length-4 c = search needs
+
+returns-2 : tie.Need-returns-2
+returns-2 c = drop-last-does (geometry (c .before .before .before .before .before .before .before .before .before .before .before .before .before .before .before .before .before .before .before .before .args .g)) (c .before .before .before .before .before .before .before .before .before .before .before .before .before .if1 .left) (c .before .before .before .before .before .before .before .before .drop-entry .ensures)
+
+pub drop-if-full-spec : {M : Type 1} → statement M
+drop-if-full-spec =
+    tie.close
+    (tie.spec
+    returns
+    drop-entry-requires
+    same-length
+    same-length-2
+    same-length-3
+    same-length-4
+    returns-2)

@@ -1,0 +1,62 @@
+-- `requests::translation::write_back_if_changed` meets its contract: the code's test is the definition's.
+use Prim.Native.Nat.{ℕ, _+_, _*_, _≤_, _<_}
+use mathlib.Core.Path.{sym, _∙_, subst}
+use native.Mathlib.Omega.{arith}
+use lib.ListN.{length}
+use borrow.Author.Needs.{needs}
+use Rattle.lent.specs.Model.{geometry}
+use Rattle.lent.specs.DoesLaws.{does-give, does-cond-true, does-cond-false}
+use Rattle.requests.specs.Translating.{write-back-does, write-back-ready}
+use Rattle.requests.proofs.translation.write_back_if_changed.Statement.{statement}
+use Rattle.requests.proofs.translation.write_back_if_changed.Tie as tie
+
+-- The entry's words lie in the cache.
+lies : (c : tie.Start) → c .args .i * 3 + 3 ≤ length (c .args .cache .now)
+lies c = omega (arith, c .pre .1, c .pre .0 .sound .rule-5 .at-most, c .pre .0 .lengths .cache-fits)
+
+is-changed-requires : tie.Need-is-changed-requires
+is-changed-requires c κs = lies (c .before .before .before .before)
+
+logical-requires : tie.Need-logical-requires
+logical-requires c κs = lies (c .before .before .before .before .before .before)
+
+physical-requires : tie.Need-physical-requires
+physical-requires c κs = lies (c .before .before .before .before .before .before .before)
+
+update-one-requires : tie.Need-update-one-requires
+update-one-requires c κs =
+    let start = (c .before .before .before .before .before .before .before .before .before .before .before) in
+    write-back-ready _ _ (start .pre .0)
+    (subst (λ (l : ℕ). l < geometry (start .args .g) .L) (sym (c .before .before .before .before .logical .ensures)) (start .pre .0 .sound .rule-5 .below-L (start .args .i) (start .pre .1)))
+
+same-length : tie.Need-same-length
+same-length c = search needs
+
+same-length-2 : tie.Need-same-length-2
+same-length-2 c = search needs
+
+same-length-3 : tie.Need-same-length-3
+same-length-3 c = search needs
+
+returns : tie.Need-returns
+returns c =
+    let a = c .before .before .before .before .before .before .before .before .before .before .before .before .before .before .before .before .before .before .args in
+    does-cond-true _ _ _ (sym (c .before .before .before .before .before .before .before .before .before .before .before .before .before .is-changed .ensures) ∙ c .before .before .before .before .before .before .before .before .before .before .before .before .if1 .taken)
+    (write-back-does (geometry (a .g)) (a .i) (sym (c .before .before .before .before .before .before .before .before .before .before .before .logical .ensures)) (sym (c .before .before .before .before .before .before .before .before .before .before .physical .ensures)) (c .before .before .before .before .before .before .update-one .ensures (a .cache .now)))
+
+returns-2 : tie.Need-returns-2
+returns-2 c = does-cond-false _ _ _ (sym (c .before .is-changed .ensures) ∙ c .if1 .left) (does-give tt)
+
+pub write-back-if-changed-spec : {M : Type 1} → statement M
+write-back-if-changed-spec =
+    tie.close
+    (tie.spec
+    is-changed-requires
+    logical-requires
+    physical-requires
+    update-one-requires
+    same-length
+    same-length-2
+    same-length-3
+    returns
+    returns-2)

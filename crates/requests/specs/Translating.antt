@@ -1,0 +1,151 @@
+-- What the parts of translate ask for, each from what holds at its place: an entry written back, an entry fetched.
+use Prim.Native.Nat.{ℕ, _+_, _*_, _-_, _≤_, _<_}
+use mathlib.Core.Path.{_≡_, refl, sym, ap, subst, _∙_}
+use mathlib.Core.Logic.{⊎-elim}
+use mathlib.Core.Bool.{Bool, cond}
+use native.Mathlib.Omega.{arith}
+use mathlib.Core.List.{List, [], _∷_}
+use lib.ListN.{length}
+use borrow.Author.Tests.{lt-ltb, le-ltb}
+use Rattle.scope.specs.Geometry.{Geometry, Accepted, pages}
+use Rattle.scope.specs.Regions.{Translation}
+use Rattle.scope.specs.Lent.{Entry, Place, Nowhere, State, Mapping, chip-size, directory-size, cache-size, named, logical-at, physical-at, translation-page}
+use Rattle.scope.specs.Sound.{rank-of, Names}
+use Rattle.scope.specs.Operations.{Counts, Step, apply, give, look, nothing, perform, _>>=_}
+use Rattle.scope.specs.Room.{read-page}
+use Rattle.scope.specs.Cache.{dropped, touch, enter, forget, is-changed, written-back}
+use Rattle.scope.specs.Steps.{update, write-back, drop-entry, drop-if-full, word-for, fetch, translate}
+use Rattle.flash.specs.Places.{page-on-chip}
+use Rattle.flash.specs.Words.{Lengths}
+use Rattle.promises.specs.Index.{page-below}
+use Rattle.promises.specs.Parts.{Index-fits, index-of}
+use Rattle.promises.specs.Update.{update-bound}
+use Rattle.lent.specs.declared.Counts.{Counts as Counted}
+use Rattle.lent.specs.declared.Work.{Work}
+use Rattle.lent.specs.Model.{state, counts}
+use Rattle.lent.specs.Does.{Does}
+use Rattle.lent.specs.DoesLaws.{does-give, does-look, does-look-at, does-bind, does-cond-true, does-cond-false}
+use Rattle.requests.specs.Ready.{Ready, Ready-for, countable-after}
+use Rattle.requests.specs.Dropping.{Freed, drop-frees}
+use Rattle.update.specs.Index.{Index-ready, less-room}
+use Rattle.lent.specs.Shapes.{Does-by-chip, Room-to-count}
+
+-- The most that translate costs.
+abbrev pub translate-bound : Geometry → ℕ
+translate-bound g = 2 * g .P + 2
+
+-- An entry for l may be fetched: there is room for it, and the translation page that is to be read lies on the chip.
+pub record Fetches (g : Geometry) (l : ℕ) (chip directory cache : List ℕ) (w : Work) : Type 0 where
+  pub accepted : Accepted g
+  pub chip-fits : length chip ≡ chip-size g
+  pub directory-fits : length directory ≡ directory-size g
+  pub cache-fits : length cache ≡ cache-size g
+  pub below : l < g .L
+  pub on-chip : (q : ℕ) → named (translation-page g l) directory ≡ Place q → q < pages g
+  pub room : w .rec .used < g .C
+  pub countable : Room-to-count 1 (w .counts)
+
+-- It is done whatever the spare holds.
+abbrev pub Does-fetch : {A : Type 0} → Step A → List ℕ → List ℕ → List ℕ → Work → A → List ℕ → Work → Type 0
+Does-fetch m chip directory cache w x cache′ w′ =
+    (spare : List ℕ)
+    → Does m (state chip spare directory cache (w .rec)) (counts (w .counts)) x
+    (state chip spare directory cache′ (w′ .rec)) (counts (w′ .counts))
+
+-- The index names pages on the chip.
+pub named-on-chip : {g : Geometry} → Accepted g → (s : State) → Index-fits g s → (l : ℕ) → l < g .L → (q : ℕ)
+    → named (translation-page g l) (s .directory) ≡ Place q → q < pages g
+named-on-chip {g} ok s index l below q e =
+    page-on-chip g Translation q (subst (Names g Translation (s .spare) (translation-page g l)) e
+    (index .pages .maps .names (translation-page g l) (page-below ok l below)) .0)
+
+-- ---- the parts put together as the definitions put them
+
+module _ (g : Geometry) {s s₁ : State} {c c₁ : Counts} where
+  pub write-back-does : (i : ℕ) {l place : ℕ} → logical-at i (s .cache) ≡ l → physical-at i (s .cache) ≡ place
+      → Does (update g (translation-page g l) (record { logical = l; physical = place } ∷ [])) s c tt s₁ c₁
+      → Does (write-back g i) s c tt s₁ c₁
+  unfolding write-back written-back
+  write-back-does i is-l is-place updates =
+      does-bind _ (does-look-at _ is-l) (does-bind _ (does-look-at _ (rw (is-l, is-place) refl)) updates)
+
+  pub drop-last-does : g .C ≤ s .small .used → Does (drop-entry g) s c tt s₁ c₁ → Does (drop-if-full g) s c tt s₁ c₁
+  unfolding drop-if-full
+  drop-last-does h drops = does-bind _ (does-look _) (does-cond-false _ _ _ (le-ltb (s .small .used) (g .C) h) drops)
+
+  pub hit-does : (l : ℕ) {i x : ℕ} → rank-of g (s .cache) (s .small .used) l ≡ i → i < g .C
+      → Does (touch i) s c x s₁ c₁ → Does (translate g l) s c x s₁ c₁
+  unfolding translate
+  hit-does l {i} is h touches = does-bind _ (does-look-at _ is) (does-cond-true _ _ _ (lt-ltb i (g .C) h) touches)
+
+  module _ {s₂ : State} {c₂ : Counts} where
+    pub drop-entry-does : (i : ℕ) {b : Bool} → s .small .used - 1 ≡ i → is-changed i (s .cache) ≡ b
+        → Does (cond b (write-back g i) nothing) s c tt s₁ c₁ → Does (forget i) s₁ c₁ tt s₂ c₂ → Does (drop-entry g) s c tt s₂ c₂
+    unfolding drop-entry dropped
+    drop-entry-does i is changed back forgets =
+        does-bind _ (does-look-at _ is) (does-bind _ (does-look-at _ changed) (does-bind _ back forgets))
+
+    pub fetch-does : (l : ℕ) {x y : ℕ} {page : Entry} → named (translation-page g l) (s .directory) ≡ page
+        → Does (word-for g l page) s c x s₁ c₁ → Does (enter l x) s₁ c₁ y s₂ c₂ → Does (fetch g l) s c y s₂ c₂
+    unfolding fetch
+    fetch-does l e read enters = does-bind _ (does-look-at _ e) (does-bind _ read enters)
+
+    pub miss-does : (l : ℕ) {i x : ℕ} → rank-of g (s .cache) (s .small .used) l ≡ i → g .C ≤ i
+        → Does (drop-if-full g) s c tt s₁ c₁ → Does (fetch g l) s₁ c₁ x s₂ c₂ → Does (translate g l) s c x s₂ c₂
+    unfolding translate
+    miss-does l {i} is h drops fetches =
+        does-bind _ (does-look-at _ is) (does-cond-false _ _ _ (le-ltb i (g .C) h) (does-bind _ drops fetches))
+
+pub drop-none-does : (g : Geometry) {s : State} {c : Counts} → s .small .used < g .C → Does (drop-if-full g) s c tt s c
+unfolding drop-if-full
+drop-none-does g {s} h = does-bind _ (does-look _) (does-cond-true _ _ _ (lt-ltb (s .small .used) (g .C) h) (does-give tt))
+
+-- Reading a word leaves the state as it is, and so the number of used entries.
+word-for-keeps : (g : Geometry) (l : ℕ) (page : Entry) (s : State) → word-for g l page s .after ≡ s
+unfolding word-for read-page perform apply look give _>>=_
+word-for-keeps g l (Place q) s = refl
+word-for-keeps g l Nowhere s = refl
+
+pub read-keeps-used : (g : Geometry) (l : ℕ) (page : Entry) {chip : List ℕ} {w w′ : Work} {x : ℕ}
+    → Does-by-chip (word-for g l page) chip w x w′ → w′ .rec .used ≡ w .rec .used
+read-keeps-used g l page {chip} {w} does =
+    ap (λ (s : State). s .small .used) (sym (does [] [] [] .after) ∙ word-for-keeps g l page (state chip [] [] [] (w .rec)))
+
+-- ---- what is asked for at each place
+
+-- One mapping may be written back.
+pub write-back-ready : {g : Geometry} {chip spare directory cache : List ℕ} {w : Work} (l place : ℕ)
+    → Ready g (state chip spare directory cache (w .rec)) (update-bound g) (w .counts) → l < g .L
+    → Index-ready g chip spare directory w (record { logical = l; physical = place } ∷ [])
+write-back-ready {g} l place ready below =
+    record {
+      lent = record {
+        accepted = ready .accepted;
+        chip-fits = ready .lengths .chip-fits;
+        spare-fits = ready .lengths .spare-fits;
+        directory-fits = ready .lengths .directory-fits;
+      };
+      index = index-of (ready .sound);
+      below-L = λ k. ⊎-elim (λ e. rw (← e) below) (λ z. absurd z);
+      counting = less-room (omega arith) (ready .countable);
+    }
+
+-- An entry may be fetched once one is free.
+pub fetch-ready : {g : Geometry} (l : ℕ) {s : State} {c : Counted} {chip spare directory cache : List ℕ} {w : Work}
+    → Ready-for l g s (translate-bound g) c
+    → Does (drop-if-full g) s (counts c) tt (state chip spare directory cache (w .rec)) (counts (w .counts))
+    → Fetches g l chip directory cache w
+fetch-ready {g} l {s} {c} {chip} {spare} {directory} {cache} {w} ready does =
+    let freed = drop-frees (ready .ready .accepted) s (ready .ready .lengths) (ready .ready .sound) in
+    let lengths : Lengths g (state chip spare directory cache (w .rec)) = subst (Lengths g) (does .after) (freed .lengths) in
+    record {
+      accepted = ready .ready .accepted;
+      chip-fits = lengths .chip-fits;
+      directory-fits = lengths .directory-fits;
+      cache-fits = lengths .cache-fits;
+      below = ready .below;
+      on-chip = named-on-chip (ready .ready .accepted) (state chip spare directory cache (w .rec))
+          (subst (Index-fits g) (does .after) (freed .index)) l (ready .below);
+      room = subst (λ (x : State). x .small .used < g .C) (does .after) (freed .room);
+      countable = countable-after 1 (update-bound g) (less-room (omega arith) (ready .ready .countable)) (freed .costs) does;
+    }

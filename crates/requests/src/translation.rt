@@ -1,0 +1,130 @@
+// Translate: l's entry comes to the front of the cache, from its rank or from l's translation page; the last one makes room for it.
+use lent::Geometry;
+use lent::Handed;
+use lent::Work;
+use steps::chip::word_for;
+use steps::directory::named;
+use steps::entries::enter;
+use steps::entries::forget;
+use steps::entries::is_changed;
+use steps::entries::logical;
+use steps::entries::physical;
+use steps::entries::rank_of;
+use steps::entries::touch;
+use update::update_one;
+ghost use mathlib.Core.Path.{_≡_};
+ghost use mathlib.Core.Bool.{cond};
+ghost use Prim.Native.Nat.{_<_, _≤_};
+ghost use Rattle.lent.specs.Model.{geometry};
+ghost use Rattle.scope.specs.Operations.{nothing};
+ghost use Rattle.scope.specs.Cache.{is-changed};
+ghost use Rattle.scope.specs.Steps.{write-back, drop-entry, drop-if-full, fetch, translate};
+ghost use Rattle.promises.specs.Update.{update-bound};
+ghost use Rattle.requests.specs.Ready.{lent, Does-all, Ready, Ready-for};
+ghost use Rattle.requests.specs.Translating.{translate-bound, Fetches, Does-fetch};
+
+// The entry at rank i is written back, if it is changed.
+fn write_back_if_changed(
+    work: Work,
+    g: Geometry,
+    i: usize,
+    chip: &mut [u32],
+    spare: &mut [u32],
+    directory: &mut [u32],
+    cache: &[u32],
+) -> Work
+    requires { ⌜ Ready (geometry g) (lent chip spare directory cache work) (update-bound (geometry g)) (work .counts) × (i < work .rec .used) ⌝ }
+    ensures { λ r. ⌜ Does-all (cond (is-changed i (now (cache .entry))) (write-back (geometry g) i) nothing)
+        (lent (chip .entry) (spare .entry) (directory .entry) (cache .entry) work) work tt
+        (lent (chip .exit) (spare .exit) (directory .exit) (cache .exit) r) r ⌝ }
+{
+    if is_changed(i, cache) {
+        let l = logical(i, cache);
+        let place = physical(i, cache);
+        return update_one(work, g, l, place, chip, spare, directory);
+    }
+    work
+}
+
+// The last entry is dropped.
+fn drop_entry(
+    work: Work,
+    g: Geometry,
+    chip: &mut [u32],
+    spare: &mut [u32],
+    directory: &mut [u32],
+    cache: &mut [u32],
+) -> Work
+    requires { ⌜ Ready (geometry g) (lent chip spare directory cache work) (update-bound (geometry g)) (work .counts) × (1 ≤ work .rec .used) ⌝ }
+    ensures { λ r. ⌜ Does-all (drop-entry (geometry g)) (lent (chip .entry) (spare .entry) (directory .entry) (cache .entry) work) work tt
+        (lent (chip .exit) (spare .exit) (directory .exit) (cache .exit) r) r ⌝ }
+{
+    let i = (work.rec.used - 1) as usize;
+    let written = write_back_if_changed(work, g, i, chip, spare, directory, cache);
+    forget(i, cache, written)
+}
+
+// It is, where all are used.
+fn drop_if_full(
+    work: Work,
+    g: Geometry,
+    chip: &mut [u32],
+    spare: &mut [u32],
+    directory: &mut [u32],
+    cache: &mut [u32],
+) -> Work
+    requires { ⌜ Ready (geometry g) (lent chip spare directory cache work) (update-bound (geometry g)) (work .counts) ⌝ }
+    ensures { λ r. ⌜ Does-all (drop-if-full (geometry g)) (lent (chip .entry) (spare .entry) (directory .entry) (cache .entry) work) work tt
+        (lent (chip .exit) (spare .exit) (directory .exit) (cache .exit) r) r ⌝ }
+{
+    if work.rec.used < g.c {
+        return work;
+    }
+    drop_entry(work, g, chip, spare, directory, cache)
+}
+
+// What l's translation page holds for l enters the cache, in front.
+fn fetch(
+    work: Work,
+    g: Geometry,
+    l: u32,
+    chip: &[u32],
+    directory: &[u32],
+    cache: &mut [u32],
+) -> Work
+    requires { ⌜ Fetches (geometry g) l (now chip) (now directory) (now cache) work ⌝ }
+    ensures { λ r. ⌜ Does-fetch (fetch (geometry g) l) (now (chip .entry)) (now (directory .entry)) (now (cache .entry)) work 0 (now (cache .exit)) r ⌝ }
+{
+    let page = named(l / g.w, directory);
+    let got = word_for(g, l, page, chip, work);
+    let read = got.work;
+    enter(l, got.value, cache, read)
+}
+
+// The rank that l's entry then has is handed back.
+pub fn translate(
+    work: Work,
+    g: Geometry,
+    l: u32,
+    chip: &mut [u32],
+    spare: &mut [u32],
+    directory: &mut [u32],
+    cache: &mut [u32],
+) -> Handed
+    requires { ⌜ Ready-for l (geometry g) (lent chip spare directory cache work) (translate-bound (geometry g)) (work .counts) ⌝ }
+    ensures { λ r. ⌜ Does-all (translate (geometry g) l) (lent (chip .entry) (spare .entry) (directory .entry) (cache .entry) work) work (r .value)
+        (lent (chip .exit) (spare .exit) (directory .exit) (cache .exit) (r .work)) (r .work) ⌝ }
+{
+    let rec = work.rec;
+    let i = rank_of(g, rec, l, cache);
+    if i < g.c as usize {
+        touch(i, cache);
+        return Handed { value: 0, work };
+    }
+    let freed = drop_if_full(work, g, chip, spare, directory, cache);
+    let fetched = fetch(freed, g, l, chip, directory, cache);
+    Handed {
+        value: 0,
+        work: fetched,
+    }
+}
