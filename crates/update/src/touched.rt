@@ -27,7 +27,7 @@ fn set_if_of(g: Geometry, q: u32, t: u32, l: u32, place: u32, chip: &mut [u32])
 }
 
 // There, the words of all that waits for translation page t.
-pub fn set_words(g: Geometry, q: u32, t: u32, waiting: Waiting, chip: &mut [u32])
+pub(crate) fn set_words(g: Geometry, q: u32, t: u32, waiting: Waiting, chip: &mut [u32])
     requires { ⌜ Chip-lent (geometry g) (now chip) × (q < pages (geometry g)) × (waiting .n ≤ 64) ⌝ }
     ensures { λ _. ⌜ now (chip .exit) ≡ sets (now (chip .entry)) (q * g .w)
         (set-words (geometry g) (of-page (geometry g) t (moves waiting)) (words-of (geometry g) q (now (chip .entry)))) ⌝ }
@@ -51,7 +51,7 @@ fn nearer(best: u32, from: u32, t: u32) -> u32
 }
 
 // The lowest translation page from `from` on for which something waits; m where there is none below m.
-pub fn next_touched(g: Geometry, waiting: Waiting, from: u32, m: u32) -> u32
+pub(crate) fn next_touched(g: Geometry, waiting: Waiting, from: u32, m: u32) -> u32
     requires { ⌜ Accepted (geometry g) × (waiting .n ≤ 64) × (from ≤ m) ⌝ }
     ensures { λ r. ⌜ Next-touched (geometry g) (moves waiting) from m r ⌝ }
 {

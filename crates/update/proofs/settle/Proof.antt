@@ -30,9 +30,10 @@ loop-holds c = settle-starts (c .before .before .before .before .pre .0) refl (c
 
 update-page-requires : tie.Need-update-page-requires Inv-loop μ-loop
 update-page-requires c κs =
-    let at-loop = c .before .before .before .before in
+    let tested = c .before .before .before in
+    let at-loop = tested .before in
     let start = at-loop .before .before .before .before .before in
-    (settle-next (start .pre .0) (at-loop .loop .inv) (c .before .before .before .loop-test .taken), start .pre .1)
+    (settle-next (start .pre .0) (at-loop .loop .inv) (tested .loop-test .taken), start .pre .1)
 
 add-next-touched : tie.Need-add-next-touched Inv-loop μ-loop
 add-next-touched c =
@@ -49,24 +50,31 @@ next-touched-requires-2 c κs =
 loop-less : tie.Need-loop-less Inv-loop μ-loop
 loop-less c =
     let next = c .next-touched2 .ensures in
-    omega (arith, next .from-there, next .up-to, c .before .before .before .before .before .before .before .before .before .before .before .loop-test .taken)
+    let tested = c .before .before .before .before .before .before .before .before .before .before .before in
+    omega (arith, next .from-there, next .up-to, tested .loop-test .taken)
 
 loop-again : tie.Need-loop-again Inv-loop μ-loop
 loop-again c =
     let updated = c .before .before .before .before .before .before .before in
     let tested = updated .before .before .before .before in
     let at-loop = tested .before in
-    settle-goes-on (at-loop .before .before .before .before .before .pre .0) (at-loop .loop .inv) (tested .loop-test .taken) (updated .update-page .ensures)
-    (c .next-touched2 .ensures)
+    let start = at-loop .before .before .before .before .before in
+    settle-goes-on (start .pre .0) (at-loop .loop .inv) (tested .loop-test .taken) (updated .update-page .ensures) (c .next-touched2 .ensures)
 
 same-length : tie.Need-same-length Inv-loop μ-loop
-same-length c = c .before .loop .inv .so-far .lent .chip-fits ∙ sym (c .before .before .before .before .before .before .pre .0 .lent .chip-fits)
+same-length c =
+    let at-loop = c .before in
+    at-loop .loop .inv .so-far .lent .chip-fits ∙ sym (at-loop .before .before .before .before .before .pre .0 .lent .chip-fits)
 
 same-length-2 : tie.Need-same-length-2 Inv-loop μ-loop
-same-length-2 c = c .before .loop .inv .so-far .lent .spare-fits ∙ sym (c .before .before .before .before .before .before .pre .0 .lent .spare-fits)
+same-length-2 c =
+    let at-loop = c .before in
+    at-loop .loop .inv .so-far .lent .spare-fits ∙ sym (at-loop .before .before .before .before .before .pre .0 .lent .spare-fits)
 
 same-length-3 : tie.Need-same-length-3 Inv-loop μ-loop
-same-length-3 c = c .before .loop .inv .so-far .lent .directory-fits ∙ sym (c .before .before .before .before .before .before .pre .0 .lent .directory-fits)
+same-length-3 c =
+    let at-loop = c .before in
+    at-loop .loop .inv .so-far .lent .directory-fits ∙ sym (at-loop .before .before .before .before .before .pre .0 .lent .directory-fits)
 
 returns : tie.Need-returns Inv-loop μ-loop
 returns c = settle-ends (c .before .before .before .before .before .before .pre .0) (c .before .loop .inv) (c .loop-test .left)

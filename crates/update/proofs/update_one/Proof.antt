@@ -27,7 +27,8 @@ set-word-requires c κs =
 finish-requires : tie.Need-finish-requires
 finish-requires c κs =
     let begun = c .before .before .before .before .before .before .before .before .before .before .before .before .before .before in
-    finish-ready (still-roomy (page-ready _ (begun .before .before .before .before .before .before .before .before .pre)) (begun .begin .ensures))
+    let ready = page-ready _ (begun .before .before .before .before .before .before .before .before .pre) in
+    finish-ready (still-roomy ready (begun .begin .ensures))
 
 same-length : tie.Need-same-length
 same-length c = search needs
@@ -44,8 +45,8 @@ returns c =
     let stored = finished .before .before .before .before .before in
     let chosen = stored .before .before in
     let begun = chosen .before .before .before .before .before .before .before .before in
-    update-does _ (begun .begin .ensures)
-    (one-word (page-ready _ (begun .before .before .before .before .before .before .before .before .pre)) (begun .begin .ensures) (chosen .next-page .ensures) _ (stored .set-word .ensures))
+    let ready = page-ready _ (begun .before .before .before .before .before .before .before .before .pre) in
+    update-does _ (begun .begin .ensures) (one-word ready (begun .begin .ensures) (chosen .next-page .ensures) _ (stored .set-word .ensures))
     (finished .finish .ensures)
 
 pub update-one-spec : {M : Type 1} → statement M

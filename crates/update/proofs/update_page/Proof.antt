@@ -44,8 +44,8 @@ returns c =
     let stored = finished .before .before .before .before .before in
     let chosen = stored .before .before in
     let begun = chosen .before .before .before .before .before .before .before .before in
-    update-does _ (begun .begin .ensures)
-    (all-words (begun .before .before .before .before .before .before .before .pre .0) (begun .begin .ensures) (chosen .next-page .ensures) _ (stored .set-words .ensures))
+    let ready = begun .before .before .before .before .before .before .before .pre .0 in
+    update-does _ (begun .begin .ensures) (all-words ready (begun .begin .ensures) (chosen .next-page .ensures) _ (stored .set-words .ensures))
     (finished .finish .ensures)
 
 pub update-page-spec : {M : Type 1} → statement M

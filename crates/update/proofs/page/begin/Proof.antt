@@ -15,10 +15,11 @@ named-requires c κs = search needs
 
 begin-next-requires : tie.Need-begin-next-requires
 begin-next-requires c κs =
-    let made = c .before .before .before .before .before .before .before .before .before in
-    let now-roomy = roomy (made .before .before .before .before .before .before .before .pre) (made .room .ensures) in (
-      (chip-of (now-roomy .lent), λ p e. now-roomy .former p (sym (c .before .named .ensures) ∙ e)),
-      (now-roomy .next, less-room (omega arith) (now-roomy .counting)),
+    let looked = c .before in
+    let made = looked .before .before .before .before .before .before .before .before in
+    let after = roomy (made .before .before .before .before .before .before .before .pre) (made .room .ensures) in (
+      (chip-of (after .lent), λ p e. after .former p (sym (looked .named .ensures) ∙ e)),
+      (after .next, less-room (omega arith) (after .counting)),
     )
 
 same-length : tie.Need-same-length
@@ -34,7 +35,8 @@ returns : tie.Need-returns
 returns c =
     let stored = c .before .before in
     let looked = stored .before .before in
-    begins-so (looked .before .before .before .before .before .before .before .before .room .ensures) (looked .named .ensures) (stored .begin-next .ensures)
+    let made = looked .before .before .before .before .before .before .before .before in
+    begins-so (made .room .ensures) (looked .named .ensures) (stored .begin-next .ensures)
 
 pub begin-spec : {M : Type 1} → statement M
 begin-spec =

@@ -28,11 +28,9 @@ names-it-requires : tie.Need-names-it-requires
 names-it-requires c κs =
     let moved = c .before .before .before .before .before in
     let tested = moved .before .before .before in
-    omega (
-      arith,
-      relocated-owner _ _ _ (moved .relocate .ensures [] []),
-      owner-listed (tested .before .before .before .before .before .before .pre) (sym (tested .before .is-valid .ensures) ∙ not-false _ (tested .if1 .left)),
-    )
+    let told = sym (tested .before .is-valid .ensures) ∙ not-false _ (tested .if1 .left) in
+    let start = tested .before .before .before .before .before .before in
+    omega (arith, relocated-owner _ _ _ (moved .relocate .ensures [] []), owner-listed (start .pre) told)
 
 same-length-2 : tie.Need-same-length-2
 same-length-2 c = search needs

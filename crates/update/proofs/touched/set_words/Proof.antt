@@ -49,13 +49,15 @@ loop-less c = search needs
 
 loop-again : tie.Need-loop-again Inv-loop μ-loop
 loop-again c =
-    let at-loop = c .before .before .before .before .before .before .before in
+    let called = c .before .before in
+    let at-loop = called .before .before .before .before .before in
     let start = at-loop .before .before in
     let a = start .args in
-    let i = at-loop .loop .i in (
+    let chip = called .set-if-of .last .1 .1 .1 .1 .1 .0 in (
       omega arith,
-      subst (λ w. Words-set (geometry (a .g)) (a .q) (a .t) (a .chip .now) w (c .before .before .set-if-of .last .1 .1 .1 .1 .1 .0)) (sym (one-more (a .t4 .logical) (a .t4 .physical) i))
-          (one-set (start .pre .0) (start .pre .1) _ _ (at-loop .loop .inv .1) (c .before .before .set-if-of .ensures)),
+      subst (λ w. Words-set (geometry (a .g)) (a .q) (a .t) (a .chip .now) w chip)
+          (sym (one-more (a .t4 .logical) (a .t4 .physical) (at-loop .loop .i)))
+          (one-set (start .pre .0) (start .pre .1) _ _ (at-loop .loop .inv .1) (called .set-if-of .ensures)),
     )
 
 same-length : tie.Need-same-length Inv-loop μ-loop
@@ -65,8 +67,8 @@ returns : tie.Need-returns Inv-loop μ-loop
 returns c =
     let a = c .before .before .before .args in
     let end : c .before .loop .i ≡ a .t4 .n = omega arith in
-    subst (λ n. Words-set (geometry (a .g)) (a .q) (a .t) (a .chip .now) (first-moves n (a .t4 .logical) (a .t4 .physical)) (c .before .loop .chip))
-    end (c .before .loop .inv .1) .words
+    subst (λ n. Words-set (geometry (a .g)) (a .q) (a .t) (a .chip .now) (first-moves n (a .t4 .logical) (a .t4 .physical))
+    (c .before .loop .chip)) end (c .before .loop .inv .1) .words
 
 pub set-words-spec : {M : Type 1} → statement M
 set-words-spec =
