@@ -13,7 +13,7 @@ use Rattle.flash.specs.Listed.{counts-same}
 use Rattle.lent.specs.Does.{Does}
 use Rattle.lent.specs.DoesLaws.{does-give, does-look, does-bind, does-cond-true, does-cond-false}
 use Rattle.scope.specs.Lent.{State}
-use Rattle.scope.specs.Operations.{Counts, no-counts, counts-add, counted, Outcome, Step, give, look, _>>=_}
+use Rattle.scope.specs.Operations.{Counts, no-counts, counted, Outcome, Step, look, _>>=_}
 use Rattle.scope.specs.Replies.{DONE, Test, first-applying, admit}
 use Rattle.scope.specs.Boundary.{counts-words, words-of-counts}
 
@@ -48,17 +48,23 @@ does-answers {m = m} {s = s} c {counts} d e =
       counted = e ∙ ap (put counts) (sym (d .counting) ∙ counts-same (omega arith) (omega arith) (omega arith));
     }
 
--- Tests that look at the state, and what follows them.
+-- Tests, and the steps that follow them where none applies.
+module _ {A : Type 0} (ts : List Test) (refused : ℕ → A) (steps : Step A) {s : State} {c : Counts} where
+  pub admit-refuses : {n : ℕ} → n ≡ first-applying ts → n ≢ DONE → Does (admit ts refused steps) s c (refused n) s c
+  unfolding admit
+  admit-refuses e h = rw e (does-cond-false _ _ _ (ne-eqb (first-applying ts) DONE (λ z. h (e ∙ z))) (does-give _))
+
+  pub admit-serves : {x : A} {s′ : State} {c′ : Counts} → DONE ≡ first-applying ts → Does steps s c x s′ c′
+      → Does (admit ts refused steps) s c x s′ c′
+  unfolding admit
+  admit-serves e d = does-cond-true _ _ _ (eq-eqb (first-applying ts) DONE (sym e)) d
+
+-- The same for tests that look at the state.
 module _ {A B : Type 0} (f : State → B) (tests : B → List Test) (refused : ℕ → A) (steps : Step A) {s : State} {c : Counts} where
   pub refuses : {n : ℕ} → n ≡ first-applying (tests (f s)) → n ≢ DONE
       → Does (look f >>= (λ t. admit (tests t) refused steps)) s c (refused n) s c
-  unfolding admit
-  refuses e h =
-      rw e
-      (does-bind _ (does-look f)
-      (does-cond-false _ _ _ (ne-eqb (first-applying (tests (f s))) DONE (λ z. h (e ∙ z))) (does-give _)))
+  refuses e h = does-bind _ (does-look f) (admit-refuses _ _ _ e h)
 
   pub admits : {x : A} {s′ : State} {c′ : Counts} → DONE ≡ first-applying (tests (f s)) → Does steps s c x s′ c′
       → Does (look f >>= (λ t. admit (tests t) refused steps)) s c x s′ c′
-  unfolding admit
-  admits e d = does-bind _ (does-look f) (does-cond-true _ _ _ (eq-eqb (first-applying (tests (f s))) DONE (sym e)) d)
+  admits e d = does-bind _ (does-look f) (admit-serves _ _ _ e d)

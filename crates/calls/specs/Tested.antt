@@ -1,13 +1,13 @@
 -- What the tests' answer tells: 0 only where the geometry is accepted, the lengths are right, the state is sound and the page is below L.
 -- And that a test that applies answers for all that follow it.
 use Prim.Native.Nat.{ℕ, _≤_, _<_}
-use mathlib.Core.Path.{_≡_}
+use mathlib.Core.Path.{_≡_, refl, sym, _∙_}
 use mathlib.Core.Logic.{_≢_}
 use mathlib.Core.Bool.{Bool, true, false, _&&_}
 use mathlib.Core.List.{List, [], _∷_, _++_}
 use native.Mathlib.Omega.{arith}
 use borrow.Author.Tests.{le-leb, lt-leb}
-use Rattle.flash.specs.Cases.{on, and-true}
+use Rattle.flash.specs.Cases.{on, same?, below?, and-true}
 use Rattle.flash.specs.Words.{Lengths}
 use Rattle.scope.specs.Geometry.{Geometry, Accepted, accepted}
 use Rattle.scope.specs.Lent.{State}
@@ -94,3 +94,16 @@ module _ (g : Geometry) (s : State) (others : Bool) where
     pub below-limit : State-passes → l < g .L → DONE ≡ first-applying (state-tests g sizes s ++ page-tests g l)
     unfolding first-applying
     below-limit p h = rw (p .sizes-passed .accepts, p .sizes-passed .sized, p .is-sound, lt-leb (g .L) l h)
+
+    -- PAGE passed too.
+    pub record Page-passes : Type 0 where
+      pub state-passed : State-passes
+      pub below : l < g .L
+
+    pub page-passes : DONE ≡ first-applying (state-tests g sizes s ++ page-tests g l) → Page-passes
+    unfolding first-applying
+    page-passes e =
+        same? (first-applying (state-tests g sizes s)) DONE
+        (λ d. let p = state-passes (sym d) in
+        record { state-passed = p; below = below? l (g .L) (λ h. h) (λ h. absurd (omega (arith, past-limit p h))) })
+        (λ d. absurd (d (sym (e ∙ sym (state-applies refl d)))))

@@ -8,10 +8,9 @@ use lent::Counts;
 use lent::Geometry;
 use lent::Record;
 ghost use mathlib.Core.Path.{_≡_};
-ghost use Rattle.lent.specs.Model.{geometry, state, counts as numbers};
+ghost use Rattle.lent.specs.Model.{geometry, state};
 ghost use Rattle.scope.specs.Calls.{record-tests};
 ghost use Rattle.scope.specs.Replies.{first-applying};
-ghost use Rattle.calls.specs.Answers.{put};
 ghost use Rattle.calls.specs.Run.{request, Begun, Finished};
 
 // A request: kind 0 reads and kind 1 writes a logical page.

@@ -1,10 +1,7 @@
 -- `counting::put_counts` meets its contract.
-use mathlib.Core.Path.{_∙_}
-use native.Mathlib.Omega.{arith}
 use borrow.Author.Needs.{needs}
 use borrow.Author.Tests.{eq-eqb, ne-eqb}
 use denote.Ref.{now}
-use lib.ListN.{length-set}
 use Rattle.calls.specs.Answers.{set-three}
 use Rattle.calls.proofs.counting.put_counts.Statement.{statement}
 use Rattle.calls.proofs.counting.put_counts.Tie as tie
