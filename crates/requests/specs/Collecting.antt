@@ -10,10 +10,9 @@ use Rattle.scope.specs.Regions.{Data}
 use Rattle.scope.specs.SmallRecord.{next-offset}
 use Rattle.scope.specs.Lent.{State, Mapping, logical-at}
 use Rattle.scope.specs.Sound.{Sound}
-use Rattle.scope.specs.Operations.{Counts, look, set-small, _>>=_}
 use Rattle.scope.specs.Room.{erased-blocks, victim, open-lowest, move-pages}
 use Rattle.scope.specs.Steps.{update-all, cache-follows}
-use Rattle.flash.specs.Listed.{cost, cost-none}
+use Rattle.flash.specs.Listed.{cost-none}
 use Rattle.flash.specs.Places.{block-on-chip}
 use Rattle.flash.specs.Words.{Lengths}
 use Rattle.region.specs.Collect.{opened-lowest}
@@ -23,13 +22,13 @@ use Rattle.promises.specs.Settle.{Index-settled, settle-law}
 use Rattle.promises.specs.Update.{update-bound}
 use Rattle.lent.specs.declared.Counts.{Counts as Counted}
 use Rattle.lent.specs.declared.Work.{Work}
-use Rattle.lent.specs.Model.{state, counts}
-use Rattle.lent.specs.Does.{Does}
-use Rattle.lent.specs.Shapes.{Room-to-count}
+use Rattle.lent.specs.Model.{state}
+use Rattle.lent.specs.Shapes.{Room-to-count, room-after}
 use Rattle.steps.specs.Lies.{Chip-lent, Spare-lent}
 use Rattle.steps.specs.Whole.{Blocks-whole, open-full}
 use Rattle.update.specs.Index.{Index-ready, less-room}
 use Rattle.update.specs.Starts.{collection-starts}
+use Rattle.update.specs.Room.{opened-is, opening-counts}
 use Rattle.requests.specs.Ready.{Does-all, Ready, countable-after}
 use Rattle.requests.specs.Copying.{Copies, Copies-lent, After-copying, after-copying, all-copied-costs}
 
@@ -68,25 +67,16 @@ copying-begins {s = s} a =
           (follows-first (ready .sound) (a .room-ready .some-used)) (a .full) (a .few);
     }
 
--- The lowest erased block has been opened: its law speaks of that state, and nothing was counted.
-opened-so : (g : Geometry) {s s′ : State} {c c′ : Counts} → Does (open-lowest g Data) s c tt s′ c′ → opened-lowest g Data s ≡ s′
-unfolding open-lowest look set-small _>>=_
-opened-so g does = does .after
-
-open-costs : (g : Geometry) (s : State) → cost (open-lowest g Data s .did) ≤ 0
-unfolding open-lowest look set-small _>>=_
-open-costs g s = omega (arith, cost-none)
-
 -- The parts one after the other.
 module _ {g : Geometry} {chip spare directory cache : List ℕ} {w w₁ : Work} (a : Collect-ready g (state chip spare directory cache (w .rec)) (w .counts))
     {v : ℕ} (is-v : victim g Data (state chip spare directory cache (w .rec)) ≡ v)
     (opens : Does-all (open-lowest g Data) (state chip spare directory cache (w .rec)) w tt (state chip spare directory cache (w₁ .rec)) w₁) where
   copies : Copies g v (state chip spare directory cache (w₁ .rec))
-  copies = subst₂ (Copies g) is-v (opened-so g opens) (copying-begins a)
+  copies = subst₂ (Copies g) is-v (opened-is g Data opens) (copying-begins a)
 
   countable : Room-to-count (room-bound g) (w₁ .counts)
-  countable = countable-after (room-bound g) 0 (less-room (omega arith) (a .room-ready .ready .countable))
-      (open-costs g (state chip spare directory cache (w .rec))) opens
+  countable = room-after (room-bound g) 0 (w .counts) (w₁ .counts) [] (less-room (omega arith) (a .room-ready .ready .countable))
+      (omega (arith, cost-none)) (opening-counts g Data opens)
 
   pub copy-ready : Copies-lent g v chip spare cache w₁
   copy-ready = record { directory = directory; copies = copies; countable = less-room (omega arith) countable }

@@ -5,6 +5,5 @@ pub mod Dropping
 pub mod Translating
 pub mod Waiting
 pub mod Copying
-pub mod Room
 pub mod Collecting
 pub mod Answering

@@ -5,7 +5,7 @@ use borrow.Author.Needs.{needs}
 use Rattle.scope.specs.Regions.{Data}
 use Rattle.scope.specs.Steps.{cache-follows}
 use Rattle.lent.specs.Model.{geometry}
-use Rattle.requests.specs.Room.{collect-does}
+use Rattle.update.specs.Room.{collect-does}
 use Rattle.requests.specs.Waiting.{waiting-counted}
 use Rattle.requests.specs.Collecting.{whole, copy-ready, settle-ready, few-wait, erase-ready}
 use Rattle.requests.proofs.room.collect.Statement.{statement}
@@ -27,7 +27,7 @@ settle-requires c κs =
     let opens = c .before .before .before .before .before .before .before .before .before .before .before .before .before .before .before .open-lowest .ensures _ _ _ in
     let moves = c .before .before .before .before .before .before .before .before .before .before .before .move-pages .ensures (start .args .directory .now) in
     let w = c .before .before .before .before .before .before .before .before .before .before .before .move-pages .result .waiting in
-    record { ready = settle-ready (start .pre) is-v opens moves; few = omega (arith, few-wait (start .pre) is-v opens moves, waiting-counted (w .logical) (w .physical) (w .n)) }
+    (settle-ready (start .pre) is-v opens moves, omega (arith, few-wait (start .pre) is-v opens moves, waiting-counted (w .logical) (w .physical) (w .n)))
 
 erase-requires : tie.Need-erase-requires
 erase-requires c κs =

@@ -3,7 +3,7 @@ use borrow.Author.Needs.{needs}
 use Rattle.scope.specs.Regions.{Data}
 use Rattle.scope.specs.Steps.{cache-follows}
 use Rattle.lent.specs.Model.{geometry}
-use Rattle.requests.specs.Room.{has-room-does, makes-room-does}
+use Rattle.update.specs.Room.{has-room-does, makes-room-does}
 use Rattle.requests.proofs.room.make_room.Statement.{statement}
 use Rattle.requests.proofs.room.make_room.Tie as tie
 

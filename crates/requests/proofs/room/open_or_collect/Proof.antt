@@ -5,7 +5,7 @@ use borrow.Author.Needs.{needs}
 use Rattle.scope.specs.Regions.{Data}
 use Rattle.scope.specs.Steps.{cache-follows}
 use Rattle.lent.specs.Model.{geometry}
-use Rattle.requests.specs.Room.{opens-does, collects-does}
+use Rattle.update.specs.Room.{opens-does, collects-does}
 use Rattle.requests.specs.Collecting.{whole}
 use Rattle.requests.proofs.room.open_or_collect.Statement.{statement}
 use Rattle.requests.proofs.room.open_or_collect.Tie as tie
