@@ -8,12 +8,17 @@ pub mod tests;
 use crate::counting::put_counts;
 use crate::counting::put_none;
 use crate::tests::lengths_right;
+use crate::tests::page_answer;
+use crate::tests::page_lengths_right;
 use crate::tests::size_answer;
 use crate::tests::state_answer;
+use lent::Counts;
 use lent::Geometry;
 use lent::Record;
+use lent::Work;
 ghost use Rattle.lent.specs.Model.{geometry, state};
-ghost use Rattle.scope.specs.Calls.{format, check};
+ghost use Rattle.scope.specs.Calls.{format, check, read, write};
+ghost use Rattle.scope.specs.Requests.{replied};
 ghost use Rattle.calls.specs.Answers.{Answers, right-lengths};
 
 // The reply number, and the small record after the call.
@@ -84,4 +89,90 @@ pub fn check(
     let answer = state_answer(rec, right, g, chip, spare, directory, cache);
     put_none(counts);
     answer
+}
+
+// Fills the page buffer where the page was written.
+pub fn read(
+    rec: Record,
+    fits: bool,
+    g: Geometry,
+    page: u32,
+    chip: &mut [u32],
+    spare: &mut [u32],
+    directory: &mut [u32],
+    cache: &mut [u32],
+    buffer: &mut [u32],
+    counts: &mut [u32],
+) -> Out
+    ensures { λ o. ⌜ Answers
+        (read (geometry g) (right-lengths fits (now (counts .entry))) page (now (buffer .entry))
+        (state (now (chip .entry)) (now (spare .entry)) (now (directory .entry)) (now (cache .entry)) rec))
+        (now (counts .entry)) (replied (now (buffer .exit)) (o .answer))
+        (state (now (chip .exit)) (now (spare .exit)) (now (directory .exit)) (now (cache .exit)) (o .rec))
+        (now (counts .exit)) ⌝ }
+{
+    let right = page_lengths_right(g, fits, buffer.len(), counts.len());
+    let answer = page_answer(rec, right, g, page, chip, spare, directory, cache);
+    if answer != 0 {
+        put_none(counts);
+        return Out { answer, rec };
+    }
+    let work = Work {
+        rec,
+        counts: Counts {
+            reads: 0,
+            programs: 0,
+            erases: 0,
+        },
+    };
+    let done = requests::answers::read(work, g, page, chip, spare, directory, cache, buffer);
+    put_counts(counts, done.work.counts);
+    let new = done.work.rec;
+    Out {
+        answer: done.value,
+        rec: new,
+    }
+}
+
+// Leaves the page buffer as it is.
+pub fn write(
+    rec: Record,
+    fits: bool,
+    g: Geometry,
+    page: u32,
+    chip: &mut [u32],
+    spare: &mut [u32],
+    directory: &mut [u32],
+    cache: &mut [u32],
+    buffer: &[u32],
+    counts: &mut [u32],
+) -> Out
+    ensures { λ o. ⌜ Answers
+        (write (geometry g) (right-lengths fits (now (counts .entry))) page (now (buffer .entry))
+        (state (now (chip .entry)) (now (spare .entry)) (now (directory .entry)) (now (cache .entry)) rec))
+        (now (counts .entry)) (replied (now (buffer .entry)) (o .answer))
+        (state (now (chip .exit)) (now (spare .exit)) (now (directory .exit)) (now (cache .exit)) (o .rec))
+        (now (counts .exit)) ⌝ }
+{
+    let right = page_lengths_right(g, fits, buffer.len(), counts.len());
+    let answer = page_answer(rec, right, g, page, chip, spare, directory, cache);
+    if answer != 0 {
+        put_none(counts);
+        return Out { answer, rec };
+    }
+    let work = Work {
+        rec,
+        counts: Counts {
+            reads: 0,
+            programs: 0,
+            erases: 0,
+        },
+    };
+    let done = requests::answers::write(work, g, page, chip, spare, directory, cache, buffer);
+    put_counts(counts, done.work.counts);
+    let new = done.work.rec;
+    Out {
+        answer: done.value,
+        rec: new,
+    }
 }

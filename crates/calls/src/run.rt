@@ -6,11 +6,20 @@ use crate::tests::run_lengths_right;
 use crate::tests::state_answer;
 use lent::Counts;
 use lent::Geometry;
+use lent::Handed;
 use lent::Record;
+use lent::Work;
+use requests::answers::read;
+use requests::answers::write;
 ghost use mathlib.Core.Path.{_≡_};
+ghost use lib.ListN.{length};
+ghost use Rattle.scope.specs.Requests.{replied};
 ghost use Rattle.lent.specs.Model.{geometry, state};
-ghost use Rattle.scope.specs.Calls.{record-tests};
-ghost use Rattle.scope.specs.Replies.{first-applying};
+ghost use Rattle.scope.specs.Calls.{record-tests, serve, serve-record};
+ghost use Rattle.scope.specs.Replies.{DONE, first-applying};
+ghost use Rattle.calls.specs.Room.{most-cost};
+ghost use Rattle.calls.specs.Serve.{Serving, Runs};
+ghost use Rattle.requests.specs.Ready.{Does-all, Ready-for};
 ghost use Rattle.calls.specs.Run.{request, Begun, Finished};
 
 // A request: kind 0 reads and kind 1 writes a logical page.
@@ -68,6 +77,84 @@ pub fn record_answer(g: Geometry, q: Request) -> u32
         return 6;
     }
     0
+}
+
+// The steps of a request that has passed its tests.
+fn serve_request(
+    work: Work,
+    g: Geometry,
+    q: Request,
+    chip: &mut [u32],
+    spare: &mut [u32],
+    directory: &mut [u32],
+    cache: &mut [u32],
+    buffer: &mut [u32],
+) -> Handed
+    requires { ⌜ Ready-for (q .page) (geometry g) (state (now chip) (now spare) (now directory) (now cache) (work .rec)) most-cost (work .counts)
+        × (length (now buffer) ≡ g .w) ⌝ }
+    ensures { λ r. ⌜ Does-all (serve (geometry g) (request q) (now (buffer .entry)))
+        (state (now (chip .entry)) (now (spare .entry)) (now (directory .entry)) (now (cache .entry)) (work .rec)) work
+        (replied (now (buffer .exit)) (r .value))
+        (state (now (chip .exit)) (now (spare .exit)) (now (directory .exit)) (now (cache .exit)) (r .work .rec)) (r .work) ⌝ }
+{
+    if q.kind == 0 {
+        return read(work, g, q.page, chip, spare, directory, cache, buffer);
+    }
+    write(work, g, q.page, chip, spare, directory, cache, buffer)
+}
+
+// Request i: its tests, its steps on its own words, and its answer stored.
+pub fn serve(
+    cur: Running,
+    i: usize,
+    q: Request,
+    g: Geometry,
+    chip: &mut [u32],
+    spare: &mut [u32],
+    directory: &mut [u32],
+    cache: &mut [u32],
+    words: &mut [u32],
+    answers: &mut [u32],
+) -> Running
+    requires { ⌜ (cur .answer ≡ DONE → Serving (geometry g) i cur
+        (state (now chip) (now spare) (now directory) (now cache) (cur .rec)) (now words) (now answers)) ⌝ }
+    ensures { λ r. ⌜ Runs (serve-record (geometry g) i (request q)) cur
+        (state (now (chip .entry)) (now (spare .entry)) (now (directory .entry)) (now (cache .entry)) (cur .rec))
+        (now (words .entry)) (now (answers .entry)) r
+        (state (now (chip .exit)) (now (spare .exit)) (now (directory .exit)) (now (cache .exit)) (r .rec))
+        (now (words .exit)) (now (answers .exit)) ⌝ }
+{
+    if cur.answer != 0 {
+        return cur;
+    }
+    let refusal = record_answer(g, q);
+    if refusal != 0 {
+        answers[i] = refusal;
+        return cur;
+    }
+    let w = g.w as usize;
+    let from = i * w;
+    let to = from + w;
+    let counts = cur.counts;
+    let rec = cur.rec;
+    let done = serve_request(
+        Work { rec, counts },
+        g,
+        q,
+        chip,
+        spare,
+        directory,
+        cache,
+        &mut words[from..to],
+    );
+    answers[i] = done.value;
+    let counted = done.work.counts;
+    let new = done.work.rec;
+    Running {
+        answer: 0,
+        counts: counted,
+        rec: new,
+    }
 }
 
 // The end of a run.
