@@ -34,7 +34,7 @@ use Rattle.lent.specs.Shapes.{Does-flash, Does-by-chip, Does-cache, Room-to-cou
 use Rattle.steps.specs.Chip.{marked, mark-old-does}
 use Rattle.steps.specs.Lies.{Chip-lent, Spare-lent, Has-next}
 use Rattle.update.specs.Index.{less-room}
-use Rattle.requests.specs.Ready.{Does-all, Ready-for, countable-after}
+use Rattle.requests.specs.Ready.{Does-all, Ready-for, ready-less, countable-after}
 use Rattle.requests.specs.Translating.{translate-bound}
 use Rattle.requests.specs.Collecting.{room-bound, Room-ready}
 
@@ -103,6 +103,9 @@ module _ {l : ℕ} {g : Geometry} {s s₁ : State} {n x : ℕ} {c c₁ : Counted
 
 -- ---- read
 
+pub read-begins : {l : ℕ} {g : Geometry} {s : State} {c : Counted} → Ready-for l g s (read-bound g) c → Ready-for l g s (translate-bound g) c
+read-begins a = ready-less (omega arith) a
+
 pub place-ready : {l : ℕ} {g : Geometry} {s : State} {c : Counted} {chip spare directory cache buffer : List ℕ} {w : Work} {x : ℕ} {place : Entry}
     → Ready-for l g s (read-bound g) c
     → Does (translate g l) s (counts c) x (state chip spare directory cache (w .rec)) (counts (w .counts))
@@ -139,18 +142,8 @@ write-costs : (P : ℕ) → 1 ≤ P → 2 * P + 2 + (2 * (P - 1) + (2 * P + 1) *
 write-costs zero h = absurd (omega arith)
 write-costs (suc p) h = let e : suc p - 1 ≡ p = omega arith in rw e (omega arith)
 
-pub translate-ready : {l : ℕ} {g : Geometry} {s : State} {c : Counted} → Ready-for l g s (write-bound g) c → Ready-for l g s (translate-bound g) c
-translate-ready {g = g} a =
-    let ready = a .ready in
-    record {
-      ready = record {
-        accepted = ready .accepted;
-        lengths = ready .lengths;
-        sound = ready .sound;
-        countable = less-room (omega (arith, write-costs (g .P) (ready .accepted .P-from))) (ready .countable);
-      };
-      below = a .below;
-    }
+pub write-begins : {l : ℕ} {g : Geometry} {s : State} {c : Counted} → Ready-for l g s (write-bound g) c → Ready-for l g s (translate-bound g) c
+write-begins {g = g} a = ready-less (omega (arith, write-costs (g .P) (a .ready .accepted .P-from))) a
 
 module _ {l : ℕ} {g : Geometry} {s s₁ : State} {x : ℕ} {c c₁ : Counted} (a : Ready-for l g s (write-bound g) c)
     (translates : Does (translate g l) s (counts c) x s₁ (counts c₁)) where

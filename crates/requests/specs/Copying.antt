@@ -2,10 +2,9 @@
 -- to settle. All of it follows from the law of the definition, since the loop has done the definition's first n pages.
 use Prim.Native.Nat.{ℕ, suc, _+_, _*_, _-_, _≤_, _<_}
 use mathlib.Core.Path.{_≡_, refl, sym, ap, subst, subst₂, _∙_}
-use mathlib.Core.Logic.{_≢_}
 use mathlib.Core.Bool.{Bool, true}
 use lib.Dec.{eqb}
-use mathlib.Core.List.{List, [], _++_}
+use mathlib.Core.List.{List, []}
 use native.Mathlib.Numerals.{add-one}
 use native.Mathlib.Omega.{arith}
 use lib.ListN.{length}
@@ -14,8 +13,7 @@ use Rattle.scope.specs.Geometry.{Geometry, Accepted, pages}
 use Rattle.scope.specs.Regions.{Data, page-in, Has-block}
 use Rattle.scope.specs.SmallRecord.{open-block, next-offset}
 use Rattle.scope.specs.Lent.{valid, State, Mapping, state-of, is-valid}
-use Rattle.scope.specs.Blocks.{valid-pages}
-use Rattle.scope.specs.Operations.{Step, give, _>>=_}
+use Rattle.scope.specs.Operations.{Step}
 use Rattle.scope.specs.Room.{move-if-valid, move-pages}
 use Rattle.scope.specs.Steps.{cache-follows}
 use Rattle.flash.specs.Counting.{count-le, count-add}
@@ -23,11 +21,9 @@ use Rattle.flash.specs.Places.{page-on-chip, page-in-region}
 use Rattle.flash.specs.Words.{Lengths}
 use Rattle.flash.specs.Listed.{cost}
 use Rattle.cache.specs.Waiting.{Waits}
-use Rattle.region.specs.Moving.{Copying}
 use Rattle.region.specs.Copied.{Copied, move-pages-law}
 use Rattle.promises.specs.Parts.{Index-fits}
 use Rattle.promises.specs.Follow.{place-while, Follows, cache-follower}
-use Rattle.promises.specs.Update.{update-bound}
 use Rattle.lent.specs.declared.Work.{Work}
 use Rattle.lent.specs.Model.{small, state}
 use Rattle.lent.specs.DoesLaws.{does-value}

@@ -1,6 +1,6 @@
 -- What translate needs of the states inside it: the last entry written back where it must be, and forgotten. The index holds, so that the
 -- translation page that is looked up then lies on the chip, and the cache has room. Promises has what this does to places and soundness.
-use Prim.Native.Nat.{ℕ, _+_, _*_, _-_, _≤_, _<_}
+use Prim.Native.Nat.{ℕ, _*_, _-_, _≤_, _<_}
 use mathlib.Core.Path.{_≡_, refl, ap, _∙_}
 use mathlib.Core.Logic.{⊎-elim}
 use mathlib.Core.Bool.{cond}
@@ -13,7 +13,7 @@ use Rattle.scope.specs.Lent.{none, State, entry-words, logical-at, physical-at,
 use Rattle.scope.specs.Sound.{Sound}
 use Rattle.scope.specs.Operations.{Outcome, give, look, nothing, set-cache, set-small, _>>=_}
 use Rattle.scope.specs.Cache.{dropped, forget, is-changed, written-back}
-use Rattle.scope.specs.Steps.{update, write-back, drop-entry, drop-if-full}
+use Rattle.scope.specs.Steps.{write-back, drop-entry, drop-if-full}
 use Rattle.flash.specs.Cases.{on, below?}
 use Rattle.flash.specs.Words.{Lengths}
 use Rattle.flash.specs.Listed.{cost, cost-++, cost-none}

@@ -1,24 +1,23 @@
 -- Format in one go: the erases of all blocks, one after the other, leave chip and spare of erased words alone.
 use Prim.Native.Nat.{ℕ, zero, suc, _+_, _*_, _≤_}
 use mathlib.Core.Path.{_≡_, refl, sym, ap, ap₂, _∙_}
-use mathlib.Core.List.{List, [], _∷_, _++_, append-assoc, append-nil}
+use mathlib.Core.List.{List, _++_, append-nil}
 use native.Mathlib.Numerals.{add-one}
 use native.Mathlib.Omega.{arith}
-use native.Mathlib.Nat.{mul-le-mul-right, zero-mul, add-mul}
+use native.Mathlib.Nat.{mul-le-mul-right, zero-mul}
 use lib.ListN.{length, drop, replicate, length-append, length-drop, length-replicate, replicate-append-replicate, drop-of-length-le}
 use lib.Seq.{sets, sets-eq, take-at, drop-append-add, drop-drop}
 use Rattle.lent.specs.declared.Record.{Record}
 use Rattle.lent.specs.Model.{small, state}
 use Rattle.lent.specs.Does.{Does}
 use Rattle.lent.specs.DoesLaws.{does-give, does-bind, does-erase, does-set-directory, does-set-cache, does-set-small, does-for-none, does-for-more}
-use Rattle.scope.specs.Geometry.{Geometry, Accepted, blocks, pages}
-use Rattle.scope.specs.Lent.{none, erased, State, spare-words, with-flash, directory-size, cache-size}
+use Rattle.scope.specs.Geometry.{Geometry, Accepted, blocks}
+use Rattle.scope.specs.Lent.{none, erased, State, spare-words, with-flash}
 use Rattle.scope.specs.SmallRecord.{fresh}
-use Rattle.scope.specs.Operations.{Counts, no-counts, Erase, Step, apply, perform, for, _>>=_}
+use Rattle.scope.specs.Operations.{Counts, no-counts, Erase, apply, perform, for}
 use Rattle.scope.specs.Replies.{DONE}
 use Rattle.scope.specs.Requests.{format-steps}
 use Rattle.flash.specs.Words.{Lengths-fit}
-use Rattle.flash.specs.Listed.{counts-same}
 
 -- What format asks: an accepted geometry, and lists of its lengths.
 pub record Sized (g : Geometry) (chip spare directory cache : List ℕ) : Type 0 where

@@ -14,6 +14,7 @@ use Rattle.lent.specs.declared.Work.{Work}
 use Rattle.lent.specs.Model.{state, counts}
 use Rattle.lent.specs.Does.{Does}
 use Rattle.lent.specs.Shapes.{Room-to-count, room-after}
+use Rattle.update.specs.Index.{less-room}
 
 abbrev pub lent : RefT (List ℕ) → RefT (List ℕ) → RefT (List ℕ) → RefT (List ℕ) → Work → State
 lent chip spare directory cache w = state (now chip) (now spare) (now directory) (now cache) (w .rec)
@@ -33,6 +34,20 @@ pub record Ready (g : Geometry) (s : State) (n : ℕ) (c : Counted) : Type 0 whe
 pub record Ready-for (l : ℕ) (g : Geometry) (s : State) (n : ℕ) (c : Counted) : Type 0 where
   pub ready : Ready g s n c
   pub below : l < g .L
+
+-- Fewer operations may begin too.
+pub ready-less : {l : ℕ} {g : Geometry} {s : State} {n m : ℕ} {c : Counted} → n ≤ m → Ready-for l g s m c → Ready-for l g s n c
+ready-less h a =
+    let ready = a .ready in
+    record {
+      ready = record {
+        accepted = ready .accepted;
+        lengths = ready .lengths;
+        sound = ready .sound;
+        countable = less-room h (ready .countable);
+      };
+      below = a .below;
+    }
 
 -- Room for n more is left after a step of at most k, where there was room for both.
 pub countable-after : {A : Type 0} {m : Step A} {s s′ : State} {x : A} {c c′ : Counted} (n k : ℕ)

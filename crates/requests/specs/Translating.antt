@@ -9,7 +9,7 @@ use lib.ListN.{length}
 use borrow.Author.Tests.{lt-ltb, le-ltb}
 use Rattle.scope.specs.Geometry.{Geometry, Accepted, pages}
 use Rattle.scope.specs.Regions.{Translation}
-use Rattle.scope.specs.Lent.{Entry, Place, Nowhere, State, Mapping, chip-size, directory-size, cache-size, named, logical-at, physical-at, translation-page}
+use Rattle.scope.specs.Lent.{Entry, Place, Nowhere, State, chip-size, directory-size, cache-size, named, logical-at, physical-at, translation-page}
 use Rattle.scope.specs.Sound.{rank-of, Names}
 use Rattle.scope.specs.Operations.{Counts, Step, apply, give, look, nothing, perform, _>>=_}
 use Rattle.scope.specs.Room.{read-page}
@@ -26,7 +26,7 @@ use Rattle.lent.specs.Model.{state, counts}
 use Rattle.lent.specs.Does.{Does}
 use Rattle.lent.specs.DoesLaws.{does-give, does-look, does-look-at, does-bind, does-cond-true, does-cond-false}
 use Rattle.requests.specs.Ready.{Ready, Ready-for, countable-after}
-use Rattle.requests.specs.Dropping.{Freed, drop-frees}
+use Rattle.requests.specs.Dropping.{written-law, drop-frees}
 use Rattle.update.specs.Index.{Index-ready, less-room}
 use Rattle.lent.specs.Shapes.{Does-by-chip, Room-to-count}
 
@@ -129,6 +129,16 @@ write-back-ready {g} l place ready below =
       below-L = λ k. ⊎-elim (λ e. rw (← e) below) (λ z. absurd z);
       counting = less-room (omega arith) (ready .countable);
     }
+
+-- A write-back leaves the number of used entries.
+pub written-keeps-used : {g : Geometry} {s : State} {n : ℕ} {c : Counted} {chip spare directory cache : List ℕ} {w : Work} → Ready g s n c
+    → (i : ℕ) → i < s .small .used
+    → Does (cond (is-changed i (s .cache)) (write-back g i) nothing) s (counts c) tt
+    (state chip spare directory cache (w .rec)) (counts (w .counts))
+    → w .rec .used ≡ s .small .used
+written-keeps-used {s = s} ready i in-use does =
+    sym (ap (λ (z : State). z .small .used) (does .after))
+    ∙ written-law (ready .accepted) s (ready .lengths) (ready .sound) i in-use .used
 
 -- An entry may be fetched once one is free.
 pub fetch-ready : {g : Geometry} (l : ℕ) {s : State} {c : Counted} {chip spare directory cache : List ℕ} {w : Work}

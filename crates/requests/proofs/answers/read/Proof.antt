@@ -1,34 +1,30 @@
 -- `requests::answers::read` meets its contract: the entry at the rank that translate hands back says where l is.
 use mathlib.Core.Path.{sym, ap, _∙_}
-use native.Mathlib.Omega.{arith}
 use borrow.Author.Needs.{needs}
 use Rattle.scope.specs.Lent.{decode}
 use Rattle.lent.specs.Model.{geometry}
-use Rattle.update.specs.Index.{less-room}
-use Rattle.requests.specs.Ready.{Ready-for}
-use Rattle.requests.specs.Answering.{translated-lies, place-ready, read-does}
+use Rattle.requests.specs.Answering.{read-begins, translated-lies, place-ready, read-does}
 use Rattle.requests.proofs.answers.read.Statement.{statement}
 use Rattle.requests.proofs.answers.read.Tie as tie
 
 translate-requires : tie.Need-translate-requires
-translate-requires c κs =
-    let ready = c .before .before .before .before .before .before .before .before .before .pre .0 .ready in
-    record {
-      ready = record { accepted = ready .accepted; lengths = ready .lengths; sound = ready .sound; countable = less-room (omega arith) (ready .countable) };
-      below = c .before .before .before .before .before .before .before .before .before .pre .0 .below;
-    }
+translate-requires c κs = read-begins (c .before .before .before .before .before .before .before .before .before .pre .0)
 
 cast-physical : tie.Need-cast-physical
 cast-physical c = search needs
 
 physical-requires : tie.Need-physical-requires
-physical-requires c κs = translated-lies (c .before .before .before .before .before .before .before .before .before .before .before .before .before .before .before .before .before .before .before .before .before .pre .0) (c .before .before .before .before .before .before .before .before .before .before .before .translate .ensures)
+physical-requires c κs = let translated = (c .before .before .before .before .before .before .before .before .before .before .before) in translated-lies (translated .before .before .before .before .before .before .before .before .before .before .pre .0) (translated .translate .ensures)
 
 decode-requires : tie.Need-decode-requires
 decode-requires c κs = search needs
 
 read-place-requires : tie.Need-read-place-requires
-read-place-requires c κs = place-ready (c .before .before .before .before .before .before .before .before .before .before .before .before .before .before .before .before .before .before .before .before .before .before .before .before .before .pre .0) (c .before .before .before .before .before .before .before .before .before .before .before .before .before .before .before .translate .ensures) (c .before .before .decode .ensures ∙ ap decode (c .before .before .before .physical .ensures)) (c .before .before .before .before .before .before .before .before .before .before .before .before .before .before .before .before .before .before .before .before .before .before .before .before .before .pre .1)
+read-place-requires c κs =
+    let seen = (c .before .before .before) in
+    let translated = (seen .before .before .before .before .before .before .before .before .before .before .before .before) in
+    let start = (translated .before .before .before .before .before .before .before .before .before .before) in
+    place-ready (start .pre .0) (translated .translate .ensures) (c .before .before .decode .ensures ∙ ap decode (seen .physical .ensures)) (start .pre .1)
 
 same-length : tie.Need-same-length
 same-length c = search needs
@@ -47,9 +43,11 @@ same-length-5 c = search needs
 
 returns : tie.Need-returns
 returns c =
-    let a = c .before .before .before .before .before .before .before .before .before .before .before .before .before .before .before .before .before .before .before .before .before .before .before .before .before .before .before .before .args in
-    read-does (geometry (a .g)) (a .l) (a .buffer .now) (c .before .before .before .before .before .before .before .before .before .before .before .before .before .before .before .before .before .before .translate .ensures)
-    (ap decode (sym (c .before .before .before .before .before .before .physical .ensures)) ∙ sym (c .before .before .before .before .before .decode .ensures)) (c .before .before .read-place .ensures _ _ _)
+    let seen = (c .before .before .before .before .before .before) in
+    let translated = (seen .before .before .before .before .before .before .before .before .before .before .before .before) in
+    let a = translated .before .before .before .before .before .before .before .before .before .before .args in
+    read-does (geometry (a .g)) (a .l) (a .buffer .now) (translated .translate .ensures)
+    (ap decode (sym (seen .physical .ensures)) ∙ sym (c .before .before .before .before .before .decode .ensures)) (c .before .before .read-place .ensures _ _ _)
 
 pub read-spec : {M : Type 1} → statement M
 read-spec =

@@ -2,40 +2,44 @@
 use native.Mathlib.Omega.{arith}
 use borrow.Author.Needs.{needs}
 use Rattle.lent.specs.Model.{geometry}
-use Rattle.update.specs.Index.{less-room}
-use Rattle.requests.specs.Ready.{Ready-for}
-use Rattle.requests.specs.Answering.{translate-ready, room-ready, writing-ready, write-does}
+use Rattle.requests.specs.Answering.{write-begins, room-ready, writing-ready, write-does}
 use Rattle.requests.proofs.answers.write.Statement.{statement}
 use Rattle.requests.proofs.answers.write.Tie as tie
 
 translate-requires : tie.Need-translate-requires
-translate-requires c κs = translate-ready (c .before .before .before .before .before .before .before .before .before .pre .0)
+translate-requires c κs = write-begins (c .before .before .before .before .before .before .before .before .before .pre .0)
 
 cast-i : tie.Need-cast-i
 cast-i c = search needs
 
 make-room-requires : tie.Need-make-room-requires
-make-room-requires c κs = room-ready (c .before .before .before .before .before .before .before .before .before .before .before .before .before .before .before .before .before .before .before .before .before .before .before .before .pre .0) (c .before .before .before .before .before .before .before .before .before .before .before .before .before .before .translate .ensures)
+make-room-requires c κs = let translated = (c .before .before .before .before .before .before .before .before .before .before .before .before .before .before) in room-ready (translated .before .before .before .before .before .before .before .before .before .before .pre .0) (translated .translate .ensures)
 
 place-requires : tie.Need-place-requires
-place-requires c κs = writing-ready (c .before .before .before .before .before .before .before .before .before .before .before .before .before .before .before .before .before .before .before .before .before .before .before .before .before .before .before .before .before .before .before .before .before .before .before .before .pre .0) (c .before .before .before .before .before .before .before .before .before .before .before .before .before .before .before .before .before .before .before .before .before .before .before .before .before .before .translate .ensures) (c .before .before .before .before .before .before .before .before .before .before .before .make-room .ensures) (c .before .before .before .before .before .before .before .before .before .before .before .before .before .before .before .before .before .before .before .before .before .before .before .before .before .before .before .before .before .before .before .before .before .before .before .before .pre .1)
+place-requires c κs =
+    let made = (c .before .before .before .before .before .before .before .before .before .before .before) in
+    let translated = (made .before .before .before .before .before .before .before .before .before .before .before .before .before .before .before) in
+    let start = (translated .before .before .before .before .before .before .before .before .before .before) in
+    writing-ready (start .pre .0) (translated .translate .ensures) (made .make-room .ensures) (start .pre .1)
 
 same-length : tie.Need-same-length
-same-length c = omega (arith, c .before .before .before .before .before .before .place .kept, c .before .before .before .before .before .before .before .before .before .before .before .before .before .before .before .before .before .before .make-room .kept, c .before .before .before .before .before .before .before .before .before .before .before .before .before .before .before .before .before .before .before .before .before .before .before .before .before .before .before .before .before .before .before .before .before .translate .kept)
+same-length c = let made = (c .before .before .before .before .before .before .before .before .before .before .before .before .before .before .before .before .before .before) in omega (arith, c .before .before .before .before .before .before .place .kept, made .make-room .kept, made .before .before .before .before .before .before .before .before .before .before .before .before .before .before .before .translate .kept)
 
 same-length-2 : tie.Need-same-length-2
-same-length-2 c = omega (arith, c .before .before .before .before .before .before .place .kept, c .before .before .before .before .before .before .before .before .before .before .before .before .before .before .before .before .before .before .make-room .kept, c .before .before .before .before .before .before .before .before .before .before .before .before .before .before .before .before .before .before .before .before .before .before .before .before .before .before .before .before .before .before .before .before .before .translate .kept)
+same-length-2 c = let made = (c .before .before .before .before .before .before .before .before .before .before .before .before .before .before .before .before .before .before) in omega (arith, c .before .before .before .before .before .before .place .kept, made .make-room .kept, made .before .before .before .before .before .before .before .before .before .before .before .before .before .before .before .translate .kept)
 
 same-length-3 : tie.Need-same-length-3
-same-length-3 c = omega (arith, c .before .before .before .before .before .before .place .kept, c .before .before .before .before .before .before .before .before .before .before .before .before .before .before .before .before .before .before .make-room .kept, c .before .before .before .before .before .before .before .before .before .before .before .before .before .before .before .before .before .before .before .before .before .before .before .before .before .before .before .before .before .before .before .before .before .translate .kept)
+same-length-3 c = let made = (c .before .before .before .before .before .before .before .before .before .before .before .before .before .before .before .before .before .before) in omega (arith, c .before .before .before .before .before .before .place .kept, made .make-room .kept, made .before .before .before .before .before .before .before .before .before .before .before .before .before .before .before .translate .kept)
 
 same-length-4 : tie.Need-same-length-4
-same-length-4 c = omega (arith, c .before .before .before .before .before .before .place .kept, c .before .before .before .before .before .before .before .before .before .before .before .before .before .before .before .before .before .before .make-room .kept, c .before .before .before .before .before .before .before .before .before .before .before .before .before .before .before .before .before .before .before .before .before .before .before .before .before .before .before .before .before .before .before .before .before .translate .kept)
+same-length-4 c = let made = (c .before .before .before .before .before .before .before .before .before .before .before .before .before .before .before .before .before .before) in omega (arith, c .before .before .before .before .before .before .place .kept, made .make-room .kept, made .before .before .before .before .before .before .before .before .before .before .before .before .before .before .before .translate .kept)
 
 returns : tie.Need-returns
 returns c =
-    let a = c .before .before .before .before .before .before .before .before .before .before .before .before .before .before .before .before .before .before .before .before .before .before .before .before .before .before .before .before .before .before .before .before .before .before .before .before .before .before .before .before .before .before .before .args in
-    write-does (geometry (a .g)) (a .l) (a .buffer .now) (c .before .before .before .before .before .before .before .before .before .before .before .before .before .before .before .before .before .before .before .before .before .before .before .before .before .before .before .before .before .before .before .before .before .translate .ensures) (c .before .before .before .before .before .before .before .before .before .before .before .before .before .before .before .before .before .before .make-room .ensures) (c .before .before .before .before .before .before .place .ensures _)
+    let made = (c .before .before .before .before .before .before .before .before .before .before .before .before .before .before .before .before .before .before) in
+    let translated = (made .before .before .before .before .before .before .before .before .before .before .before .before .before .before .before) in
+    let a = translated .before .before .before .before .before .before .before .before .before .before .args in
+    write-does (geometry (a .g)) (a .l) (a .buffer .now) (translated .translate .ensures) (made .make-room .ensures) (c .before .before .before .before .before .before .place .ensures _)
 
 pub write-spec : {M : Type 1} → statement M
 write-spec =

@@ -20,8 +20,9 @@ same-length c = search needs
 
 returns : tie.Need-returns
 returns c chip spare directory =
-    let a = c .before .before .before .before .before .before .before .before .before .before .args in
-    entry-follows (geometry (a .g)) (a .l) (a .page) (c .before .before .before .before .before .before .rank-of .ensures .1) (c .before .before .before .before .if1 .taken) (c .before .before .set-entry .ensures (a .work))
+    let found = (c .before .before .before .before .before .before) in
+    let a = found .before .before .before .before .args in
+    entry-follows (geometry (a .g)) (a .l) (a .page) (found .rank-of .ensures .1) (c .before .before .before .before .if1 .taken) (c .before .before .set-entry .ensures (a .work))
 
 wait-requires : tie.Need-wait-requires
 wait-requires c κs = c .before .before .before .before .before .before .pre .1

@@ -13,9 +13,11 @@ relocate-requires c κs =
 
 follow-requires : tie.Need-follow-requires
 follow-requires c κs =
-    let start = (c .before .before .before .before .before .before .before .before .before .before .before .before .before .before) in
-    let used = relocate-keeps-used (geometry (start .args .g)) (start .args .page) (c .before .before .before .before .before .before .before .relocate .ensures) in
-    (record { cache-fits = start .pre .0 .cache-lent .cache-fits; used-to = omega (arith, start .pre .0 .cache-lent .used-to) }, start .pre .0 .few)
+    let moved = (c .before .before .before .before .before .before .before) in
+    let start = (moved .before .before .before .before .before .before .before) in
+    let ready = start .pre .0 in
+    let used = relocate-keeps-used (geometry (start .args .g)) (start .args .page) (moved .relocate .ensures) in
+    (record { cache-fits = ready .cache-lent .cache-fits; used-to = omega (arith, ready .cache-lent .used-to) }, ready .few)
 
 same-length : tie.Need-same-length
 same-length c = search needs
@@ -28,8 +30,9 @@ same-length-3 c = search needs
 
 returns : tie.Need-returns
 returns c directory =
-    let a = c .before .before .before .before .before .before .before .before .before .before .before .before .before .before .before .before .before .args in
-    page-moves (geometry (a .g)) (a .page) (c .before .before .before .before .before .before .before .before .before .before .relocate .ensures) (c .before .before .follow .ensures _ _ directory)
+    let moved = (c .before .before .before .before .before .before .before .before .before .before) in
+    let a = moved .before .before .before .before .before .before .before .args in
+    page-moves (geometry (a .g)) (a .page) (moved .relocate .ensures) (c .before .before .follow .ensures _ _ directory)
 
 pub move-page-spec : {M : Type 1} → statement M
 move-page-spec =

@@ -1,12 +1,8 @@
 -- `requests::copying::move_pages` meets its contract. The invariant: the first i pages have been copied, and the law of the definition says
 -- of them what the next turn asks for.
 use Prim.Native.Nat.{_-_, _+_, _*_, _<_}
-use mathlib.Core.Path.{_≡_, refl, sym, ap, _∙_, subst}
+use mathlib.Core.Path.{sym, _∙_, subst}
 use native.Mathlib.Omega.{arith}
-use borrow.Author.Needs.{needs}
-use lib.ListN.{length}
-use Rattle.scope.specs.Geometry.{pages}
-use Rattle.flash.specs.Words.{Lengths}
 use Rattle.steps.specs.Lies.{spare-lies}
 use Rattle.lent.specs.Model.{geometry}
 use Rattle.update.specs.Moves.{moves, first-moves}

@@ -1,5 +1,5 @@
 -- `requests::room::collect` meets its contract: each part asks for what the law of the parts before it gives.
-use mathlib.Core.Path.{_≡_, refl, sym, ap, subst}
+use mathlib.Core.Path.{refl}
 use native.Mathlib.Omega.{arith}
 use borrow.Author.Needs.{needs}
 use Rattle.scope.specs.Regions.{Data}
@@ -18,27 +18,40 @@ open-lowest-requires : tie.Need-open-lowest-requires
 open-lowest-requires c κs = whole (c .before .before .before .before .before .before .before .pre .room-ready) (c .before .before .before .before .before .before .before .pre .full)
 
 move-pages-requires : tie.Need-move-pages-requires
-move-pages-requires c κs = copy-ready (c .before .before .before .before .before .before .before .before .before .before .before .pre) (c .before .before .before .before .before .victim .ensures _ refl) (c .before .before .before .open-lowest .ensures _ _ _)
+move-pages-requires c κs =
+    let opened = (c .before .before .before) in
+    let chosen = (opened .before .before) in
+    copy-ready (chosen .before .before .before .before .before .before .pre) (chosen .victim .ensures _ refl) (opened .open-lowest .ensures _ _ _)
 
 settle-requires : tie.Need-settle-requires
 settle-requires c κs =
-    let start = (c .before .before .before .before .before .before .before .before .before .before .before .before .before .before .before .before .before .before .before .before .before .before .before) in
-    let is-v = c .before .before .before .before .before .before .before .before .before .before .before .before .before .before .before .before .before .victim .ensures _ refl in
-    let opens = c .before .before .before .before .before .before .before .before .before .before .before .before .before .before .before .open-lowest .ensures _ _ _ in
-    let moves = c .before .before .before .before .before .before .before .before .before .before .before .move-pages .ensures (start .args .directory .now) in
-    let w = c .before .before .before .before .before .before .before .before .before .before .before .move-pages .result .waiting in
-    (settle-ready (start .pre) is-v opens moves, omega (arith, few-wait (start .pre) is-v opens moves, waiting-counted (w .logical) (w .physical) (w .n)))
+    let copied = (c .before .before .before .before .before .before .before .before .before .before .before) in
+    let opened = (copied .before .before .before .before) in
+    let chosen = (opened .before .before) in
+    let start = (chosen .before .before .before .before .before .before) in
+    let is-v = chosen .victim .ensures _ refl in
+    let opens = opened .open-lowest .ensures _ _ _ in
+    let moves = copied .move-pages .ensures (start .args .directory .now) in
+    let w = copied .move-pages .result .waiting in (
+      settle-ready (start .pre) is-v opens moves,
+      omega (arith, few-wait (start .pre) is-v opens moves, waiting-counted (w .logical) (w .physical) (w .n)),
+    )
 
 erase-requires : tie.Need-erase-requires
 erase-requires c κs =
-    let start = (c .before .before .before .before .before .before .before .before .before .before .before .before .before .before .before .before .before .before .before .before .before .before .before .before .before .before .before .before .before .before .before .before) in
-    erase-ready (start .pre) (c .before .before .before .before .before .before .before .before .before .before .before .before .before .before .before .before .before .before .before .before .before .before .before .before .before .before .victim .ensures _ refl) (c .before .before .before .before .before .before .before .before .before .before .before .before .before .before .before .before .before .before .before .before .before .before .before .before .open-lowest .ensures _ _ _) (c .before .before .before .before .before .before .before .before .before .before .before .before .before .before .before .before .before .before .before .before .move-pages .ensures (start .args .directory .now)) (c .before .before .before .before .before .before .before .before .settle .ensures _)
+    let settled = (c .before .before .before .before .before .before .before .before) in
+    let copied = (settled .before .before .before .before .before .before .before .before .before .before .before .before) in
+    let opened = (copied .before .before .before .before) in
+    let chosen = (opened .before .before) in
+    let start = (chosen .before .before .before .before .before .before) in
+    erase-ready (start .pre) (chosen .victim .ensures _ refl) (opened .open-lowest .ensures _ _ _)
+    (copied .move-pages .ensures (start .args .directory .now)) (settled .settle .ensures _)
 
 same-length : tie.Need-same-length
-same-length c = omega (arith, c .before .before .before .before .erase .kept, c .before .before .before .before .before .before .before .before .before .before .before .before .before .settle .kept, c .before .before .before .before .before .before .before .before .before .before .before .before .before .before .before .before .before .before .before .before .before .before .before .before .before .move-pages .kept)
+same-length c = let settled = (c .before .before .before .before .before .before .before .before .before .before .before .before .before) in omega (arith, c .before .before .before .before .erase .kept, settled .settle .kept, settled .before .before .before .before .before .before .before .before .before .before .before .before .move-pages .kept)
 
 same-length-2 : tie.Need-same-length-2
-same-length-2 c = omega (arith, c .before .before .before .before .erase .kept, c .before .before .before .before .before .before .before .before .before .before .before .before .before .settle .kept, c .before .before .before .before .before .before .before .before .before .before .before .before .before .before .before .before .before .before .before .before .before .before .before .before .before .move-pages .kept)
+same-length-2 c = let settled = (c .before .before .before .before .before .before .before .before .before .before .before .before .before) in omega (arith, c .before .before .before .before .erase .kept, settled .settle .kept, settled .before .before .before .before .before .before .before .before .before .before .before .before .move-pages .kept)
 
 same-length-3 : tie.Need-same-length-3
 same-length-3 c = search needs
@@ -48,9 +61,15 @@ same-length-4 c = search needs
 
 returns : tie.Need-returns
 returns c =
-    let a = c .before .before .before .before .before .before .before .before .before .before .before .before .before .before .before .before .before .before .before .before .before .before .before .before .before .before .before .before .before .before .before .before .before .before .before .before .before .args in
-    collect-does (geometry (a .g)) Data (cache-follows (geometry (a .g))) (c .before .before .before .before .before .before .before .before .before .before .before .before .before .before .before .before .before .before .before .before .before .before .before .before .before .before .before .before .before .before .before .victim .ensures _ refl) (c .before .before .before .before .before .before .before .before .before .before .before .before .before .before .before .before .before .before .before .before .before .before .before .before .before .before .before .before .before .open-lowest .ensures _ _ _)
-    (c .before .before .before .before .before .before .before .before .before .before .before .before .before .before .before .before .before .before .before .before .before .before .before .before .before .move-pages .ensures (a .directory .now)) (c .before .before .before .before .before .before .before .before .before .before .before .before .before .settle .ensures _) (c .before .before .before .before .erase .ensures _ _)
+    let erased = (c .before .before .before .before) in
+    let settled = (erased .before .before .before .before .before .before .before .before .before) in
+    let copied = (settled .before .before .before .before .before .before .before .before .before .before .before .before) in
+    let opened = (copied .before .before .before .before) in
+    let chosen = (opened .before .before) in
+    let a = chosen .before .before .before .before .before .before .args in
+    let g = geometry (a .g) in
+    collect-does g Data (cache-follows g) (chosen .victim .ensures _ refl) (opened .open-lowest .ensures _ _ _)
+    (copied .move-pages .ensures (a .directory .now)) (settled .settle .ensures _) (erased .erase .ensures _ _)
 
 pub collect-spec : {M : Type 1} → statement M
 collect-spec =

@@ -29,8 +29,10 @@ same-length-4 c = search needs
 
 returns-2 : tie.Need-returns-2
 returns-2 c =
-    let g = geometry (c .before .before .before .before .before .before .before .before .before .before .before .before .before .before .before .before .before .before .before .before .args .g) in
-    makes-room-does g Data (cache-follows g) (c .before .before .before .before .before .before .before .before .before .before .before .before .before .if1 .left) (c .before .before .before .before .before .before .before .before .open-or-collect .ensures)
+    let made = (c .before .before .before .before .before .before .before .before) in
+    let tested = (made .before .before .before .before .before) in
+    let g = geometry (tested .before .before .before .before .before .before .before .args .g) in
+    makes-room-does g Data (cache-follows g) (tested .if1 .left) (made .open-or-collect .ensures)
 
 pub make-room-spec : {M : Type 1} → statement M
 make-room-spec =

@@ -21,11 +21,19 @@ same-length c = search needs
 
 returns : tie.Need-returns
 returns c =
-    let g = geometry (c .before .before .before .before .before .before .before .before .before .args .g) in
-    opens-does g Data (cache-follows g) (c .before .before .before .erased-blocks .ensures _ refl) (c .before .before .if1 .taken) (c .open-lowest .ensures _ _ _)
+    let counted = (c .before .before .before) in
+    let g = geometry (counted .before .before .before .before .before .before .args .g) in
+    opens-does g Data (cache-follows g) (counted .erased-blocks .ensures _ refl) (c .before .before .if1 .taken) (c .open-lowest .ensures _ _ _)
 
 collect-requires : tie.Need-collect-requires
-collect-requires c κs = record { room-ready = c .before .before .before .before .before .before .before .before .before .before .before .pre .0; full = c .before .before .before .before .before .before .before .before .before .before .before .pre .1; few = subst (λ (n : ℕ). n < 2) (sym (c .before .before .before .before .before .erased-blocks .ensures _ refl)) (c .before .before .before .before .if1 .left) }
+collect-requires c κs =
+    let counted = (c .before .before .before .before .before) in
+    let start = (counted .before .before .before .before .before .before) in
+    record {
+      room-ready = start .pre .0;
+      full = start .pre .1;
+      few = subst (λ (n : ℕ). n < 2) (sym (counted .erased-blocks .ensures _ refl)) (c .before .before .before .before .if1 .left);
+    }
 
 same-length-2 : tie.Need-same-length-2
 same-length-2 c = search needs
@@ -41,8 +49,10 @@ same-length-5 c = search needs
 
 returns-2 : tie.Need-returns-2
 returns-2 c =
-    let g = geometry (c .before .before .before .before .before .before .before .before .before .before .before .before .before .before .before .before .before .before .before .before .args .g) in
-    collects-does g Data (cache-follows g) (c .before .before .before .before .before .before .before .before .before .before .before .before .before .before .erased-blocks .ensures _ refl) (c .before .before .before .before .before .before .before .before .before .before .before .before .before .if1 .left) (c .before .before .before .before .before .before .before .before .collect .ensures)
+    let collected = (c .before .before .before .before .before .before .before .before) in
+    let counted = (collected .before .before .before .before .before .before) in
+    let g = geometry (counted .before .before .before .before .before .before .args .g) in
+    collects-does g Data (cache-follows g) (counted .erased-blocks .ensures _ refl) (collected .before .before .before .before .before .if1 .left) (collected .collect .ensures)
 
 pub open-or-collect-spec : {M : Type 1} → statement M
 open-or-collect-spec =

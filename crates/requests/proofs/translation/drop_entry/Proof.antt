@@ -1,12 +1,10 @@
 -- `requests::translation::drop_entry` meets its contract: the write-back leaves the cache and the number of used entries as they were.
 use Prim.Native.Nat.{_-_}
-use mathlib.Core.Path.{refl, sym, ap, _∙_}
+use mathlib.Core.Path.{refl}
 use native.Mathlib.Omega.{arith}
 use borrow.Author.Needs.{needs}
-use Rattle.scope.specs.Lent.{State}
 use Rattle.lent.specs.Model.{geometry}
-use Rattle.requests.specs.Dropping.{written-law}
-use Rattle.requests.specs.Translating.{drop-entry-does}
+use Rattle.requests.specs.Translating.{written-keeps-used, drop-entry-does}
 use Rattle.requests.proofs.translation.drop_entry.Statement.{statement}
 use Rattle.requests.proofs.translation.drop_entry.Tie as tie
 
@@ -21,10 +19,10 @@ write-back-if-changed-requires c κs = (c .before .before .before .before .befor
 
 forget-requires : tie.Need-forget-requires
 forget-requires c κs =
-    let start = (c .before .before .before .before .before .before .before .before .before .before .before .before .before .before .before .before .before) in
+    let written = (c .before .before .before .before .before .before .before) in
+    let start = (written .before .before .before .before .before .before .before .before .before .before) in
     let ready = start .pre .0 in
-    let law = written-law (ready .accepted) _ (ready .lengths) (ready .sound) (start .args .work .rec .used - 1) (omega (arith, start .pre .1)) in
-    let used = sym (ap (λ (s : State). s .small .used) (c .before .before .before .before .before .before .before .write-back-if-changed .ensures .after)) ∙ law .used in
+    let used = written-keeps-used ready (start .args .work .rec .used - 1) (omega (arith, start .pre .1)) (written .write-back-if-changed .ensures) in
     (omega (arith, start .pre .1, ready .sound .rule-5 .at-most, ready .lengths .cache-fits), omega (arith, start .pre .1))
 
 same-length : tie.Need-same-length
@@ -41,8 +39,8 @@ same-length-4 c = search needs
 
 returns : tie.Need-returns
 returns c =
-    let a = c .before .before .before .before .before .before .before .before .before .before .before .before .before .before .before .before .before .before .before .before .args in
-    drop-entry-does (geometry (a .g)) _ refl refl (c .before .before .before .before .before .before .before .before .before .before .write-back-if-changed .ensures) (c .before .before .forget .ensures _ _ _)
+    let written = (c .before .before .before .before .before .before .before .before .before .before) in
+    drop-entry-does (geometry (written .before .before .before .before .before .before .before .before .before .before .args .g)) _ refl refl (written .write-back-if-changed .ensures) (c .before .before .forget .ensures _ _ _)
 
 pub drop-entry-spec : {M : Type 1} → statement M
 drop-entry-spec =

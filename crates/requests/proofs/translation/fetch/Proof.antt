@@ -12,14 +12,17 @@ div-named : tie.Need-div-named
 div-named c = search needs
 
 named-requires : tie.Need-named-requires
-named-requires c κs = omega (arith, page-below (c .before .before .before .before .pre .accepted) (c .before .before .before .before .args .l) (c .before .before .before .before .pre .below), c .before .before .before .before .pre .directory-fits)
+named-requires c κs =
+    let start = (c .before .before .before .before) in
+    omega (arith, page-below (start .pre .accepted) (start .args .l) (start .pre .below), start .pre .directory-fits)
 
 word-for-requires : tie.Need-word-for-requires
-word-for-requires c κs = (
-  record { accepted = c .before .before .before .before .before .pre .accepted; chip-fits = c .before .before .before .before .before .pre .chip-fits },
-  λ q e. c .before .before .before .before .before .pre .on-chip q (sym (c .named .ensures) ∙ e),
-  c .before .before .before .before .before .pre .countable,
-)
+word-for-requires c κs =
+    let ready = c .before .before .before .before .before .pre in (
+      record { accepted = ready .accepted; chip-fits = ready .chip-fits },
+      λ q e. ready .on-chip q (sym (c .named .ensures) ∙ e),
+      ready .countable,
+    )
 
 enter-requires : tie.Need-enter-requires
 enter-requires c κs =
@@ -32,8 +35,9 @@ same-length c = search needs
 
 returns : tie.Need-returns
 returns c spare =
-    let a = c .before .before .before .before .before .before .before .before .before .before .before .args in
-    fetch-does (geometry (a .g)) (a .l) (sym (c .before .before .before .before .before .before .named .ensures)) (c .before .before .before .before .before .word-for .ensures spare (a .directory .now) (a .cache .now))
+    let word = (c .before .before .before .before .before) in
+    let a = word .before .before .before .before .before .before .args in
+    fetch-does (geometry (a .g)) (a .l) (sym (word .before .named .ensures)) (word .word-for .ensures spare (a .directory .now) (a .cache .now))
     (c .before .before .enter .ensures (a .chip .now) spare (a .directory .now))
 
 pub fetch-spec : {M : Type 1} → statement M
