@@ -92,7 +92,8 @@ module _ {l : ℕ} {g : Geometry} {s s₁ : State} {n x : ℕ} {c c₁ : Counted
       record {
         lengths = subst (Lengths g) (translates .after) (law .kept .lengths);
         sound = subst (Sound g) (translates .after) (law .kept .sound);
-        rank = subst₂ (λ (y : ℕ) (z : State). Has-rank (z .cache) (z .small .used) l y) (translates .value) (translates .after) (law .rank);
+        rank = subst₂ (λ (y : ℕ) (z : State). Has-rank (z .cache) (z .small .used) l y) (translates .value) (translates .after)
+            (law .rank);
       }
 
   pub translated-lies : x * 3 + 3 ≤ length (s₁ .cache)
@@ -103,10 +104,12 @@ module _ {l : ℕ} {g : Geometry} {s s₁ : State} {n x : ℕ} {c c₁ : Counted
 
 -- ---- read
 
-pub read-begins : {l : ℕ} {g : Geometry} {s : State} {c : Counted} → Ready-for l g s (read-bound g) c → Ready-for l g s (translate-bound g) c
+pub read-begins : {l : ℕ} {g : Geometry} {s : State} {c : Counted} → Ready-for l g s (read-bound g) c
+    → Ready-for l g s (translate-bound g) c
 read-begins a = ready-less (omega arith) a
 
-pub place-ready : {l : ℕ} {g : Geometry} {s : State} {c : Counted} {chip spare directory cache buffer : List ℕ} {w : Work} {x : ℕ} {place : Entry}
+pub place-ready : {l : ℕ} {g : Geometry} {s : State} {c : Counted} {chip spare directory cache buffer : List ℕ} {w : Work} {x : ℕ}
+    {place : Entry}
     → Ready-for l g s (read-bound g) c
     → Does (translate g l) s (counts c) x (state chip spare directory cache (w .rec)) (counts (w .counts))
     → place ≡ decode (physical-at x cache) → length buffer ≡ g .W → Place-ready g place chip buffer (w .counts)
@@ -129,9 +132,9 @@ module _ (g : Geometry) (buffer : List ℕ) {place : Entry} {chip : List ℕ} {w
   unfolding read-place
   read-nowhere-does e spare directory cache = rw e (does-give _)
 
-pub read-does : (g : Geometry) (l : ℕ) (buffer : List ℕ) {s s₁ s₂ : State} {c c₁ c₂ : Counts} {x : ℕ} {place : Entry} {r : Replied}
-    → Does (translate g l) s c x s₁ c₁ → decode (physical-at x (s₁ .cache)) ≡ place → Does (read-place g buffer place) s₁ c₁ r s₂ c₂
-    → Does (read-steps g l buffer) s c r s₂ c₂
+pub read-does : (g : Geometry) (l : ℕ) (buffer : List ℕ) {s s₁ s₂ : State} {c c₁ c₂ : Counts} {x : ℕ} {place : Entry}
+    {r : Replied} → Does (translate g l) s c x s₁ c₁ → decode (physical-at x (s₁ .cache)) ≡ place
+    → Does (read-place g buffer place) s₁ c₁ r s₂ c₂ → Does (read-steps g l buffer) s c r s₂ c₂
 unfolding read-steps
 read-does g l buffer translates e reads = does-bind _ translates (does-bind _ (does-look-at _ e) reads)
 
@@ -142,7 +145,8 @@ write-costs : (P : ℕ) → 1 ≤ P → 2 * P + 2 + (2 * (P - 1) + (2 * P + 1) *
 write-costs zero h = absurd (omega arith)
 write-costs (suc p) h = let e : suc p - 1 ≡ p = omega arith in rw e (omega arith)
 
-pub write-begins : {l : ℕ} {g : Geometry} {s : State} {c : Counted} → Ready-for l g s (write-bound g) c → Ready-for l g s (translate-bound g) c
+pub write-begins : {l : ℕ} {g : Geometry} {s : State} {c : Counted} → Ready-for l g s (write-bound g) c
+    → Ready-for l g s (translate-bound g) c
 write-begins {g = g} a = ready-less (omega (arith, write-costs (g .P) (a .ready .accepted .P-from))) a
 
 module _ {l : ℕ} {g : Geometry} {s s₁ : State} {x : ℕ} {c c₁ : Counted} (a : Ready-for l g s (write-bound g) c)
@@ -189,12 +193,18 @@ module _ {l : ℕ} {g : Geometry} {s s₁ : State} {x : ℕ} {c c₁ : Counted} 
     where
       then : At-rank g l x (state chip spare directory cache (w .rec))
       then = subst (At-rank g l x) (makes .after)
-          (record { lengths = made .lengths; sound = sound-from (made .inv .index) (made .holds) (made .inv .cache); rank = made .inv .rank })
+          (record {
+            lengths = made .lengths;
+            sound = sound-from (made .inv .index) (made .holds) (made .inv .cache);
+            rank = made .inv .rank;
+          })
 
-pub placing-does : (g : Geometry) (l i : ℕ) {chip spare cache chip′ spare₁ spare′ cache′ buffer : List ℕ} {w w′ : Work} {q : ℕ} {old : Entry}
-    → Does-flash (program-next g Data l buffer) chip spare w q chip′ spare₁ w′ → decode (physical-at i cache) ≡ old → spare′ ≡ marked old spare₁
+pub placing-does : (g : Geometry) (l i : ℕ) {chip spare cache chip′ spare₁ spare′ cache′ buffer : List ℕ} {w w′ : Work} {q : ℕ}
+    {old : Entry} → Does-flash (program-next g Data l buffer) chip spare w q chip′ spare₁ w′
+    → decode (physical-at i cache) ≡ old → spare′ ≡ marked old spare₁
     → Does-cache (set-entry i q) cache w′ tt cache′ w′ → (directory : List ℕ)
-    → Does-all (placing g l i buffer) (state chip spare directory cache (w .rec)) w (replied buffer DONE) (state chip′ spare′ directory cache′ (w′ .rec)) w′
+    → Does-all (placing g l i buffer) (state chip spare directory cache (w .rec)) w (replied buffer DONE)
+    (state chip′ spare′ directory cache′ (w′ .rec)) w′
 placing-does g l i {cache = cache} {chip′} {old = old} programs e is-marked sets directory =
     does-bind _ (programs directory cache)
     (does-bind _ (does-look-at _ e)

@@ -48,7 +48,8 @@ pub record Collect-ready (g : Geometry) (s : State) (c : Counted) : Type 0 where
   pub few : erased-blocks g Data s < 2
 
 -- With the open block full, each block is wholly erased or full.
-pub whole : {g : Geometry} {s : State} {c : Counted} → Room-ready g s c → g .P ≤ next-offset Data (s .small) → Blocks-whole g Data (s .spare)
+pub whole : {g : Geometry} {s : State} {c : Counted} → Room-ready g s c → g .P ≤ next-offset Data (s .small)
+    → Blocks-whole g Data (s .spare)
 whole a full = open-full (a .ready .accepted) (a .ready .lengths .spare-fits) (data-of (a .ready .sound) .fits) full
 
 -- Something is cached: the foremost entry, say.
@@ -68,9 +69,11 @@ copying-begins {s = s} a =
     }
 
 -- The parts one after the other.
-module _ {g : Geometry} {chip spare directory cache : List ℕ} {w w₁ : Work} (a : Collect-ready g (state chip spare directory cache (w .rec)) (w .counts))
+module _ {g : Geometry} {chip spare directory cache : List ℕ} {w w₁ : Work}
+    (a : Collect-ready g (state chip spare directory cache (w .rec)) (w .counts))
     {v : ℕ} (is-v : victim g Data (state chip spare directory cache (w .rec)) ≡ v)
-    (opens : Does-all (open-lowest g Data) (state chip spare directory cache (w .rec)) w tt (state chip spare directory cache (w₁ .rec)) w₁) where
+    (opens : Does-all (open-lowest g Data) (state chip spare directory cache (w .rec)) w tt
+    (state chip spare directory cache (w₁ .rec)) w₁) where
   copies : Copies g v (state chip spare directory cache (w₁ .rec))
   copies = subst₂ (Copies g) is-v (opened-is g Data opens) (copying-begins a)
 
@@ -116,11 +119,13 @@ module _ {g : Geometry} {chip spare directory cache : List ℕ} {w w₁ : Work} 
 
       pub erase-ready : Chip-lent g chip₃ × Spare-lent g spare₃ × (v < blocks g) × Room-to-count 1 (w₃ .counts)
       erase-ready =
-          let lengths : Lengths g (state chip₃ spare₃ directory₃ cache₂ (w₃ .rec)) = subst (Lengths g) (settles .after) (settled .lengths) in (
+          let lengths : Lengths g (state chip₃ spare₃ directory₃ cache₂ (w₃ .rec)) =
+          subst (Lengths g) (settles .after) (settled .lengths) in (
             record { accepted = copies .accepted; chip-fits = lengths .chip-fits },
             record { accepted = copies .accepted; spare-fits = lengths .spare-fits },
             block-on-chip g Data v (copies .starts .in-region),
             countable-after 1 (update-bound g * (g .P - 1))
-                (countable-after (1 + update-bound g * (g .P - 1)) (2 * (g .P - 1)) (less-room (omega arith) countable) (all-copied-costs copies) moves)
+                (countable-after (1 + update-bound g * (g .P - 1)) (2 * (g .P - 1)) (less-room (omega arith) countable)
+                (all-copied-costs copies) moves)
                 (omega (arith, settled .costs, waited)) settles,
           )

@@ -80,7 +80,8 @@ module _ {g : Geometry} {v : ℕ} {s : State} (a : Copies g v s) where
   pub before-page : (n : ℕ) → n < g .P → Before-page g v n (moved n s .value) (moved n s .after)
   before-page n h =
       let so-far = copied n (omega arith) in
-      let here : state-of (page-in g v n) (moved n s .after .spare) ≡ state-of (page-in g v n) (s .spare) = so-far .ahead n (omega arith) h in
+      let here : state-of (page-in g v n) (moved n s .after .spare) ≡ state-of (page-in g v n) (s .spare) =
+      so-far .ahead n (omega arith) h in
       record {
         opened = so-far .copying .fits .in-region;
         room = omega (arith, so-far .offset, count-le n (λ i. is-valid (page-in g v i) (s .spare)));
@@ -162,13 +163,11 @@ module _ {g : Geometry} {v : ℕ} {chip₀ spare₀ cache₀ : List ℕ} {w₀ :
         (state chip₀ spare₀ directory cache₀ (w₀ .rec)) w₀ waiting (state chip spare directory cache (w .rec)) w
     all-so-far h directory =
         let all : n ≡ g .P = omega (arith, so-far .upto) in
-        subst (λ (m : ℕ). Does-all (move-pages g Data (cache-follows g) v m) (state chip₀ spare₀ directory cache₀ (w₀ .rec)) w₀ waiting
-        (state chip spare directory cache (w .rec)) w) all (so-far .does directory)
+        subst (λ (m : ℕ). Does-all (move-pages g Data (cache-follows g) v m)
+        (state chip₀ spare₀ directory cache₀ (w₀ .rec)) w₀ waiting (state chip spare directory cache (w .rec)) w)
+        all (so-far .does directory)
 
     module _ (a : Copies-lent g v chip₀ spare₀ cache₀ w₀) where
-      abbrev s₀ : State
-      s₀ = state chip₀ spare₀ (a .directory) cache₀ (w₀ .rec)
-
       abbrev s : State
       s = state chip spare (a .directory) cache (w .rec)
 

@@ -76,6 +76,7 @@ module _ {g : Geometry} (ok : Accepted g) (s : State) (lengths : Lengths g s) (s
   drop-frees =
       let i = s .small .used - 1 in
       below? (s .small .used) (g .C)
-      (λ h. rw (lt-ltb (s .small .used) (g .C) h) (record { index = index-of sound; room = h; lengths = lengths; costs = omega (arith, cost-none) }))
+      (λ h. rw (lt-ltb (s .small .used) (g .C) h)
+      (record { index = index-of sound; room = h; lengths = lengths; costs = omega (arith, cost-none) }))
       (λ h. rw (le-ltb (s .small .used) (g .C) h)
       (forgotten i (cond (is-changed i (s .cache)) (write-back g i) nothing s) (written-law i (omega (arith, ok .C-from))) h))

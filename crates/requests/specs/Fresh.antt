@@ -82,7 +82,8 @@ module _ (g : Geometry) (s : State) (lengths : Lengths-fit g (s .chip) (s .spare
       rw (← chip, ← spare) (does-for-more _ n (erases-do n (omega arith)) (rw add-one at one))
 
 -- All lists erased, and the numbers of a fresh record.
-pub format-does : (g : Geometry) (chip spare directory cache : List ℕ) (old new : Record) (chip′ spare′ directory′ cache′ : List ℕ)
+pub format-does : (g : Geometry) (chip spare directory cache : List ℕ) (old new : Record)
+    (chip′ spare′ directory′ cache′ : List ℕ)
     → Sized g chip spare directory cache → small new ≡ fresh g
     → chip′ ≡ replicate (length chip) erased → spare′ ≡ replicate (length spare) erased
     → directory′ ≡ replicate (length directory) none → cache′ ≡ replicate (length cache) none

@@ -80,7 +80,8 @@ module _ (g : Geometry) {s s₁ : State} {c c₁ : Counts} where
 
   module _ {s₂ : State} {c₂ : Counts} where
     pub drop-entry-does : (i : ℕ) {b : Bool} → s .small .used - 1 ≡ i → is-changed i (s .cache) ≡ b
-        → Does (cond b (write-back g i) nothing) s c tt s₁ c₁ → Does (forget i) s₁ c₁ tt s₂ c₂ → Does (drop-entry g) s c tt s₂ c₂
+        → Does (cond b (write-back g i) nothing) s c tt s₁ c₁ → Does (forget i) s₁ c₁ tt s₂ c₂
+        → Does (drop-entry g) s c tt s₂ c₂
     unfolding drop-entry dropped
     drop-entry-does i is changed back forgets =
         does-bind _ (does-look-at _ is) (does-bind _ (does-look-at _ changed) (does-bind _ back forgets))
@@ -131,8 +132,8 @@ write-back-ready {g} l place ready below =
     }
 
 -- A write-back leaves the number of used entries.
-pub written-keeps-used : {g : Geometry} {s : State} {n : ℕ} {c : Counted} {chip spare directory cache : List ℕ} {w : Work} → Ready g s n c
-    → (i : ℕ) → i < s .small .used
+pub written-keeps-used : {g : Geometry} {s : State} {n : ℕ} {c : Counted} {chip spare directory cache : List ℕ} {w : Work}
+    → Ready g s n c → (i : ℕ) → i < s .small .used
     → Does (cond (is-changed i (s .cache)) (write-back g i) nothing) s (counts c) tt
     (state chip spare directory cache (w .rec)) (counts (w .counts))
     → w .rec .used ≡ s .small .used

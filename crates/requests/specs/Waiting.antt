@@ -41,7 +41,8 @@ module _ (logical physical : List ℕ) (m l p : ℕ) where
       rw (first-kept n (omega arith), getD-set-other logical m n l 0 (omega arith), getD-set-other physical m n p 0 (omega arith)) refl
 
 pub wait-more : (logical physical : List ℕ) (n l p : ℕ) → n < length logical → n < length physical
-    → first-moves (n + 1) (set logical n l) (set physical n p) ≡ first-moves n logical physical ++ record { logical = l; physical = p } ∷ []
+    → first-moves (n + 1) (set logical n l) (set physical n p)
+    ≡ first-moves n logical physical ++ record { logical = l; physical = p } ∷ []
 wait-more logical physical n l p h k =
     one-more (set logical n l) (set physical n p) n
     ∙ (rw (first-kept logical physical n l p n (omega arith), getD-set-same logical n l 0 h, getD-set-same physical n p 0 k) refl)

@@ -30,7 +30,8 @@ const UNWRITTEN: u32 = 1;
 // The page at a place is read into the buffer; nowhere, nothing.
 fn read_place(work: Work, g: Geometry, place: Entry, chip: &[u32], buffer: &mut [u32]) -> Handed
     requires { ⌜ Place-ready (geometry g) (entry place) (now chip) (now buffer) (work .counts) ⌝ }
-    ensures { λ r. ⌜ Does-by-chip (read-place (geometry g) (now (buffer .entry)) (entry place)) (now (chip .entry)) work (replied (now (buffer .exit)) (r .value)) (r .work) ⌝ }
+    ensures { λ r. ⌜ Does-by-chip (read-place (geometry g) (now (buffer .entry)) (entry place))
+        (now (chip .entry)) work (replied (now (buffer .exit)) (r .value)) (r .work) ⌝ }
 {
     let Entry::Place(p) = place else {
         return Handed {
@@ -56,9 +57,12 @@ pub fn read(
     cache: &mut [u32],
     buffer: &mut [u32],
 ) -> Handed
-    requires { ⌜ Ready-for l (geometry g) (lent chip spare directory cache work) (read-bound (geometry g)) (work .counts) × (length (now buffer) ≡ g .w) ⌝ }
-    ensures { λ r. ⌜ Does-all (read-steps (geometry g) l (now (buffer .entry))) (lent (chip .entry) (spare .entry) (directory .entry) (cache .entry) work) work
-        (replied (now (buffer .exit)) (r .value)) (lent (chip .exit) (spare .exit) (directory .exit) (cache .exit) (r .work)) (r .work) ⌝ }
+    requires { ⌜ Ready-for l (geometry g) (lent chip spare directory cache work) (read-bound (geometry g)) (work .counts)
+        × (length (now buffer) ≡ g .w) ⌝ }
+    ensures { λ r. ⌜ Does-all (read-steps (geometry g) l (now (buffer .entry)))
+        (lent (chip .entry) (spare .entry) (directory .entry) (cache .entry) work) work
+        (replied (now (buffer .exit)) (r .value))
+        (lent (chip .exit) (spare .exit) (directory .exit) (cache .exit) (r .work)) (r .work) ⌝ }
 {
     let at = translate(work, g, l, chip, spare, directory, cache);
     let translated = at.work;
@@ -100,9 +104,12 @@ pub fn write(
     cache: &mut [u32],
     buffer: &[u32],
 ) -> Handed
-    requires { ⌜ Ready-for l (geometry g) (lent chip spare directory cache work) (write-bound (geometry g)) (work .counts) × (length (now buffer) ≡ g .w) ⌝ }
-    ensures { λ r. ⌜ Does-all (write-steps (geometry g) l (now (buffer .entry))) (lent (chip .entry) (spare .entry) (directory .entry) (cache .entry) work) work
-        (replied (now (buffer .entry)) (r .value)) (lent (chip .exit) (spare .exit) (directory .exit) (cache .exit) (r .work)) (r .work) ⌝ }
+    requires { ⌜ Ready-for l (geometry g) (lent chip spare directory cache work) (write-bound (geometry g)) (work .counts)
+        × (length (now buffer) ≡ g .w) ⌝ }
+    ensures { λ r. ⌜ Does-all (write-steps (geometry g) l (now (buffer .entry)))
+        (lent (chip .entry) (spare .entry) (directory .entry) (cache .entry) work) work
+        (replied (now (buffer .entry)) (r .value))
+        (lent (chip .exit) (spare .exit) (directory .exit) (cache .exit) (r .work)) (r .work) ⌝ }
 {
     let at = translate(work, g, l, chip, spare, directory, cache);
     let translated = at.work;

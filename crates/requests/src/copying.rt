@@ -46,7 +46,8 @@ fn follow(
     cache: &mut [u32],
 ) -> Waiting
     requires { ⌜ Cache-lent (geometry g) (now cache) (work .rec .used) × (waiting .n < 64) ⌝ }
-    ensures { λ r. ⌜ ((chip spare directory : List ℕ) → Does-waiting (cache-or-wait (geometry g) l page) chip spare directory (now (cache .entry)) work (moves waiting) (moves r) chip spare (now (cache .exit)) work) ⌝ }
+    ensures { λ r. ⌜ ((chip spare directory : List ℕ) → Does-waiting (cache-or-wait (geometry g) l page)
+        chip spare directory (now (cache .entry)) work (moves waiting) (moves r) chip spare (now (cache .exit)) work) ⌝ }
 {
     let rec = work.rec;
     let i = rank_of(g, rec, l, cache);
@@ -72,9 +73,11 @@ fn move_page(
     spare: &mut [u32],
     cache: &mut [u32],
 ) -> Copied
-    requires { ⌜ Page-to-move (geometry g) page (now chip) (now spare) (now cache) (copied .work) (copied .waiting .n) × (is-valid page (now spare) ≡ true) ⌝ }
+    requires { ⌜ Page-to-move (geometry g) page (now chip) (now spare) (now cache) (copied .work) (copied .waiting .n)
+        × (is-valid page (now spare) ≡ true) ⌝ }
     ensures { λ r. ⌜ ((directory : List ℕ) → Does-waiting (move-page (geometry g) Data (cache-follows (geometry g)) page)
-        (now (chip .entry)) (now (spare .entry)) directory (now (cache .entry)) (copied .work) (moves (copied .waiting)) (moves (r .waiting))
+        (now (chip .entry)) (now (spare .entry)) directory (now (cache .entry)) (copied .work)
+        (moves (copied .waiting)) (moves (r .waiting))
         (now (chip .exit)) (now (spare .exit)) (now (cache .exit)) (r .work)) ⌝ }
 {
     let work = copied.work;
@@ -99,7 +102,8 @@ fn move_if_valid(
 ) -> Copied
     requires { ⌜ Page-to-move (geometry g) page (now chip) (now spare) (now cache) (copied .work) (copied .waiting .n) ⌝ }
     ensures { λ r. ⌜ ((directory : List ℕ) → Does-waiting (move-if-valid (geometry g) Data (cache-follows (geometry g)) page)
-        (now (chip .entry)) (now (spare .entry)) directory (now (cache .entry)) (copied .work) (moves (copied .waiting)) (moves (r .waiting))
+        (now (chip .entry)) (now (spare .entry)) directory (now (cache .entry)) (copied .work)
+        (moves (copied .waiting)) (moves (r .waiting))
         (now (chip .exit)) (now (spare .exit)) (now (cache .exit)) (r .work)) ⌝ }
 {
     if spare[page as usize * 2] != VALID {
@@ -108,8 +112,8 @@ fn move_if_valid(
     move_page(copied, g, page, chip, spare, cache)
 }
 
-// The pages of block v, in their order.
-pub fn move_pages(
+// The pages of block v move, in their order.
+pub(crate) fn move_pages(
     work: Work,
     g: Geometry,
     v: u32,

@@ -27,7 +27,8 @@ fn collect(
     cache: &mut [u32],
 ) -> Work
     requires { ⌜ Collect-ready (geometry g) (lent chip spare directory cache work) (work .counts) ⌝ }
-    ensures { λ r. ⌜ Does-all (collect (geometry g) Data (cache-follows (geometry g))) (lent (chip .entry) (spare .entry) (directory .entry) (cache .entry) work) work tt
+    ensures { λ r. ⌜ Does-all (collect (geometry g) Data (cache-follows (geometry g)))
+        (lent (chip .entry) (spare .entry) (directory .entry) (cache .entry) work) work tt
         (lent (chip .exit) (spare .exit) (directory .exit) (cache .exit) r) r ⌝ }
 {
     let v = victim(g, Region::Data, spare);
@@ -48,8 +49,10 @@ fn open_or_collect(
     directory: &mut [u32],
     cache: &mut [u32],
 ) -> Work
-    requires { ⌜ Room-ready (geometry g) (lent chip spare directory cache work) (work .counts) × (g .p ≤ work .rec .«data_offset») ⌝ }
-    ensures { λ r. ⌜ Does-all (open-or-collect (geometry g) Data (cache-follows (geometry g))) (lent (chip .entry) (spare .entry) (directory .entry) (cache .entry) work) work tt
+    requires { ⌜ Room-ready (geometry g) (lent chip spare directory cache work) (work .counts)
+        × (g .p ≤ work .rec .«data_offset») ⌝ }
+    ensures { λ r. ⌜ Does-all (open-or-collect (geometry g) Data (cache-follows (geometry g)))
+        (lent (chip .entry) (spare .entry) (directory .entry) (cache .entry) work) work tt
         (lent (chip .exit) (spare .exit) (directory .exit) (cache .exit) r) r ⌝ }
 {
     if 2 <= erased_blocks(g, Region::Data, spare) {
@@ -68,7 +71,8 @@ pub fn make_room(
     cache: &mut [u32],
 ) -> Work
     requires { ⌜ Room-ready (geometry g) (lent chip spare directory cache work) (work .counts) ⌝ }
-    ensures { λ r. ⌜ Does-all (make-room (geometry g) Data (cache-follows (geometry g))) (lent (chip .entry) (spare .entry) (directory .entry) (cache .entry) work) work tt
+    ensures { λ r. ⌜ Does-all (make-room (geometry g) Data (cache-follows (geometry g)))
+        (lent (chip .entry) (spare .entry) (directory .entry) (cache .entry) work) work tt
         (lent (chip .exit) (spare .exit) (directory .exit) (cache .exit) r) r ⌝ }
 {
     if work.rec.data_offset < g.p {

@@ -12,7 +12,6 @@ use steps::entries::physical;
 use steps::entries::rank_of;
 use steps::entries::touch;
 use update::update_one;
-ghost use mathlib.Core.Path.{_≡_};
 ghost use mathlib.Core.Bool.{cond};
 ghost use Prim.Native.Nat.{_<_, _≤_};
 ghost use Rattle.lent.specs.Model.{geometry};
@@ -33,7 +32,8 @@ fn write_back_if_changed(
     directory: &mut [u32],
     cache: &[u32],
 ) -> Work
-    requires { ⌜ Ready (geometry g) (lent chip spare directory cache work) (update-bound (geometry g)) (work .counts) × (i < work .rec .used) ⌝ }
+    requires { ⌜ Ready (geometry g) (lent chip spare directory cache work) (update-bound (geometry g)) (work .counts)
+        × (i < work .rec .used) ⌝ }
     ensures { λ r. ⌜ Does-all (cond (is-changed i (now (cache .entry))) (write-back (geometry g) i) nothing)
         (lent (chip .entry) (spare .entry) (directory .entry) (cache .entry) work) work tt
         (lent (chip .exit) (spare .exit) (directory .exit) (cache .exit) r) r ⌝ }
@@ -55,8 +55,10 @@ fn drop_entry(
     directory: &mut [u32],
     cache: &mut [u32],
 ) -> Work
-    requires { ⌜ Ready (geometry g) (lent chip spare directory cache work) (update-bound (geometry g)) (work .counts) × (1 ≤ work .rec .used) ⌝ }
-    ensures { λ r. ⌜ Does-all (drop-entry (geometry g)) (lent (chip .entry) (spare .entry) (directory .entry) (cache .entry) work) work tt
+    requires { ⌜ Ready (geometry g) (lent chip spare directory cache work) (update-bound (geometry g)) (work .counts)
+        × (1 ≤ work .rec .used) ⌝ }
+    ensures { λ r. ⌜ Does-all (drop-entry (geometry g))
+        (lent (chip .entry) (spare .entry) (directory .entry) (cache .entry) work) work tt
         (lent (chip .exit) (spare .exit) (directory .exit) (cache .exit) r) r ⌝ }
 {
     let i = (work.rec.used - 1) as usize;
@@ -74,7 +76,8 @@ fn drop_if_full(
     cache: &mut [u32],
 ) -> Work
     requires { ⌜ Ready (geometry g) (lent chip spare directory cache work) (update-bound (geometry g)) (work .counts) ⌝ }
-    ensures { λ r. ⌜ Does-all (drop-if-full (geometry g)) (lent (chip .entry) (spare .entry) (directory .entry) (cache .entry) work) work tt
+    ensures { λ r. ⌜ Does-all (drop-if-full (geometry g))
+        (lent (chip .entry) (spare .entry) (directory .entry) (cache .entry) work) work tt
         (lent (chip .exit) (spare .exit) (directory .exit) (cache .exit) r) r ⌝ }
 {
     if work.rec.used < g.c {
@@ -93,7 +96,8 @@ fn fetch(
     cache: &mut [u32],
 ) -> Work
     requires { ⌜ Fetches (geometry g) l (now chip) (now directory) (now cache) work ⌝ }
-    ensures { λ r. ⌜ Does-fetch (fetch (geometry g) l) (now (chip .entry)) (now (directory .entry)) (now (cache .entry)) work 0 (now (cache .exit)) r ⌝ }
+    ensures { λ r. ⌜ Does-fetch (fetch (geometry g) l)
+        (now (chip .entry)) (now (directory .entry)) (now (cache .entry)) work 0 (now (cache .exit)) r ⌝ }
 {
     let page = named(l / g.w, directory);
     let got = word_for(g, l, page, chip, work);
@@ -112,7 +116,8 @@ pub fn translate(
     cache: &mut [u32],
 ) -> Handed
     requires { ⌜ Ready-for l (geometry g) (lent chip spare directory cache work) (translate-bound (geometry g)) (work .counts) ⌝ }
-    ensures { λ r. ⌜ Does-all (translate (geometry g) l) (lent (chip .entry) (spare .entry) (directory .entry) (cache .entry) work) work (r .value)
+    ensures { λ r. ⌜ Does-all (translate (geometry g) l)
+        (lent (chip .entry) (spare .entry) (directory .entry) (cache .entry) work) work (r .value)
         (lent (chip .exit) (spare .exit) (directory .exit) (cache .exit) (r .work)) (r .work) ⌝ }
 {
     let rec = work.rec;

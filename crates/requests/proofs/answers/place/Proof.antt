@@ -22,13 +22,15 @@ decode-requires c κs = search needs
 
 mark-old-requires : tie.Need-mark-old-requires
 mark-old-requires c κs p e =
-    let programmed = (c .before .before .before .before .before .before .before .before) in
+    let programmed = c .before .before .before .before .before .before .before .before in
     let ready = programmed .before .before .before .before .before .before .before .pre in
     let old = ap decode (sym (c .before .before .physical .ensures)) ∙ sym (c .before .decode .ensures) ∙ e in
     omega (arith, spare-lies (ready .spare-lent) p (ready .on-chip p old), programmed .program-next .kept)
 
 set-entry-requires : tie.Need-set-entry-requires
-set-entry-requires c κs = c .before .before .before .before .before .before .before .before .before .before .before .before .before .before .before .before .before .before .before .pre .lies
+set-entry-requires c κs =
+    let programmed = c .before .before .before .before .before .before .before .before .before .before .before .before in
+    programmed .before .before .before .before .before .before .before .pre .lies
 
 same-length : tie.Need-same-length
 same-length c = search needs
@@ -41,11 +43,13 @@ same-length-3 c = search needs
 
 returns : tie.Need-returns
 returns c directory =
-    let seen = (c .before .before .before .before .before .before .before .before .before .before) in
-    let programmed = (seen .before .before .before .before .before .before) in
+    let seen = c .before .before .before .before .before .before .before .before .before .before in
+    let programmed = seen .before .before .before .before .before .before in
     let a = programmed .before .before .before .before .before .before .before .args in
     placing-does (geometry (a .g)) (a .l) (a .i) (programmed .program-next .ensures)
-    (ap decode (sym (seen .physical .ensures)) ∙ sym (c .before .before .before .before .before .before .before .before .before .decode .ensures)) (c .before .before .before .before .before .before .before .mark-old .ensures) (c .before .before .before .set-entry .ensures _) directory
+    (ap decode (sym (seen .physical .ensures)) ∙ sym (c .before .before .before .before .before .before .before .before .before .decode .ensures))
+    (c .before .before .before .before .before .before .before .mark-old .ensures)
+    (c .before .before .before .set-entry .ensures _) directory
 
 pub place-spec : {M : Type 1} → statement M
 place-spec =

@@ -14,17 +14,21 @@ cast-physical : tie.Need-cast-physical
 cast-physical c = search needs
 
 physical-requires : tie.Need-physical-requires
-physical-requires c κs = let translated = (c .before .before .before .before .before .before .before .before .before .before .before) in translated-lies (translated .before .before .before .before .before .before .before .before .before .before .pre .0) (translated .translate .ensures)
+physical-requires c κs =
+    let translated = c .before .before .before .before .before .before .before .before .before .before .before in
+    translated-lies (translated .before .before .before .before .before .before .before .before .before .before .pre .0)
+    (translated .translate .ensures)
 
 decode-requires : tie.Need-decode-requires
 decode-requires c κs = search needs
 
 read-place-requires : tie.Need-read-place-requires
 read-place-requires c κs =
-    let seen = (c .before .before .before) in
-    let translated = (seen .before .before .before .before .before .before .before .before .before .before .before .before) in
-    let start = (translated .before .before .before .before .before .before .before .before .before .before) in
-    place-ready (start .pre .0) (translated .translate .ensures) (c .before .before .decode .ensures ∙ ap decode (seen .physical .ensures)) (start .pre .1)
+    let seen = c .before .before .before in
+    let translated = seen .before .before .before .before .before .before .before .before .before .before .before .before in
+    let start = translated .before .before .before .before .before .before .before .before .before .before in
+    place-ready (start .pre .0) (translated .translate .ensures) (c .before .before .decode .ensures ∙ ap decode (seen .physical .ensures))
+    (start .pre .1)
 
 same-length : tie.Need-same-length
 same-length c = search needs
@@ -43,11 +47,12 @@ same-length-5 c = search needs
 
 returns : tie.Need-returns
 returns c =
-    let seen = (c .before .before .before .before .before .before) in
-    let translated = (seen .before .before .before .before .before .before .before .before .before .before .before .before) in
+    let seen = c .before .before .before .before .before .before in
+    let translated = seen .before .before .before .before .before .before .before .before .before .before .before .before in
     let a = translated .before .before .before .before .before .before .before .before .before .before .args in
     read-does (geometry (a .g)) (a .l) (a .buffer .now) (translated .translate .ensures)
-    (ap decode (sym (seen .physical .ensures)) ∙ sym (c .before .before .before .before .before .decode .ensures)) (c .before .before .read-place .ensures _ _ _)
+    (ap decode (sym (seen .physical .ensures)) ∙ sym (c .before .before .before .before .before .decode .ensures))
+    (c .before .before .read-place .ensures _ _ _)
 
 pub read-spec : {M : Type 1} → statement M
 read-spec =

@@ -13,7 +13,9 @@ enum-told : tie.Need-enum-told
 enum-told c = search needs
 
 returns : tie.Need-returns
-returns c = read-nowhere-does (geometry (c .before .before .before .before .args .g)) (c .before .before .before .before .args .buffer .now) (ap entry (c .enum-told .given .1))
+returns c =
+    let a = c .before .before .before .before .args in
+    read-nowhere-does (geometry (a .g)) (a .buffer .now) (ap entry (c .enum-told .given .1))
 
 read-page-requires : tie.Need-read-page-requires
 read-page-requires c κs =
@@ -24,7 +26,10 @@ same-length : tie.Need-same-length
 same-length c = search needs
 
 returns-2 : tie.Need-returns-2
-returns-2 c = read-place-does (geometry (c .before .before .before .before .before .before .before .before .before .args .g)) (c .before .before .before .before .before .before .before .before .before .args .buffer .now) _ (ap entry (c .before .before .before .before .before .place .given .1)) (c .before .before .read-page .ensures)
+returns-2 c =
+    let known = c .before .before .before .before .before in
+    let a = known .before .before .before .before .args in
+    read-place-does (geometry (a .g)) (a .buffer .now) _ (ap entry (known .place .given .1)) (c .before .before .read-page .ensures)
 
 pub read-place-spec : {M : Type 1} → statement M
 read-place-spec =

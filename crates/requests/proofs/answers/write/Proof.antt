@@ -13,33 +13,45 @@ cast-i : tie.Need-cast-i
 cast-i c = search needs
 
 make-room-requires : tie.Need-make-room-requires
-make-room-requires c κs = let translated = (c .before .before .before .before .before .before .before .before .before .before .before .before .before .before) in room-ready (translated .before .before .before .before .before .before .before .before .before .before .pre .0) (translated .translate .ensures)
+make-room-requires c κs =
+    let translated = c .before .before .before .before .before .before .before .before .before .before .before .before .before .before in
+    room-ready (translated .before .before .before .before .before .before .before .before .before .before .pre .0)
+    (translated .translate .ensures)
 
 place-requires : tie.Need-place-requires
 place-requires c κs =
-    let made = (c .before .before .before .before .before .before .before .before .before .before .before) in
-    let translated = (made .before .before .before .before .before .before .before .before .before .before .before .before .before .before .before) in
-    let start = (translated .before .before .before .before .before .before .before .before .before .before) in
+    let made = c .before .before .before .before .before .before .before .before .before .before .before in
+    let translated = made .before .before .before .before .before .before .before .before .before .before .before .before .before .before .before in
+    let start = translated .before .before .before .before .before .before .before .before .before .before in
     writing-ready (start .pre .0) (translated .translate .ensures) (made .make-room .ensures) (start .pre .1)
 
+-- What has been done at the return, in order.
+abbrev placed : tie.After-slice-known15 → tie.After-place
+placed c = c .before .before .before .before .before .before
+
+abbrev made : tie.After-slice-known15 → tie.After-make-room
+made c = placed c .before .before .before .before .before .before .before .before .before .before .before .before
+
+abbrev translated : tie.After-slice-known15 → tie.After-translate
+translated c = made c .before .before .before .before .before .before .before .before .before .before .before .before .before .before .before
+
 same-length : tie.Need-same-length
-same-length c = let made = (c .before .before .before .before .before .before .before .before .before .before .before .before .before .before .before .before .before .before) in omega (arith, c .before .before .before .before .before .before .place .kept, made .make-room .kept, made .before .before .before .before .before .before .before .before .before .before .before .before .before .before .before .translate .kept)
+same-length c = omega (arith, placed c .place .kept, made c .make-room .kept, translated c .translate .kept)
 
 same-length-2 : tie.Need-same-length-2
-same-length-2 c = let made = (c .before .before .before .before .before .before .before .before .before .before .before .before .before .before .before .before .before .before) in omega (arith, c .before .before .before .before .before .before .place .kept, made .make-room .kept, made .before .before .before .before .before .before .before .before .before .before .before .before .before .before .before .translate .kept)
+same-length-2 c = omega (arith, placed c .place .kept, made c .make-room .kept, translated c .translate .kept)
 
 same-length-3 : tie.Need-same-length-3
-same-length-3 c = let made = (c .before .before .before .before .before .before .before .before .before .before .before .before .before .before .before .before .before .before) in omega (arith, c .before .before .before .before .before .before .place .kept, made .make-room .kept, made .before .before .before .before .before .before .before .before .before .before .before .before .before .before .before .translate .kept)
+same-length-3 c = omega (arith, placed c .place .kept, made c .make-room .kept, translated c .translate .kept)
 
 same-length-4 : tie.Need-same-length-4
-same-length-4 c = let made = (c .before .before .before .before .before .before .before .before .before .before .before .before .before .before .before .before .before .before) in omega (arith, c .before .before .before .before .before .before .place .kept, made .make-room .kept, made .before .before .before .before .before .before .before .before .before .before .before .before .before .before .before .translate .kept)
+same-length-4 c = omega (arith, placed c .place .kept, made c .make-room .kept, translated c .translate .kept)
 
 returns : tie.Need-returns
 returns c =
-    let made = (c .before .before .before .before .before .before .before .before .before .before .before .before .before .before .before .before .before .before) in
-    let translated = (made .before .before .before .before .before .before .before .before .before .before .before .before .before .before .before) in
-    let a = translated .before .before .before .before .before .before .before .before .before .before .args in
-    write-does (geometry (a .g)) (a .l) (a .buffer .now) (translated .translate .ensures) (made .make-room .ensures) (c .before .before .before .before .before .before .place .ensures _)
+    let a = translated c .before .before .before .before .before .before .before .before .before .before .args in
+    write-does (geometry (a .g)) (a .l) (a .buffer .now) (translated c .translate .ensures) (made c .make-room .ensures)
+    (placed c .place .ensures _)
 
 pub write-spec : {M : Type 1} → statement M
 write-spec =

@@ -13,16 +13,18 @@ cast-if1 : tie.Need-cast-if1
 cast-if1 c = search needs
 
 set-entry-requires : tie.Need-set-entry-requires
-set-entry-requires c κs = omega (arith, c .before .if1 .taken, c .before .before .before .before .before .before .before .pre .0 .cache-fits)
+set-entry-requires c κs =
+    omega (arith, c .before .if1 .taken, c .before .before .before .before .before .before .before .pre .0 .cache-fits)
 
 same-length : tie.Need-same-length
 same-length c = search needs
 
 returns : tie.Need-returns
 returns c chip spare directory =
-    let found = (c .before .before .before .before .before .before) in
+    let found = c .before .before .before .before .before .before in
     let a = found .before .before .before .before .args in
-    entry-follows (geometry (a .g)) (a .l) (a .page) (found .rank-of .ensures .1) (c .before .before .before .before .if1 .taken) (c .before .before .set-entry .ensures (a .work))
+    entry-follows (geometry (a .g)) (a .l) (a .page) (found .rank-of .ensures .1) (c .before .before .before .before .if1 .taken)
+    (c .before .before .set-entry .ensures (a .work))
 
 wait-requires : tie.Need-wait-requires
 wait-requires c κs = c .before .before .before .before .before .before .pre .1

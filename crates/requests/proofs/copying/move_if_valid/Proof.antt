@@ -35,11 +35,13 @@ slice-read-if1 c = omega (arith, lies (c .before .before .before .before))
 
 returns : tie.Need-returns
 returns c directory =
-    let start = (c .before .before .before .before .before) in
+    let start = c .before .before .before .before .before in
     other-stays (geometry (start .args .g)) (start .args .page) (ne-eqb _ _ (λ e. c .if1 .taken (sym (read start) ∙ e)))
 
 move-page-requires : tie.Need-move-page-requires
-move-page-requires c κs = let tested = (c .before .before .before) in (tested .before .before .before .before .before .pre, is-so ((tested .before .before .before .before .before)) (tested .if1 .left))
+move-page-requires c κs =
+    let tested = c .before .before .before in
+    (tested .before .before .before .before .before .pre, is-so ((tested .before .before .before .before .before)) (tested .if1 .left))
 
 same-length : tie.Need-same-length
 same-length c = search needs
@@ -52,9 +54,9 @@ same-length-3 c = search needs
 
 returns-2 : tie.Need-returns-2
 returns-2 c directory =
-    let moved = (c .before .before .before .before .before .before) in
-    let tested = (moved .before .before .before .before) in
-    let start = (tested .before .before .before .before .before) in
+    let moved = c .before .before .before .before .before .before in
+    let tested = moved .before .before .before .before in
+    let start = tested .before .before .before .before .before in
     valid-moves (geometry (start .args .g)) (start .args .page) (is-so start (tested .if1 .left)) (moved .move-page .ensures directory)
 
 pub move-if-valid-spec : {M : Type 1} → statement M

@@ -8,13 +8,13 @@ use Rattle.requests.proofs.copying.move_page.Tie as tie
 
 relocate-requires : tie.Need-relocate-requires
 relocate-requires c κs =
-    let ready = c .before .before .before .before .before .before .pre .0 in
-    ((ready .chip-lent, ready .spare-lent, ready .on-chip), (ready .next, ready .countable (c .before .before .before .before .before .before .pre .1)))
+    let (ready, is-valid) = c .before .before .before .before .before .before .pre in
+    ((ready .chip-lent, ready .spare-lent, ready .on-chip), (ready .next, ready .countable is-valid))
 
 follow-requires : tie.Need-follow-requires
 follow-requires c κs =
-    let moved = (c .before .before .before .before .before .before .before) in
-    let start = (moved .before .before .before .before .before .before .before) in
+    let moved = c .before .before .before .before .before .before .before in
+    let start = moved .before .before .before .before .before .before .before in
     let ready = start .pre .0 in
     let used = relocate-keeps-used (geometry (start .args .g)) (start .args .page) (moved .relocate .ensures) in
     (record { cache-fits = ready .cache-lent .cache-fits; used-to = omega (arith, ready .cache-lent .used-to) }, ready .few)
@@ -30,7 +30,7 @@ same-length-3 c = search needs
 
 returns : tie.Need-returns
 returns c directory =
-    let moved = (c .before .before .before .before .before .before .before .before .before .before) in
+    let moved = c .before .before .before .before .before .before .before .before .before .before in
     let a = moved .before .before .before .before .before .before .before .args in
     page-moves (geometry (a .g)) (a .page) (moved .relocate .ensures) (c .before .before .follow .ensures _ _ directory)
 

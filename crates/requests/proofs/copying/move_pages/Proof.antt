@@ -1,6 +1,6 @@
 -- `requests::copying::move_pages` meets its contract. The invariant: the first i pages have been copied, and the law of the definition says
 -- of them what the next turn asks for.
-use Prim.Native.Nat.{_-_, _+_, _*_, _<_}
+use Prim.Native.Nat.{ℕ, _-_, _+_, _*_, _<_}
 use mathlib.Core.Path.{sym, _∙_, subst}
 use native.Mathlib.Omega.{arith}
 use Rattle.steps.specs.Lies.{spare-lies}
@@ -23,16 +23,22 @@ unfolding first-moves
 loop-holds c = none-so-far
 
 -- Page i is ready to move, and its number is small.
-ready : (c : tie.At-loop Inv-loop μ-loop) → c .loop .i < c .before .before .before .before .args .g .p
-    → Page-to-move (geometry (c .before .before .before .before .args .g)) (c .before .before .before .before .args .v * c .before .before .before .before .args .g .p + c .loop .i) (c .loop .chip) (c .loop .spare) (c .loop .cache)
-    (c .loop .copied .work) (c .loop .copied .waiting .n)
+abbrev page-of : tie.At-loop Inv-loop μ-loop → ℕ
+page-of c = let a = c .before .before .before .before .args in a .v * a .g .p + c .loop .i
+
+abbrev Ready : tie.At-loop Inv-loop μ-loop → ℕ → Type 0
+Ready c n =
+    Page-to-move (geometry (c .before .before .before .before .args .g)) (page-of c) (c .loop .chip) (c .loop .spare) (c .loop .cache)
+    (c .loop .copied .work) n
+
+ready : (c : tie.At-loop Inv-loop μ-loop) → c .loop .i < c .before .before .before .before .args .g .p → Ready c (c .loop .copied .waiting .n)
 ready c h =
     let w = c .loop .copied .waiting in
-    subst (Page-to-move (geometry (c .before .before .before .before .args .g)) (c .before .before .before .before .args .v * c .before .before .before .before .args .g .p + c .loop .i) (c .loop .chip) (c .loop .spare) (c .loop .cache) (c .loop .copied .work))
-    (waiting-counted (w .logical) (w .physical) (w .n)) (page-ready (c .loop .inv) (c .before .before .before .before .pre) h)
+    subst (Ready c) (waiting-counted (w .logical) (w .physical) (w .n))
+    (page-ready (c .loop .inv) (c .before .before .before .before .pre) h)
 
-page-lies : (c : tie.At-loop Inv-loop μ-loop) → c .loop .i < c .before .before .before .before .args .g .p → c .before .before .before .before .args .v * c .before .before .before .before .args .g .p + c .loop .i < 65536
-page-lies c h = let r = ready c h in spare-lies (r .spare-lent) _ (r .on-chip) .page-to
+page-lies : (c : tie.At-loop Inv-loop μ-loop) → c .loop .i < c .before .before .before .before .args .g .p → page-of c < 65536
+page-lies c h = let r = ready c h in spare-lies (r .spare-lent) (page-of c) (r .on-chip) .page-to
 
 mul-move-if-valid : tie.Need-mul-move-if-valid Inv-loop μ-loop
 mul-move-if-valid c = omega (arith, page-lies (c .before .before .before) (c .before .if1 .taken))
@@ -50,16 +56,28 @@ loop-less : tie.Need-loop-less Inv-loop μ-loop
 loop-less c = omega (arith, c .before .before .before .before .before .before .before .before .before .before .before .if1 .taken)
 
 loop-again : tie.Need-loop-again Inv-loop μ-loop
-loop-again c = one-more-so-far (c .before .before .before .before .before .before .before .before .before .before .before .before .before .loop .inv) (c .before .before .before .before .before .before .before .before .before .before .before .if1 .taken) (c .before .before .before .before .before .before .move-if-valid .ensures)
+loop-again c =
+    let moved = c .before .before .before .before .before .before in
+    one-more-so-far (moved .before .before .before .before .before .before .before .loop .inv)
+    (moved .before .before .before .before .before .if1 .taken) (moved .move-if-valid .ensures)
 
 same-length : tie.Need-same-length Inv-loop μ-loop
-same-length c = lengths-so-far (c .before .before .loop .inv) (c .before .before .before .before .before .before .pre) .chip-fits ∙ sym (c .before .before .before .before .before .before .pre .copies .starts .copying .lengths .chip-fits)
+same-length c =
+    let left = c .before .before in
+    let ready = left .before .before .before .before .pre in
+    lengths-so-far (left .loop .inv) ready .chip-fits ∙ sym (ready .copies .starts .copying .lengths .chip-fits)
 
 same-length-2 : tie.Need-same-length-2 Inv-loop μ-loop
-same-length-2 c = lengths-so-far (c .before .before .loop .inv) (c .before .before .before .before .before .before .pre) .spare-fits ∙ sym (c .before .before .before .before .before .before .pre .copies .starts .copying .lengths .spare-fits)
+same-length-2 c =
+    let left = c .before .before in
+    let ready = left .before .before .before .before .pre in
+    lengths-so-far (left .loop .inv) ready .spare-fits ∙ sym (ready .copies .starts .copying .lengths .spare-fits)
 
 same-length-3 : tie.Need-same-length-3 Inv-loop μ-loop
-same-length-3 c = lengths-so-far (c .before .before .loop .inv) (c .before .before .before .before .before .before .pre) .cache-fits ∙ sym (c .before .before .before .before .before .before .pre .copies .starts .copying .lengths .cache-fits)
+same-length-3 c =
+    let left = c .before .before in
+    let ready = left .before .before .before .before .pre in
+    lengths-so-far (left .loop .inv) ready .cache-fits ∙ sym (ready .copies .starts .copying .lengths .cache-fits)
 
 returns : tie.Need-returns Inv-loop μ-loop
 returns c directory = all-so-far (c .before .before .loop .inv) (c .if1 .left) directory

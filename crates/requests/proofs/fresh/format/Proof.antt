@@ -36,13 +36,14 @@ same-length-4 c = search needs
 
 returns : tie.Need-returns
 returns c old =
-    let start = c .before .before .before .before .before .before .before .before .before .before .before .before .before .before .before .before .before .before .before .before .before in
-    format-does (geometry (start .args .g)) (now (start .args .chip)) (now (start .args .spare)) (now (start .args .directory))
-    (now (start .args .cache)) old _ _ _ _ _ (start .pre) refl
-    (c .before .before .before .before .before .before .before .before .before .before .before .before .before .before .before .erase-words .ensures)
-    (c .before .before .before .before .before .before .before .before .before .before .before .erase-words2 .ensures)
-    (c .before .before .before .before .before .before .before .erase-words3 .ensures)
-    (c .before .before .before .erase-words4 .ensures)
+    let last = c .before .before .before in
+    let third = last .before .before .before .before in
+    let second = third .before .before .before .before in
+    let first = second .before .before .before .before in
+    let start = first .before .before .before .before .before .before in
+    let a = start .args in
+    format-does (geometry (a .g)) (now (a .chip)) (now (a .spare)) (now (a .directory)) (now (a .cache)) old _ _ _ _ _ (start .pre) refl
+    (first .erase-words .ensures) (second .erase-words2 .ensures) (third .erase-words3 .ensures) (last .erase-words4 .ensures)
 
 pub format-spec : {M : Type 1} → statement M
 format-spec =

@@ -29,8 +29,8 @@ same-length-4 c = search needs
 
 returns-2 : tie.Need-returns-2
 returns-2 c =
-    let made = (c .before .before .before .before .before .before .before .before) in
-    let tested = (made .before .before .before .before .before) in
+    let made = c .before .before .before .before .before .before .before .before in
+    let tested = made .before .before .before .before .before in
     let g = geometry (tested .before .before .before .before .before .before .before .args .g) in
     makes-room-does g Data (cache-follows g) (tested .if1 .left) (made .open-or-collect .ensures)
 

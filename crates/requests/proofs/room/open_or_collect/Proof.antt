@@ -11,24 +11,25 @@ use Rattle.requests.proofs.room.open_or_collect.Statement.{statement}
 use Rattle.requests.proofs.room.open_or_collect.Tie as tie
 
 erased-blocks-requires : tie.Need-erased-blocks-requires
-erased-blocks-requires c κs = whole (c .before .before .before .before .before .pre .0) (c .before .before .before .before .before .pre .1)
+erased-blocks-requires c κs = let (ready, full) = c .before .before .before .before .before .pre in whole ready full
 
 open-lowest-requires : tie.Need-open-lowest-requires
-open-lowest-requires c κs = whole (c .before .before .before .before .before .before .before .before .pre .0) (c .before .before .before .before .before .before .before .before .pre .1)
+open-lowest-requires c κs = let (ready, full) = c .before .before .before .before .before .before .before .before .pre in whole ready full
 
 same-length : tie.Need-same-length
 same-length c = search needs
 
 returns : tie.Need-returns
 returns c =
-    let counted = (c .before .before .before) in
+    let counted = c .before .before .before in
     let g = geometry (counted .before .before .before .before .before .before .args .g) in
-    opens-does g Data (cache-follows g) (counted .erased-blocks .ensures _ refl) (c .before .before .if1 .taken) (c .open-lowest .ensures _ _ _)
+    opens-does g Data (cache-follows g) (counted .erased-blocks .ensures _ refl) (c .before .before .if1 .taken)
+    (c .open-lowest .ensures _ _ _)
 
 collect-requires : tie.Need-collect-requires
 collect-requires c κs =
-    let counted = (c .before .before .before .before .before) in
-    let start = (counted .before .before .before .before .before .before) in
+    let counted = c .before .before .before .before .before in
+    let start = counted .before .before .before .before .before .before in
     record {
       room-ready = start .pre .0;
       full = start .pre .1;
@@ -49,10 +50,11 @@ same-length-5 c = search needs
 
 returns-2 : tie.Need-returns-2
 returns-2 c =
-    let collected = (c .before .before .before .before .before .before .before .before) in
-    let counted = (collected .before .before .before .before .before .before) in
+    let collected = c .before .before .before .before .before .before .before .before in
+    let counted = collected .before .before .before .before .before .before in
     let g = geometry (counted .before .before .before .before .before .before .args .g) in
-    collects-does g Data (cache-follows g) (counted .erased-blocks .ensures _ refl) (collected .before .before .before .before .before .if1 .left) (collected .collect .ensures)
+    collects-does g Data (cache-follows g) (counted .erased-blocks .ensures _ refl)
+    (collected .before .before .before .before .before .if1 .left) (collected .collect .ensures)
 
 pub open-or-collect-spec : {M : Type 1} → statement M
 open-or-collect-spec =

@@ -15,14 +15,17 @@ cast-i : tie.Need-cast-i
 cast-i c = search needs
 
 write-back-if-changed-requires : tie.Need-write-back-if-changed-requires
-write-back-if-changed-requires c κs = (c .before .before .before .before .before .before .before .before .before .pre .0, omega (arith, c .before .before .before .before .before .before .before .before .before .pre .1))
+write-back-if-changed-requires c κs =
+    let (ready, some) = c .before .before .before .before .before .before .before .before .before .pre in
+    (ready, omega (arith, some))
 
 forget-requires : tie.Need-forget-requires
 forget-requires c κs =
-    let written = (c .before .before .before .before .before .before .before) in
-    let start = (written .before .before .before .before .before .before .before .before .before .before) in
+    let written = c .before .before .before .before .before .before .before in
+    let start = written .before .before .before .before .before .before .before .before .before .before in
     let ready = start .pre .0 in
-    let used = written-keeps-used ready (start .args .work .rec .used - 1) (omega (arith, start .pre .1)) (written .write-back-if-changed .ensures) in
+    let used = written-keeps-used ready (start .args .work .rec .used - 1) (omega (arith, start .pre .1))
+    (written .write-back-if-changed .ensures) in
     (omega (arith, start .pre .1, ready .sound .rule-5 .at-most, ready .lengths .cache-fits), omega (arith, start .pre .1))
 
 same-length : tie.Need-same-length
@@ -39,8 +42,10 @@ same-length-4 c = search needs
 
 returns : tie.Need-returns
 returns c =
-    let written = (c .before .before .before .before .before .before .before .before .before .before) in
-    drop-entry-does (geometry (written .before .before .before .before .before .before .before .before .before .before .args .g)) _ refl refl (written .write-back-if-changed .ensures) (c .before .before .forget .ensures _ _ _)
+    let written = c .before .before .before .before .before .before .before .before .before .before in
+    drop-entry-does
+    (geometry (written .before .before .before .before .before .before .before .before .before .before .args .g)) _ refl refl
+    (written .write-back-if-changed .ensures) (c .before .before .forget .ensures _ _ _)
 
 pub drop-entry-spec : {M : Type 1} → statement M
 drop-entry-spec =

@@ -10,7 +10,10 @@ returns : tie.Need-returns
 returns c = drop-none-does (geometry (c .before .before .before .before .before .before .before .args .g)) (c .if1 .taken)
 
 drop-entry-requires : tie.Need-drop-entry-requires
-drop-entry-requires c κs = let tested = (c .before .before .before .before) in (tested .before .before .before .before .before .before .before .pre, omega (arith, tested .if1 .left, tested .before .before .before .before .before .before .before .pre .accepted .C-from))
+drop-entry-requires c κs =
+    let tested = c .before .before .before .before in
+    let ready = tested .before .before .before .before .before .before .before .pre in
+    (ready, omega (arith, tested .if1 .left, ready .accepted .C-from))
 
 same-length : tie.Need-same-length
 same-length c = search needs
@@ -26,9 +29,10 @@ same-length-4 c = search needs
 
 returns-2 : tie.Need-returns-2
 returns-2 c =
-    let dropped = (c .before .before .before .before .before .before .before .before) in
-    let tested = (dropped .before .before .before .before .before) in
-    drop-last-does (geometry (tested .before .before .before .before .before .before .before .args .g)) (tested .if1 .left) (dropped .drop-entry .ensures)
+    let dropped = c .before .before .before .before .before .before .before .before in
+    let tested = dropped .before .before .before .before .before in
+    drop-last-does (geometry (tested .before .before .before .before .before .before .before .args .g)) (tested .if1 .left)
+    (dropped .drop-entry .ensures)
 
 pub drop-if-full-spec : {M : Type 1} → statement M
 drop-if-full-spec =

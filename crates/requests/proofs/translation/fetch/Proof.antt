@@ -13,7 +13,7 @@ div-named c = search needs
 
 named-requires : tie.Need-named-requires
 named-requires c κs =
-    let start = (c .before .before .before .before) in
+    let start = c .before .before .before .before in
     omega (arith, page-below (start .pre .accepted) (start .args .l) (start .pre .below), start .pre .directory-fits)
 
 word-for-requires : tie.Need-word-for-requires
@@ -26,7 +26,7 @@ word-for-requires c κs =
 
 enter-requires : tie.Need-enter-requires
 enter-requires c κs =
-    let start = (c .before .before .before .before .before .before .before .before) in
+    let start = c .before .before .before .before .before .before .before .before in
     let used = read-keeps-used (geometry (start .args .g)) (start .args .l) _ (c .before .before .word-for .ensures) in
     (omega (arith, start .pre .cache-fits, start .pre .room), omega (arith, start .pre .room, start .pre .accepted .C-to))
 
@@ -35,9 +35,10 @@ same-length c = search needs
 
 returns : tie.Need-returns
 returns c spare =
-    let word = (c .before .before .before .before .before) in
+    let word = c .before .before .before .before .before in
     let a = word .before .before .before .before .before .before .args in
-    fetch-does (geometry (a .g)) (a .l) (sym (word .before .named .ensures)) (word .word-for .ensures spare (a .directory .now) (a .cache .now))
+    fetch-does (geometry (a .g)) (a .l) (sym (word .before .named .ensures))
+    (word .word-for .ensures spare (a .directory .now) (a .cache .now))
     (c .before .before .enter .ensures (a .chip .now) spare (a .directory .now))
 
 pub fetch-spec : {M : Type 1} → statement M

@@ -16,16 +16,19 @@ cast-if1 : tie.Need-cast-if1
 cast-if1 c = search needs
 
 touch-requires : tie.Need-touch-requires
-touch-requires c κs = omega (arith, c .before .if1 .taken, c .before .before .before .before .before .before .before .before .before .before .pre .ready .lengths .cache-fits)
+touch-requires c κs =
+    omega
+    (arith, c .before .if1 .taken, c .before .before .before .before .before .before .before .before .before .before .pre .ready .lengths .cache-fits)
 
 same-length : tie.Need-same-length
 same-length c = search needs
 
 returns : tie.Need-returns
 returns c =
-    let found = (c .before .before .before .before .before .before) in
+    let found = c .before .before .before .before .before .before in
     let a = found .before .before .before .before .before .before .before .args in
-    hit-does (geometry (a .g)) (a .l) (found .rank-of .ensures .1) (c .before .before .before .before .if1 .taken) (c .before .before .touch .ensures (a .work) _ _ _)
+    hit-does (geometry (a .g)) (a .l) (found .rank-of .ensures .1) (c .before .before .before .before .if1 .taken)
+    (c .before .before .touch .ensures (a .work) _ _ _)
 
 drop-if-full-requires : tie.Need-drop-if-full-requires
 drop-if-full-requires c κs =
@@ -38,7 +41,12 @@ drop-if-full-requires c κs =
     }
 
 fetch-requires : tie.Need-fetch-requires
-fetch-requires c κs = let freed = (c .before .before .before .before .before .before .before .before .before .before .before) in fetch-ready (freed .before .before .before .before .before .before .before .before .before .before .before .before .before .before .args .l) (freed .before .before .before .before .before .before .before .before .before .before .before .before .before .before .pre) (freed .drop-if-full .ensures)
+fetch-requires c κs =
+    let freed = c .before .before .before .before .before .before .before .before .before .before .before in
+    fetch-ready
+    (freed .before .before .before .before .before .before .before .before .before .before .before .before .before .before .args .l)
+    (freed .before .before .before .before .before .before .before .before .before .before .before .before .before .before .pre)
+    (freed .drop-if-full .ensures)
 
 same-length-2 : tie.Need-same-length-2
 same-length-2 c = search needs
@@ -54,10 +62,11 @@ same-length-5 c = search needs
 
 returns-2 : tie.Need-returns-2
 returns-2 c =
-    let freed = (c .before .before .before .before .before .before .before .before .before .before .before .before .before .before) in
-    let missed = (freed .before .before .before .before .before .before .before) in
+    let freed = c .before .before .before .before .before .before .before .before .before .before .before .before .before .before in
+    let missed = freed .before .before .before .before .before .before .before in
     let a = missed .before .before .before .before .before .before .before .args in
-    miss-does (geometry (a .g)) (a .l) (missed .rank-of .ensures .1) (freed .before .before .before .before .before .if1 .left) (freed .drop-if-full .ensures) (c .before .before .fetch .ensures _)
+    miss-does (geometry (a .g)) (a .l) (missed .rank-of .ensures .1) (freed .before .before .before .before .before .if1 .left)
+    (freed .drop-if-full .ensures) (c .before .before .fetch .ensures _)
 
 pub translate-spec : {M : Type 1} → statement M
 translate-spec =

@@ -25,9 +25,10 @@ physical-requires c κs = lies (c .before .before .before .before .before .befor
 
 update-one-requires : tie.Need-update-one-requires
 update-one-requires c κs =
-    let start = (c .before .before .before .before .before .before .before .before .before .before .before) in
+    let start = c .before .before .before .before .before .before .before .before .before .before .before in
     let below = start .pre .0 .sound .rule-5 .below-L (start .args .i) (start .pre .1) in
-    write-back-ready _ _ (start .pre .0) (subst (λ (l : ℕ). l < geometry (start .args .g) .L) (sym (c .before .before .before .before .logical .ensures)) below)
+    write-back-ready _ _ (start .pre .0)
+    (subst (λ (l : ℕ). l < geometry (start .args .g) .L) (sym (c .before .before .before .before .logical .ensures)) below)
 
 same-length : tie.Need-same-length
 same-length c = search needs
@@ -40,11 +41,13 @@ same-length-3 c = search needs
 
 returns : tie.Need-returns
 returns c =
-    let read = (c .before .before .before .before .before .before .before .before .before .before) in
-    let tested = (read .before .before) in
+    let updated = c .before .before .before .before .before .before in
+    let read = updated .before .before .before .before in
+    let tested = read .before .before in
     let a = tested .before .before .before .before .before .before .args in
+    let is-l = sym (read .before .logical .ensures) in
     does-cond-true _ _ _ (sym (tested .before .is-changed .ensures) ∙ tested .if1 .taken)
-    (write-back-does (geometry (a .g)) (a .i) (sym (read .before .logical .ensures)) (sym (read .physical .ensures)) (c .before .before .before .before .before .before .update-one .ensures (a .cache .now)))
+    (write-back-does (geometry (a .g)) (a .i) is-l (sym (read .physical .ensures)) (updated .update-one .ensures (a .cache .now)))
 
 returns-2 : tie.Need-returns-2
 returns-2 c = does-cond-false _ _ _ (sym (c .before .is-changed .ensures) ∙ c .if1 .left) (does-give tt)
