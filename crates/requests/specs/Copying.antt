@@ -60,13 +60,13 @@ count-upto n m f h =
     subst (λ m. count n f ≤ count m f) e (omega (arith, count-add n (m - n) f))
 
 -- Before page n, with w waiting: the open block has room, as the cache has for its entries and the stack for one more that waits.
-pub record Before-page (g : Geometry) (v n : ℕ) (w : List Mapping) (s : State) : Type 0 where
-  pub opened : Has-block g Data (open-block Data (s .small))
-  pub room : next-offset Data (s .small) < g .P
-  pub entries : s .small .used ≤ g .C
-  pub few : length w < g .P
+record Before-page (g : Geometry) (v n : ℕ) (w : List Mapping) (s : State) : Type 0 where
+  opened : Has-block g Data (open-block Data (s .small))
+  room : next-offset Data (s .small) < g .P
+  entries : s .small .used ≤ g .C
+  few : length w < g .P
   -- Where the page is valid it is one of fewer than P that are.
-  pub not-last : is-valid (page-in g v n) (s .spare) ≡ true → next-offset Data (s .small) + 1 < g .P
+  not-last : is-valid (page-in g v n) (s .spare) ≡ true → next-offset Data (s .small) + 1 < g .P
 
 module _ {g : Geometry} {v : ℕ} {s : State} (a : Copies g v s) where
   abbrev moved : ℕ → Step (List Mapping)
@@ -77,7 +77,7 @@ module _ {g : Geometry} {v : ℕ} {s : State} (a : Copies g v s) where
       move-pages-law (cache-follower (a .accepted) (a .l) (a .i)) (a .accepted) v s (a .starts .in-region) (a .starts .closed)
       (a .starts .some-invalid) n h (a .starts .copying) (a .starts .empty)
 
-  pub before-page : (n : ℕ) → n < g .P → Before-page g v n (moved n s .value) (moved n s .after)
+  before-page : (n : ℕ) → n < g .P → Before-page g v n (moved n s .value) (moved n s .after)
   before-page n h =
       let so-far = copied n (omega arith) in
       let here : state-of (page-in g v n) (moved n s .after .spare) ≡ state-of (page-in g v n) (s .spare) =
@@ -101,7 +101,7 @@ module _ {g : Geometry} {v : ℕ} {s : State} (a : Copies g v s) where
       counts-one n e = rw e refl
 
   -- What it cost so far.
-  pub copying-costs : (n : ℕ) → n ≤ g .P → cost (moved n s .did) ≡ 2 * next-offset Data (moved n s .after .small)
+  copying-costs : (n : ℕ) → n ≤ g .P → cost (moved n s .did) ≡ 2 * next-offset Data (moved n s .after .small)
   copying-costs n h = copied n h .costs
 
 -- All pages have been copied: what settling then asks for.

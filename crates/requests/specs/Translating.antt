@@ -53,7 +53,7 @@ Does-fetch m chip directory cache w x cache′ w′ =
     (state chip spare directory cache′ (w′ .rec)) (counts (w′ .counts))
 
 -- The index names pages on the chip.
-pub named-on-chip : {g : Geometry} → Accepted g → (s : State) → Index-fits g s → (l : ℕ) → l < g .L → (q : ℕ)
+named-on-chip : {g : Geometry} → Accepted g → (s : State) → Index-fits g s → (l : ℕ) → l < g .L → (q : ℕ)
     → named (translation-page g l) (s .directory) ≡ Place q → q < pages g
 named-on-chip {g} ok s index l below q e =
     page-on-chip g Translation q (subst (Names g Translation (s .spare) (translation-page g l)) e
