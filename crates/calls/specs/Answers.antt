@@ -1,5 +1,4 @@
--- The shape of every call's contract: the reply, the state and the counts after are those of the call's definition, for every input. And
--- the two ways to get there: a test applies and nothing is done, or none does and the steps are made.
+-- The two ways to a call's contract: a test applies and nothing is done, or none does and the steps are made.
 use Prim.Native.Nat.{ℕ}
 use mathlib.Core.Path.{_≡_, refl, sym, ap, _∙_}
 use mathlib.Core.Logic.{_≢_}
@@ -15,11 +14,8 @@ use Rattle.lent.specs.DoesLaws.{does-give, does-look, does-bind, does-cond-true
 use Rattle.scope.specs.Lent.{State}
 use Rattle.scope.specs.Operations.{Counts, no-counts, counted, Outcome, Step, look, _>>=_}
 use Rattle.scope.specs.Replies.{DONE, Test, first-applying, admit}
-use Rattle.scope.specs.Boundary.{counts-words, words-of-counts}
-
--- The counts' slice after a call: "written whenever it has three" words.
-abbrev pub put : List ℕ → Counts → List ℕ
-put counts c = cond (eqb (length counts) counts-words) (words-of-counts c) counts
+use Rattle.scope.specs.Boundary.{counts-words, put}
+use Rattle.scope.specs.Contracts.{Answers}
 
 pub set-three : (l : List ℕ) → length l ≡ counts-words → {a b c : ℕ} → set (set (set l 0 a) 1 b) 2 c ≡ a ∷ b ∷ c ∷ []
 set-three [] e = absurd (omega arith)
@@ -27,16 +23,6 @@ set-three (x ∷ []) e = absurd (omega arith)
 set-three (x ∷ y ∷ []) e = absurd (omega arith)
 set-three (x ∷ y ∷ z ∷ []) e = refl
 set-three (x ∷ y ∷ z ∷ w ∷ l) e = absurd (omega arith)
-
--- Whether the lengths are right that no state has: the caller's own, and that of the counts.
-abbrev pub right-lengths : Bool → List ℕ → Bool
-right-lengths fits counts = fits && eqb (length counts) counts-words
-
--- What a call gave is x, the state s′ and the words counts′.
-pub record Answers {A : Type 0} (o : Outcome A) (counts : List ℕ) (x : A) (s′ : State) (counts′ : List ℕ) : Type 0 where
-  pub value : o .value ≡ x
-  pub after : o .after ≡ s′
-  pub counted : counts′ ≡ put counts (counted (o .did))
 
 -- A call that does its definition from no counts on, and puts its counts.
 pub does-answers : {A : Type 0} {m : Step A} {s s′ : State} {x : A} (c : Counts) {counts counts′ : List ℕ}

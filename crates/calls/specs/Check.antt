@@ -11,7 +11,9 @@ use Rattle.scope.specs.Lent.{State}
 use Rattle.scope.specs.Operations.{no-counts, give}
 use Rattle.scope.specs.Replies.{DONE, first-applying, right-sizes}
 use Rattle.scope.specs.Calls.{state-sizes, state-tests, check}
-use Rattle.calls.specs.Answers.{put, Answers, does-answers, refuses, admits}
+use Rattle.scope.specs.Boundary.{put}
+use Rattle.scope.specs.Contracts.{Answers}
+use Rattle.calls.specs.Answers.{does-answers, refuses, admits}
 
 -- The code tests with `right`, its own name for whether the lengths beside the state's are right.
 module _ (g : Geometry) (s : State) {right others : Bool} {n : ℕ} (named : right ≡ others)

@@ -12,7 +12,9 @@ use Rattle.scope.specs.Replies.{DONE, first-applying, right-sizes}
 use Rattle.scope.specs.Requests.{format-steps}
 use Rattle.scope.specs.Calls.{state-sizes, size-tests, format}
 use Rattle.requests.specs.Fresh.{Sized}
-use Rattle.calls.specs.Answers.{put, Answers, does-answers, refuses, admits}
+use Rattle.scope.specs.Boundary.{put}
+use Rattle.scope.specs.Contracts.{Answers}
+use Rattle.calls.specs.Answers.{does-answers, refuses, admits}
 use Rattle.calls.specs.Tested.{sizes-pass, geometry-passes, lengths-pass}
 
 -- The code tests with `right`, its own name for whether the lengths beside the state's are right.

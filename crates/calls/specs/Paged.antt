@@ -17,7 +17,9 @@ use Rattle.scope.specs.Operations.{Counts, no-counts, Step, look, _>>=_}
 use Rattle.scope.specs.Replies.{DONE, first-applying, right-sizes, admit}
 use Rattle.scope.specs.Requests.{Replied, replied}
 use Rattle.scope.specs.Calls.{state-sizes, buffer-sizes, state-tests, page-tests}
-use Rattle.calls.specs.Answers.{put, Answers, does-answers, refuses, admits}
+use Rattle.scope.specs.Boundary.{put}
+use Rattle.scope.specs.Contracts.{Answers}
+use Rattle.calls.specs.Answers.{does-answers, refuses, admits}
 use Rattle.calls.specs.Sizes.{buffer-right, with-buffer}
 use Rattle.calls.specs.Tested.{page-passes, geometry-passes, lengths-pass, soundness-passes}
 

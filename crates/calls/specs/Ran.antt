@@ -1,13 +1,13 @@
 -- The parts of a run put together: the requests one after the other, that each can be served where the run was admitted, and that begin,
 -- the requests and finish are the call of the definitions. For whoever goes through the requests.
-use Prim.Native.Nat.{ℕ, suc, _+_, _*_, _≤_, _<_}
+use Prim.Native.Nat.{ℕ, zero, suc, _+_, _*_, _≤_, _<_}
 use mathlib.Core.Path.{_≡_, refl, sym, ap, _∙_}
 use mathlib.Core.Bool.{Bool, true, false, cond, _&&_}
-use mathlib.Core.List.{List}
+use mathlib.Core.List.{List, [], _∷_, map}
 use native.Mathlib.Numerals.{add-one}
 use native.Mathlib.Omega.{arith}
 use lib.Dec.{eqb, leb}
-use lib.ListN.{length, getD}
+use lib.ListN.{length, getD, length-map}
 use borrow.Author.Tests.{eqb-true, eq-eqb, ne-eqb, leb-true}
 use Rattle.flash.specs.Cases.{same?, and-true}
 use Rattle.flash.specs.Words.{Lengths}
@@ -24,12 +24,14 @@ use Rattle.scope.specs.Replies.{DONE, first-applying, right-sizes}
 use Rattle.scope.specs.Boundary.{counts-words}
 use Rattle.scope.specs.Calls.{state-sizes, state-tests, RunReplied, run-replied, no-request, serve-record, serve-records, run}
 use Rattle.soundness.specs.Sizes.{piece-inside}
+use Rattle.calls.specs.declared.run.Request.{Request as Asked}
 use Rattle.calls.specs.declared.run.Running.{Running}
-use Rattle.calls.specs.Answers.{right-lengths, Answers, does-answers, refuses, admits}
+use Rattle.scope.specs.Contracts.{right-lengths, Answers}
+use Rattle.calls.specs.Answers.{does-answers, refuses, admits}
 use Rattle.calls.specs.Sizes.{run-right, with-run}
 use Rattle.calls.specs.Tested.{state-passes, geometry-passes, lengths-pass, soundness-passes}
 use Rattle.calls.specs.Room.{most-cost}
-use Rattle.calls.specs.Run.{Begun, Finished}
+use Rattle.calls.specs.Run.{request, Begun, Finished}
 use Rattle.calls.specs.Serve.{Serving, Runs}
 use Rattle.calls.specs.Records.{records-keep}
 
@@ -130,6 +132,36 @@ runs-ready g requests {n} {i} {a} {b} {s} {s′} {words} {answers} tested h ran 
           erases = omega (arith, ap (λ (c : Counts). c .erases) e);
         }
 
+-- ---- lent requests
+
+-- The first n of a lent slice of requests, as a walk through them says it.
+pub record Ran (g : Geometry) (asked : List Asked) (n : ℕ) (a : Running) (s : State) (words answers : List ℕ)
+    (b : Running) (s′ : State) (words′ answers′ : List ℕ) : Type 0 where
+  pub runs : Runs (serve-records g (map request asked) n) a s words answers b s′ words′ answers′
+
+-- Request i, whatever a place past the end would read as.
+request-at : (asked : List Asked) (i : ℕ) (past : Asked) → i < length asked
+    → request (getD asked i past) ≡ getD (map request asked) i no-request
+request-at [] i past h = absurd (omega arith)
+request-at (q ∷ asked) zero past h = refl
+request-at (q ∷ asked) (suc i) past h = request-at asked i past (omega arith)
+
+module _ {g : Geometry} {asked : List Asked} {a : Running} {s : State} {words answers : List ℕ} where
+  pub ran-none : Ran g asked 0 a s words answers a s words answers
+  ran-none = record { runs = runs-none g (map request asked) }
+
+  module _ {i : ℕ} {b : Running} {s₁ : State} {words₁ answers₁ : List ℕ} (h : i < length asked)
+      (ran : Ran g asked i a s words answers b s₁ words₁ answers₁) where
+    pub ran-more : {c : Running} {s₂ : State} {words₂ answers₂ : List ℕ}
+        → Runs (serve-record g i (request (getD asked i (record { kind = 0; page = 0 })))) b s₁ words₁ answers₁ c s₂ words₂ answers₂
+        → Ran g asked (i + 1) a s words answers c s₂ words₂ answers₂
+    ran-more served =
+        record { runs = runs-more g (map request asked) i (ran .runs) (rw (request-at asked i (record { kind = 0; page = 0 }) h) at served) }
+
+    pub ran-ready : (a .answer ≡ DONE → Admitted g (length asked) a s words answers) → b .answer ≡ DONE
+        → Serving g i b s₁ words₁ answers₁
+    ran-ready tested = runs-ready g (map request asked) tested h (ran .runs)
+
 -- ---- the whole
 
 -- What nothing does.
@@ -161,3 +193,14 @@ run-answers g requests {fits} {a} {b} {s} {s₁} {s′} {words} {answers} {words
     ∙ ap (run-replied words′ answers′) (sym (finished .answered ∙ ran .same-answer))))
     (same .1) (same .2)))
     (finished .handed)
+
+-- The same with lent requests.
+pub ran-answers : {g : Geometry} {asked : List Asked} {fits : Bool} {a b : Running} {s s₁ s′ : State}
+    {words answers words′ answers′ given given′ : List ℕ} {answer : ℕ} {rec : Record}
+    → Begun g fits (length asked) (length words) (length answers) (length given) s a s₁
+    → Ran g asked (length asked) a s₁ words answers b s′ words′ answers′
+    → Finished b given answer rec given′
+    → Answers (run g (right-lengths fits given) (map request asked) words answers s) given (run-replied words′ answers′ answer) s′ given′
+ran-answers {g} {asked} begun ran finished =
+    let n : length (map request asked) ≡ length asked = length-map asked request in
+    run-answers g (map request asked) (rw (← n) at begun) (rw (← n) at (ran .runs)) finished

@@ -23,7 +23,7 @@ use Rattle.promises.specs.Records.{record-stores}
 use Rattle.words.specs.Runs.{length-part}
 use Rattle.soundness.specs.Sizes.{piece-inside}
 use Rattle.calls.specs.Room.{most-cost, read-few, write-few}
-use Rattle.calls.specs.Serve.{request-below}
+use Rattle.calls.specs.Tested.{request-below}
 
 record Keeps {A : Type 0} (g : Geometry) (bound : ℕ) (o : Outcome A) : Type 0 where
   sound : Sound g (o .after)

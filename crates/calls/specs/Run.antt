@@ -14,7 +14,7 @@ use Rattle.scope.specs.Boundary.{counts-words}
 use Rattle.scope.specs.Calls.{state-sizes, state-tests}
 use Rattle.calls.specs.declared.run.Request.{Request as Asked}
 use Rattle.calls.specs.declared.run.Running.{Running}
-use Rattle.calls.specs.Answers.{put}
+use Rattle.scope.specs.Boundary.{put}
 use Rattle.calls.specs.Sizes.{sizes-of-run, run-right, with-run}
 
 abbrev pub request : Asked → Request

@@ -5,10 +5,10 @@ use mathlib.Core.Logic.{_≢_}
 use mathlib.Core.Bool.{cond}
 use mathlib.Core.List.{List, _++_, append-assoc}
 use native.Mathlib.Omega.{arith}
-use lib.Dec.{eqb, leb}
+use lib.Dec.{eqb}
 use lib.ListN.{length, take, drop, set, take-append-drop}
 use lib.Seq.{sets, sets-eq, drop-drop}
-use borrow.Author.Tests.{eq-eqb, ne-eqb, leb-false}
+use borrow.Author.Tests.{eq-eqb, ne-eqb}
 use Rattle.flash.specs.Cases.{on}
 use Rattle.flash.specs.Words.{Lengths}
 use Rattle.lent.specs.Model.{counts}
@@ -61,16 +61,6 @@ part-stays words at k fits =
     ∙ take-append-drop at words
 
 -- ---- one request
-
--- One that passes its tests is of a page below L.
-pub request-below : (g : Geometry) (q : Request) → DONE ≡ first-applying (record-tests g q) → q .page < g .L
-unfolding first-applying
-request-below g q =
-    on (leb 2 (q .kind))
-    (λ k. rw k (λ e. absurd (omega arith)))
-    (λ k. on (leb (g .L) (q .page))
-    (λ p. rw (k, p) (λ e. absurd (omega arith)))
-    (λ p. λ _. leb-false (g .L) (q .page) p))
 
 -- No request is served where the run isn't admitted.
 pub not-admitted : (m : RunReplied → Step RunReplied) {a : Running} {s : State} {words answers : List ℕ} → a .answer ≢ DONE

@@ -1,10 +1,12 @@
 -- The lengths beside the state's, tested together with those of the state.
-use Prim.Native.Nat.{ℕ, _*_}
+use Prim.Native.Nat.{ℕ, _*_, _≤_, _<_}
 use mathlib.Core.Path.{_≡_, refl, ap, _∙_}
+use mathlib.Core.Logic.{_≢_}
 use mathlib.Core.Bool.{Bool, true, false, _&&_}
 use mathlib.Core.List.{List, [], _∷_, _++_}
 use lib.Dec.{eqb, leb}
 use lib.ListN.{length}
+use borrow.Author.Tests.{le-leb, lt-leb, eq-eqb, ne-eqb}
 use Rattle.scope.specs.Geometry.{Geometry}
 use Rattle.scope.specs.Lent.{State, most-requests}
 use Rattle.scope.specs.Replies.{Size, right-sizes}
@@ -20,6 +22,20 @@ buffer-right g buffer others = eqb buffer (g .W) && others
 
 abbrev pub run-right : Geometry → ℕ → ℕ → ℕ → Bool → Bool
 run-right g n words answers others = leb n most-requests && (eqb words (n * g .W) && (eqb answers n && others))
+
+-- Each of a run's tests, where those before it pass.
+module _ (g : Geometry) (n words answers : ℕ) (others : Bool) where
+  pub too-many : most-requests < n → false ≡ run-right g n words answers others
+  too-many h = rw (lt-leb n most-requests h)
+
+  pub words-wrong : n ≤ most-requests → words ≢ n * g .W → false ≡ run-right g n words answers others
+  words-wrong h w = rw (le-leb n most-requests h, ne-eqb words (n * g .W) w)
+
+  pub answers-wrong : n ≤ most-requests → words ≡ n * g .W → answers ≢ n → false ≡ run-right g n words answers others
+  answers-wrong h w a = rw (le-leb n most-requests h, eq-eqb words (n * g .W) w, ne-eqb answers n a)
+
+  pub run-lengths : n ≤ most-requests → words ≡ n * g .W → answers ≡ n → others ≡ run-right g n words answers others
+  run-lengths h w a = rw (le-leb n most-requests h, eq-eqb words (n * g .W) w, eq-eqb answers n a)
 
 -- More sizes: those before are tested first.
 with-more : (zs ys : List Size) (others : Bool) → right-sizes (zs ++ ys) && others ≡ right-sizes zs && (right-sizes ys && others)

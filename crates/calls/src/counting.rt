@@ -3,12 +3,14 @@ use lent::Counts;
 ghost use mathlib.Core.Path.{_≡_};
 ghost use Rattle.lent.specs.Model.{counts as numbers};
 ghost use Rattle.scope.specs.Operations.{no-counts};
-ghost use Rattle.calls.specs.Answers.{put};
+ghost use Rattle.scope.specs.Boundary.{put};
+
+pub const COUNTS_WORDS: usize = 3;
 
 pub fn put_counts(counts: &mut [u32], c: Counts)
     ensures { λ _. ⌜ now (counts .exit) ≡ put (now (counts .entry)) (numbers c) ⌝ }
 {
-    if counts.len() != 3 {
+    if counts.len() != COUNTS_WORDS {
         return;
     }
     counts[0] = c.reads;

@@ -1,12 +1,13 @@
 // The five calls by value: 01's tests, then the steps, for every input. No call has a `requires`, and each contract settles the reply, the
 // record, every lent list and the counts by citing the call's definition. `fits` says whether the lengths are right that only the caller
 // knows, as that of the record's words at the C boundary.
-pub mod counting;
+mod counting;
 pub mod run;
-pub mod tests;
+mod tests;
 
 use crate::counting::put_counts;
 use crate::counting::put_none;
+use crate::tests::DONE;
 use crate::tests::lengths_right;
 use crate::tests::page_answer;
 use crate::tests::page_lengths_right;
@@ -19,7 +20,7 @@ use lent::Work;
 ghost use Rattle.lent.specs.Model.{geometry, state};
 ghost use Rattle.scope.specs.Calls.{format, check, read, write};
 ghost use Rattle.scope.specs.Requests.{replied};
-ghost use Rattle.calls.specs.Answers.{Answers, right-lengths};
+ghost use Rattle.scope.specs.Contracts.{Answers, right-lengths};
 
 // The reply number, and the small record after the call.
 pub struct Out {
@@ -54,7 +55,7 @@ pub fn format(
         directory.len(),
         cache.len(),
     );
-    if answer != 0 {
+    if answer != DONE {
         put_none(counts);
         return Out { answer, rec };
     }
@@ -62,7 +63,7 @@ pub fn format(
     put_counts(counts, fresh.counts);
     let new = fresh.rec;
     Out {
-        answer: 0,
+        answer: DONE,
         rec: new,
     }
 }
@@ -113,7 +114,7 @@ pub fn read(
 {
     let right = page_lengths_right(g, fits, buffer.len(), counts.len());
     let answer = page_answer(rec, right, g, page, chip, spare, directory, cache);
-    if answer != 0 {
+    if answer != DONE {
         put_none(counts);
         return Out { answer, rec };
     }
@@ -156,7 +157,7 @@ pub fn write(
 {
     let right = page_lengths_right(g, fits, buffer.len(), counts.len());
     let answer = page_answer(rec, right, g, page, chip, spare, directory, cache);
-    if answer != 0 {
+    if answer != DONE {
         put_none(counts);
         return Out { answer, rec };
     }
@@ -168,11 +169,11 @@ pub fn write(
             erases: 0,
         },
     };
-    let done = requests::answers::write(work, g, page, chip, spare, directory, cache, buffer);
-    put_counts(counts, done.work.counts);
-    let new = done.work.rec;
+    let written = requests::answers::write(work, g, page, chip, spare, directory, cache, buffer);
+    put_counts(counts, written.work.counts);
+    let new = written.work.rec;
     Out {
-        answer: done.value,
+        answer: written.value,
         rec: new,
     }
 }

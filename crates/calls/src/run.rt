@@ -2,6 +2,8 @@
 // hands over the counts. What the parts hand on says whether the run was admitted; where it wasn't, nothing is done.
 use crate::Out;
 use crate::counting::put_counts;
+use crate::tests::DONE;
+use crate::tests::record_answer;
 use crate::tests::run_lengths_right;
 use crate::tests::state_answer;
 use lent::Counts;
@@ -15,8 +17,8 @@ ghost use mathlib.Core.Path.{_≡_};
 ghost use lib.ListN.{length};
 ghost use Rattle.scope.specs.Requests.{replied};
 ghost use Rattle.lent.specs.Model.{geometry, state};
-ghost use Rattle.scope.specs.Calls.{record-tests, serve, serve-record};
-ghost use Rattle.scope.specs.Replies.{DONE, first-applying};
+ghost use Rattle.scope.specs.Calls.{serve, serve-record};
+ghost use Rattle.scope.specs.Replies.{DONE};
 ghost use Rattle.calls.specs.Room.{most-cost};
 ghost use Rattle.calls.specs.Serve.{Serving, Runs};
 ghost use Rattle.requests.specs.Ready.{Does-all, Ready-for};
@@ -66,19 +68,6 @@ pub fn begin(
     }
 }
 
-// The tests of a request: KIND and PAGE.
-pub fn record_answer(g: Geometry, q: Request) -> u32
-    ensures { λ r. ⌜ r ≡ first-applying (record-tests (geometry g) (request q)) ⌝ }
-{
-    if 2 <= q.kind {
-        return 5;
-    }
-    if g.l <= q.page {
-        return 6;
-    }
-    0
-}
-
 // The steps of a request that has passed its tests.
 fn serve_request(
     work: Work,
@@ -124,11 +113,11 @@ pub fn serve(
         (state (now (chip .exit)) (now (spare .exit)) (now (directory .exit)) (now (cache .exit)) (r .rec))
         (now (words .exit)) (now (answers .exit)) ⌝ }
 {
-    if cur.answer != 0 {
+    if cur.answer != DONE {
         return cur;
     }
     let refusal = record_answer(g, q);
-    if refusal != 0 {
+    if refusal != DONE {
         answers[i] = refusal;
         return cur;
     }
@@ -151,7 +140,7 @@ pub fn serve(
     let counted = done.work.counts;
     let new = done.work.rec;
     Running {
-        answer: 0,
+        answer: DONE,
         counts: counted,
         rec: new,
     }

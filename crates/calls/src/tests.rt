@@ -1,5 +1,7 @@
 // Tests in number order, each answered with its number, and 0 where none applies. What is tested of a slice alone is its length, which
 // comes by value.
+use crate::counting::COUNTS_WORDS;
+use crate::run::Request;
 use lent::Geometry;
 use lent::Record;
 use soundness::geometry::accepts;
@@ -11,10 +13,25 @@ ghost use mathlib.Core.List.{_++_};
 ghost use lib.Dec.{eqb};
 ghost use Rattle.lent.specs.Model.{geometry, state};
 ghost use Rattle.scope.specs.Boundary.{counts-words};
-ghost use Rattle.scope.specs.Calls.{state-sizes, size-tests, state-tests, page-tests};
+ghost use Rattle.scope.specs.Calls.{state-sizes, size-tests, state-tests, page-tests, record-tests};
 ghost use Rattle.scope.specs.Replies.{first-applying, right-sizes};
 ghost use Rattle.soundness.specs.Sizes.{sizes};
 ghost use Rattle.calls.specs.Sizes.{buffer-right, run-right};
+ghost use Rattle.calls.specs.Run.{request};
+
+pub const DONE: u32 = 0;
+
+const GEOMETRY: u32 = 2;
+
+const LENGTH: u32 = 3;
+
+const DAMAGED: u32 = 4;
+
+const KIND: u32 = 5;
+
+const PAGE: u32 = 6;
+
+const MOST_REQUESTS: usize = 1024;
 
 // The caller's own lengths and that of the counts.
 pub fn lengths_right(fits: bool, counts: usize) -> bool
@@ -23,7 +40,7 @@ pub fn lengths_right(fits: bool, counts: usize) -> bool
     if !fits {
         return false;
     }
-    counts == 3
+    counts == COUNTS_WORDS
 }
 
 // Those, and that of the page buffer.
@@ -47,7 +64,7 @@ pub fn run_lengths_right(
 ) -> bool
     ensures { λ r. ⌜ r ≡ run-right (geometry g) n words answers (fits && eqb counts counts-words) ⌝ }
 {
-    if 1024 < n {
+    if MOST_REQUESTS < n {
         return false;
     }
     if words != n * g.w as usize {
@@ -71,15 +88,15 @@ pub fn size_answer(
     ensures { λ r. ⌜ r ≡ first-applying (size-tests (geometry g) (right-sizes (sizes (geometry g) chip spare directory cache) && fits)) ⌝ }
 {
     if !accepts(g) {
-        return 2;
+        return GEOMETRY;
     }
     if !sizes_right(g, chip, spare, directory, cache) {
-        return 3;
+        return LENGTH;
     }
     if !fits {
-        return 3;
+        return LENGTH;
     }
-    0
+    DONE
 }
 
 // These, and DAMAGED.
@@ -104,13 +121,13 @@ pub fn state_answer(
         directory.len(),
         cache.len(),
     );
-    if sizes != 0 {
+    if sizes != DONE {
         return sizes;
     }
     if !is_sound(g, chip, spare, directory, cache, rec) {
-        return 4;
+        return DAMAGED;
     }
-    0
+    DONE
 }
 
 // These, and PAGE.
@@ -129,11 +146,24 @@ pub fn page_answer(
         (state (now (chip .entry)) (now (spare .entry)) (now (directory .entry)) (now (cache .entry)) rec) ++ page-tests (geometry g) page) ⌝ }
 {
     let first = state_answer(rec, fits, g, chip, spare, directory, cache);
-    if first != 0 {
+    if first != DONE {
         return first;
     }
     if g.l <= page {
-        return 6;
+        return PAGE;
     }
-    0
+    DONE
+}
+
+// The tests of a request: KIND and PAGE.
+pub fn record_answer(g: Geometry, q: Request) -> u32
+    ensures { λ r. ⌜ r ≡ first-applying (record-tests (geometry g) (request q)) ⌝ }
+{
+    if 2 <= q.kind {
+        return KIND;
+    }
+    if g.l <= q.page {
+        return PAGE;
+    }
+    DONE
 }

@@ -28,6 +28,10 @@ counts-words = 3
 abbrev pub words-of-counts : Counts → List ℕ
 words-of-counts c = c .reads ∷ c .programs ∷ c .erases ∷ []
 
+-- "Written whenever it has three": that slice after a call.
+abbrev pub put : List ℕ → Counts → List ℕ
+put counts c = cond (eqb (length counts) counts-words) (words-of-counts c) counts
+
 -- What C lends to every call.
 pub record Words : Type 0 where
   pub chip : List ℕ
@@ -50,7 +54,7 @@ to-words w o =
       directory = o .after .directory;
       cache = o .after .cache;
       small = sets (w .small) 0 (words-from (o .after .small));
-      counts = cond (eqb (length (w .counts)) counts-words) (words-of-counts (counted (o .did))) (w .counts);
+      counts = put (w .counts) (counted (o .did));
     }
 
 abbrev pub right-words : Words → Bool

@@ -5,7 +5,7 @@ use denote.Ref.{now}
 use Rattle.lent.specs.Model.{geometry, state, counts}
 use Rattle.scope.specs.Requests.{read-steps}
 use Rattle.scope.specs.Calls.{read}
-use Rattle.calls.specs.Answers.{right-lengths}
+use Rattle.scope.specs.Contracts.{right-lengths}
 use Rattle.calls.specs.Room.{read-few}
 use Rattle.calls.specs.Paged.{page-admitted, page-refused, page-served}
 use Rattle.calls.proofs.read.Statement.{statement}

@@ -5,7 +5,7 @@ use denote.Ref.{now}
 use Rattle.lent.specs.Model.{geometry, state, counts}
 use Rattle.scope.specs.Requests.{write-steps}
 use Rattle.scope.specs.Calls.{write}
-use Rattle.calls.specs.Answers.{right-lengths}
+use Rattle.scope.specs.Contracts.{right-lengths}
 use Rattle.calls.specs.Room.{write-few}
 use Rattle.calls.specs.Paged.{page-admitted, page-refused, page-served}
 use Rattle.calls.proofs.write.Statement.{statement}

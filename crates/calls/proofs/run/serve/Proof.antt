@@ -8,7 +8,8 @@ use Rattle.lent.specs.Model.{geometry, state}
 use Rattle.scope.specs.Calls.{serve-record}
 use Rattle.words.specs.Runs.{length-part}
 use Rattle.calls.specs.Run.{request}
-use Rattle.calls.specs.Serve.{Serving, not-admitted, request-below, request-refused, request-served}
+use Rattle.calls.specs.Tested.{request-below}
+use Rattle.calls.specs.Serve.{Serving, not-admitted, request-refused, request-served}
 use Rattle.calls.proofs.run.serve.Statement.{statement}
 use Rattle.calls.proofs.run.serve.Tie as tie
 
