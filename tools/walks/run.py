@@ -67,7 +67,7 @@ class Run(Walk):
         values = {**self.plain, **dict(zip(lead, ((self.cur, self.state), (self.i, self.index), (self.read, self.request))))}
         lists = {p: (f"(st .z·{p.x})", f"(st .e·{p.x})") if p.mut else (p.list, "refl") for p in self.slices}
         facts = [self.less, ("g", self.rs.to.known(self.request.value))]
-        needs = f"{self.law('ready')} needed less (st .ran)" if callee.requires else ""
+        needs = f"{self.law('ready')} less (st .ran) needed" if callee.requires else ""
         self.call = Call(1, callee, self.out, names, Given(values, lists, [("st", "St")], facts, self.muts, needs))
         self.calls = [self.call]
         self.types += self.call.number_locals(len(self.types))

@@ -160,6 +160,6 @@ class Source:
         for library in ("specs", "proofs"):
             folder = self.root / "crates" / crate / library
             for path in sorted(folder.rglob("*.antt")):
-                if re.search(rf"^\s*pub {re.escape(name)} :", path.read_text(), re.M):
+                if re.search(rf"^\s*pub (?:{re.escape(name)} :|use .*\bas {re.escape(name)}[,}}])", path.read_text(), re.M):
                     return ".".join([f"Rattle.{crate}.{library}", library, *path.relative_to(folder).with_suffix("").parts])
         raise Misfit(f"crate '{crate}' has no law '{name}' in its specs/ or proofs/, which the walk cites")

@@ -1,0 +1,34 @@
+-- The laws by which the walks of `serve_all` and of `run` go from what is ensured to them to what they ensure. They are laws of a run in
+-- its parts, under the names that tools/walks looks for.
+use Prim.Native.Nat.{ℕ}
+use mathlib.Core.Path.{subst, sym}
+use mathlib.Core.Bool.{Bool}
+use mathlib.Core.List.{List, map}
+use lib.ListN.{length}
+use Rattle.lent.specs.declared.Record.{Record}
+use Rattle.lent.specs.Model.{state}
+use Rattle.scope.specs.Geometry.{Geometry}
+use Rattle.scope.specs.Lent.{State}
+use Rattle.scope.specs.Calls.{run-replied, run}
+use Rattle.scope.specs.Contracts.{right-lengths, Answers}
+use Rattle.calls.specs.declared.run.Request.{Request}
+use Rattle.calls.specs.declared.run.Running.{Running}
+use Rattle.calls.specs.Run.{request, Begun, Finished}
+use Rattle.calls.specs.Ran.{Ran, ran-answers}
+pub use Rattle.calls.specs.Ran.{ran-none as serve-all-none, ran-more as serve-all-more, ran-ready as serve-all-ready}
+pub use Rattle.calls.specs.Ran.{begun-admits as run-before-serve-all}
+
+-- Begun, served to the last request and finished, with the record that is stored, is the call.
+pub run-by : {g : Geometry} {requests : List Request} {fits : Bool} {first last : Running} {s s₁ : State}
+    {chip spare directory cache words answers words′ answers′ given given′ : List ℕ} {answer : ℕ} {rec : Record}
+    → Begun g fits (length requests) (length words) (length answers) (length given) s first s₁
+    → Ran g requests (length requests) first s₁ words answers last (state chip spare directory cache (last .rec)) words′ answers′
+    → Finished last given answer rec given′
+    → Answers (run g (right-lengths fits given) (map request requests) words answers s) given (run-replied words′ answers′ answer)
+    (state chip spare directory cache rec) given′
+run-by {g} {requests} {fits} {s = s} {chip = chip} {spare} {directory} {cache} {words} {answers} {words′} {answers′} {given} {given′} {answer}
+    begun ran finished =
+    subst
+    (λ (r : Record). Answers (run g (right-lengths fits given) (map request requests) words answers s) given
+    (run-replied words′ answers′ answer) (state chip spare directory cache r) given′)
+    (sym (finished .recorded)) (ran-answers begun ran finished)
