@@ -1,0 +1,160 @@
+// The five calls for C. Numbers come first, then slices, each a pointer and a count of words; the reply number is returned. No call has a
+// `requires`, for nothing checks one from C: each contract gives, for every input, the reply and every lent word by the call's definition in
+// words. What is done here is no more than to load the small record from its words, make the call by value and store the record.
+mod record;
+
+use crate::record::five_words;
+use crate::record::load;
+use crate::record::store;
+use lent::Geometry;
+ghost use Rattle.scope.specs.Requests.{replied};
+ghost use Rattle.scope.specs.Boundary.{tf-format, tf-check, tf-read, tf-write};
+ghost use Rattle.scope.specs.Contracts.{Gives};
+ghost use Rattle.trianglefire.specs.Words.{geometry-of, words};
+
+#[no_mangle]
+pub extern "C" fn tf_format(
+    p: u32,
+    w: u32,
+    d: u32,
+    t: u32,
+    l: u32,
+    c: u32,
+    chip: &mut [u32],
+    spare: &mut [u32],
+    directory: &mut [u32],
+    cache: &mut [u32],
+    record: &mut [u32],
+    counts: &mut [u32],
+) -> u32
+    ensures { λ r. ⌜ Gives
+        (tf-format (geometry-of p w d t l c) (words (now (chip .entry)) (now (spare .entry)) (now (directory .entry))
+        (now (cache .entry)) (now («record» .entry)) (now (counts .entry))))
+        r
+        (words (now (chip .exit)) (now (spare .exit)) (now (directory .exit))
+        (now (cache .exit)) (now («record» .exit)) (now (counts .exit))) ⌝ }
+{
+    let g = Geometry { p, w, d, t, l, c };
+    let fits = five_words(record);
+    let rec = load(record);
+    let out = calls::format(rec, fits, g, chip, spare, directory, cache, counts);
+    let new = out.rec;
+    store(record, new);
+    out.answer
+}
+
+#[no_mangle]
+pub extern "C" fn tf_check(
+    p: u32,
+    w: u32,
+    d: u32,
+    t: u32,
+    l: u32,
+    c: u32,
+    chip: &[u32],
+    spare: &[u32],
+    directory: &[u32],
+    cache: &[u32],
+    record: &[u32],
+    counts: &mut [u32],
+) -> u32
+    ensures { λ r. ⌜ Gives
+        (tf-check (geometry-of p w d t l c) (words (now (chip .entry)) (now (spare .entry)) (now (directory .entry))
+        (now (cache .entry)) (now («record» .entry)) (now (counts .entry))))
+        r
+        (words (now (chip .entry)) (now (spare .entry)) (now (directory .entry))
+        (now (cache .entry)) (now («record» .entry)) (now (counts .exit))) ⌝ }
+{
+    let g = Geometry { p, w, d, t, l, c };
+    let fits = five_words(record);
+    let rec = load(record);
+    calls::check(rec, fits, g, chip, spare, directory, cache, counts)
+}
+
+#[no_mangle]
+pub extern "C" fn tf_read(
+    p: u32,
+    w: u32,
+    d: u32,
+    t: u32,
+    l: u32,
+    c: u32,
+    page: u32,
+    chip: &mut [u32],
+    spare: &mut [u32],
+    directory: &mut [u32],
+    cache: &mut [u32],
+    record: &mut [u32],
+    buffer: &mut [u32],
+    counts: &mut [u32],
+) -> u32
+    ensures { λ r. ⌜ Gives
+        (tf-read (geometry-of p w d t l c) page (words (now (chip .entry)) (now (spare .entry)) (now (directory .entry))
+        (now (cache .entry)) (now («record» .entry)) (now (counts .entry))) (now (buffer .entry)))
+        (replied (now (buffer .exit)) r)
+        (words (now (chip .exit)) (now (spare .exit)) (now (directory .exit))
+        (now (cache .exit)) (now («record» .exit)) (now (counts .exit))) ⌝ }
+{
+    let g = Geometry { p, w, d, t, l, c };
+    let fits = five_words(record);
+    let rec = load(record);
+    let out = calls::read(
+        rec,
+        fits,
+        g,
+        page,
+        chip,
+        spare,
+        directory,
+        cache,
+        buffer,
+        counts,
+    );
+    let new = out.rec;
+    store(record, new);
+    out.answer
+}
+
+#[no_mangle]
+pub extern "C" fn tf_write(
+    p: u32,
+    w: u32,
+    d: u32,
+    t: u32,
+    l: u32,
+    c: u32,
+    page: u32,
+    chip: &mut [u32],
+    spare: &mut [u32],
+    directory: &mut [u32],
+    cache: &mut [u32],
+    record: &mut [u32],
+    buffer: &[u32],
+    counts: &mut [u32],
+) -> u32
+    ensures { λ r. ⌜ Gives
+        (tf-write (geometry-of p w d t l c) page (words (now (chip .entry)) (now (spare .entry)) (now (directory .entry))
+        (now (cache .entry)) (now («record» .entry)) (now (counts .entry))) (now (buffer .entry)))
+        (replied (now (buffer .entry)) r)
+        (words (now (chip .exit)) (now (spare .exit)) (now (directory .exit))
+        (now (cache .exit)) (now («record» .exit)) (now (counts .exit))) ⌝ }
+{
+    let g = Geometry { p, w, d, t, l, c };
+    let fits = five_words(record);
+    let rec = load(record);
+    let out = calls::write(
+        rec,
+        fits,
+        g,
+        page,
+        chip,
+        spare,
+        directory,
+        cache,
+        buffer,
+        counts,
+    );
+    let new = out.rec;
+    store(record, new);
+    out.answer
+}
