@@ -1,0 +1,185 @@
+-- What the proofs ask of a face: that its contracts say what the definitions do, to a state and by way of `Answers`. The calls in
+-- words come down to those on numbers and lists, so that the demands are proved once.
+use Prim.Native.Nat.{ℕ, _%_}
+use mathlib.Core.Path.{_≡_, refl, sym, _∙_, ap}
+use mathlib.Core.Bool.{Bool, true}
+use mathlib.Core.List.{List, [], _∷_}
+use native.Mathlib.Omega.{arith}
+use lib.Dec.{eqb}
+use lib.ListN.{length}
+use lib.Seq.{sets, length-sets}
+use borrow.Author.Tests.{eqb-true}
+use Rattle.scope.specs.Geometry.{Geometry}
+use Rattle.scope.specs.SmallRecord.{SmallRecord, record-words, record-of, words-from}
+use Rattle.scope.specs.Lent.{State}
+use Rattle.scope.specs.Operations.{Step, Outcome}
+use Rattle.scope.specs.Boundary.{Words, counts-words, in-words, right-words, tf-format, tf-check, tf-read, tf-write, tf-run}
+use Rattle.scope.specs.Contracts.{Answers, Gives, right-lengths}
+use Rattle.flash.specs.Cases.{and-true}
+use Rattle.promises.specs.Demands.{Call, Format, Check, Read-page, Write-page, Run, make}
+use Rattle.contracts.specs.Faces.{Back, Face, Answered, with-counts, rattle-face, Slices, lend, In-words, Tf-format, Tf-check, Tf-read, Tf-write, Tf-run, call-in-words, Given, state-of-slices, c-face}
+
+-- The Bool of a call: whether the lengths are right that no state has.
+abbrev pub fits-of : Call → Bool
+fits-of (Format fits) = fits
+fits-of (Check fits) = fits
+fits-of (Read-page fits l buffer) = fits
+fits-of (Write-page fits l buffer) = fits
+fits-of (Run fits requests words answers) = fits
+
+-- What an outcome that a contract allows is.
+pub record Says (F : Face) (g : Geometry) (x : F .Lent) (counts : List ℕ) (n : F .Node) (b : Back) (n′ : F .Node) : Type 0 where
+  -- What is handed back is the definition's.
+  pub answered :
+      let call = F .call n x counts in
+      Answered g call counts (F .state n) b (make g call (F .state n) .after)
+  -- So is the state that is left, where the node is formed; the node is as it was where the state is, formed or not.
+  pub after : F .Formed n → make g (F .call n x counts) (F .state n) .after ≡ F .state n′
+  pub formed : F .Formed n → F .Formed n′
+  pub same : make g (F .call n x counts) (F .state n) .after ≡ F .state n → n′ ≡ n
+
+pub record Faithful (F : Face) (g : Geometry) : Type 0 where
+  pub says : (x : F .Lent) (counts : List ℕ) (n : F .Node) (b : Back) (n′ : F .Node) → F .Contract g x counts n b n′
+      → Says F g x counts n b n′
+  -- The length of the counts is tested.
+  pub three : (x : F .Lent) (counts : List ℕ) (n : F .Node) → fits-of (F .call n x counts) ≡ true → length counts ≡ counts-words
+
+-- ---- Rattle
+
+counts-tested : (fits : Bool) (counts : List ℕ) → right-lengths fits counts ≡ true → length counts ≡ counts-words
+counts-tested fits counts e =
+    eqb-true (length counts) counts-words (and-true fits (eqb (length counts) counts-words) e .1)
+
+-- The state of an outcome is the definition's.
+answers-after : {A : Type 0} {o : Outcome A} {counts : List ℕ} {x : A} {s′ : State} {counts′ : List ℕ}
+    → Answers o counts x s′ counts′ → Answers o counts x (o .after) counts′
+answers-after a = record { value = a .value; after = refl; counted = a .counted }
+
+answered-made : (g : Geometry) (c : Call) (counts : List ℕ) (s : State) (b : Back) (s′ : State) → Answered g c counts s b s′
+    → Answered g c counts s b (make g c s .after) × (make g c s .after ≡ s′)
+answered-made g (Format fits) counts s b s′ a = (answers-after a, a .after)
+answered-made g (Check fits) counts s b s′ a = (answers-after a, a .after)
+answered-made g (Read-page fits l buffer) counts s b s′ a = (answers-after a, a .after)
+answered-made g (Write-page fits l buffer) counts s b s′ a = (answers-after a, a .after)
+answered-made g (Run fits requests words answers) counts s b s′ a = (answers-after a, a .after)
+
+three-of : (c : Call) (counts : List ℕ) → fits-of (with-counts c counts) ≡ true → length counts ≡ counts-words
+three-of (Format fits) counts e = counts-tested fits counts e
+three-of (Check fits) counts e = counts-tested fits counts e
+three-of (Read-page fits l buffer) counts e = counts-tested fits counts e
+three-of (Write-page fits l buffer) counts e = counts-tested fits counts e
+three-of (Run fits requests words answers) counts e = counts-tested fits counts e
+
+pub rattle-faithful : (g : Geometry) → Faithful rattle-face g
+rattle-faithful g =
+    record {
+      says = λ x counts s b s′ a.
+          let (answered, after) = answered-made g (with-counts x counts) counts s b s′ a in
+          record { answered = answered; after = λ formed. after; formed = λ formed. tt; same = λ e. sym after ∙ e };
+      three = λ x counts s e. three-of x counts e;
+    }
+
+-- ---- C
+
+-- Five words hold a record; the words of a record stored where they were read leave a slice of any length as it was.
+record-stored : (small : List ℕ) (r : SmallRecord) → length small ≡ record-words → record-of (sets small 0 (words-from r)) ≡ r
+record-stored [] r e = absurd (omega arith)
+record-stored (a ∷ []) r e = absurd (omega arith)
+record-stored (a ∷ b ∷ []) r e = absurd (omega arith)
+record-stored (a ∷ b ∷ d ∷ []) r e = absurd (omega arith)
+record-stored (a ∷ b ∷ d ∷ f ∷ []) r e = absurd (omega arith)
+record-stored (a ∷ b ∷ d ∷ f ∷ h ∷ more) r e = refl
+
+record-kept : (small : List ℕ) → sets small 0 (words-from (record-of small)) ≡ small
+record-kept [] = refl
+record-kept (a ∷ []) = refl
+record-kept (a ∷ b ∷ []) = refl
+record-kept (a ∷ b ∷ d ∷ []) = refl
+record-kept (a ∷ b ∷ d ∷ f ∷ []) = refl
+record-kept (a ∷ b ∷ d ∷ f ∷ h ∷ more) = refl
+
+-- The slices of lent words.
+abbrev slices : Words → Slices
+slices w =
+    record { chip = w .chip; spare = w .spare; directory = w .directory; cache = w .cache; small = w .small }
+
+abbrev state-stored : Slices → State → Slices
+state-stored n s =
+    record {
+      chip = s .chip;
+      spare = s .spare;
+      directory = s .directory;
+      cache = s .cache;
+      small = sets (n .small) 0 (words-from (s .small));
+    }
+
+-- What a contract in words says of the definition on numbers and lists, and of the slices.
+record Comes-down {A : Type 0} (m : Step A) (n : Slices) (counts : List ℕ) (x : A) (n′ : Slices) (counts′ : List ℕ) : Type 0 where
+  answers : Answers (m (state-of-slices n)) counts x (m (state-of-slices n) .after) counts′
+  stored : n′ ≡ state-stored n (m (state-of-slices n) .after)
+
+comes-down : {A : Type 0} (m : Step A) (n : Slices) (counts : List ℕ) {x : A} {n′ : Slices} {counts′ : List ℕ}
+    → Gives (in-words (lend n counts) m) x (lend n′ counts′) → Comes-down m n counts x n′ counts′
+unfolding in-words
+comes-down m n counts a =
+    record {
+      answers = record { value = a .answer; after = refl; counted = sym (ap (λ (w : Words). w .counts) (a .lent)) };
+      stored = sym (ap slices (a .lent));
+    }
+
+given-down : (g : Geometry) (x : In-words) (counts : List ℕ) (n : Slices) (b : Back) (n′ : Slices) → Given g x counts n b n′ →
+    let call = call-in-words n x counts in
+    let after = make g call (state-of-slices n) .after in
+    Answered g call counts (state-of-slices n) b after × (n′ ≡ state-stored n after)
+unfolding tf-format tf-check tf-read tf-write tf-run
+given-down g Tf-format counts n b n′ a = let d = comes-down _ n counts a in (d .answers, d .stored)
+given-down g Tf-check counts n b n′ a = let d = comes-down _ n counts a in (d .answers, d .stored)
+given-down g (Tf-read l buffer) counts n b n′ a = let d = comes-down _ n counts a in (d .answers, d .stored)
+given-down g (Tf-write l buffer) counts n b n′ a = let d = comes-down _ n counts a in (d .answers, d .stored)
+given-down g (Tf-run requests words answers) counts n b n′ a = let d = comes-down _ n counts a in (d .answers, d .stored)
+
+words-tested : (x : In-words) (counts : List ℕ) (n : Slices) → fits-of (call-in-words n x counts) ≡ true
+    → length counts ≡ counts-words
+words-tested Tf-format counts n e = counts-tested (eqb (length (n .small)) record-words) counts e
+words-tested Tf-check counts n e = counts-tested (eqb (length (n .small)) record-words) counts e
+words-tested (Tf-read l buffer) counts n e = counts-tested (eqb (length (n .small)) record-words) counts e
+words-tested (Tf-write l buffer) counts n e = counts-tested (eqb (length (n .small)) record-words) counts e
+words-tested (Tf-run requests words answers) counts n e =
+    counts-tested (eqb (length (n .small)) record-words) counts
+    (and-true (right-words (lend n counts)) (eqb (length requests % 2) 0) e .0)
+
+state-is : (n : Slices) (s : State) → length (n .small) ≡ record-words → s ≡ state-of-slices (state-stored n s)
+state-is n s five =
+    ap (λ (r : SmallRecord). record {
+      chip = s .chip;
+      spare = s .spare;
+      directory = s .directory;
+      cache = s .cache;
+      small = r;
+    }) (sym (record-stored (n .small) (s .small) five))
+
+slices-kept : (n : Slices) → state-stored n (state-of-slices n) ≡ n
+slices-kept n =
+    ap (λ (words : List ℕ). record {
+      chip = n .chip;
+      spare = n .spare;
+      directory = n .directory;
+      cache = n .cache;
+      small = words;
+    }) (record-kept (n .small))
+
+pub c-faithful : (g : Geometry) → Faithful c-face g
+c-faithful g =
+    record {
+      says = λ x counts n b n′ a.
+          let (answered, stored) = given-down g x counts n b n′ a in
+          let after = make g (call-in-words n x counts) (state-of-slices n) .after in
+          record {
+            answered = answered;
+            after = λ five. state-is n after five ∙ sym (ap state-of-slices stored);
+            formed = λ five. ap (λ (m : Slices). length (m .small)) stored
+                ∙ length-sets (n .small) 0 (words-from (after .small)) ∙ five;
+            same = λ e. stored ∙ ap (state-stored n) e ∙ slices-kept n;
+          };
+      three = words-tested;
+    }
