@@ -1,4 +1,4 @@
--- Rule 4 is decided by the counts of the directory's words and of the translation region's valid pages.
+-- Rule 4, with rule 2 of the translation region, is decided by the counts of the directory's words and of the region's valid pages.
 use Prim.Native.Nat.{ℕ, _+_}
 use native.Mathlib.Nat.{zero-add}
 use native.Mathlib.Omega.{arith}
@@ -8,12 +8,12 @@ use mathlib.Core.List.{List}
 use lib.Dec.{eqb}
 use lib.ListN.{length, getD}
 use Rattle.scope.specs.Counting.{count}
-use Rattle.scope.specs.Decisions.{directory-names}
+use Rattle.scope.specs.Decisions.{owners-differ, directory-names}
 use Rattle.scope.specs.Geometry.{Geometry, Accepted, M}
-use Rattle.scope.specs.Laws.Decided.{directory-names-decided}
+use Rattle.scope.specs.Laws.Decided.{owners-differ-decided, directory-names-decided}
+use Rattle.scope.specs.Laws.Decides.{by-and}
 use Rattle.scope.specs.Lent.{none, is-valid, directory-size}
 use Rattle.scope.specs.Regions.{Translation, first-page, region-pages}
-use Rattle.scope.specs.Sound.{Owners-differ}
 use Rattle.flash.specs.Counting.{count-same}
 use Rattle.soundness.specs.Counted.{decided-same}
 use Rattle.soundness.specs.Named.{Owners-fit, region-small, by-counts, owns, names-page}
@@ -21,7 +21,7 @@ use Rattle.soundness.specs.Tally.{nothing, Tallied, word-named, word-goo
 use Rattle.soundness.specs.declared.tally.Tally.{Tally}
 
 module _ (g : Geometry) (spare directory : List ℕ) (ok : Accepted g) (fit : Owners-fit g Translation spare)
-    (differ : Owners-differ g Translation spare) (long : length directory ≡ directory-size g) (sum : Tally)
+    (long : length directory ≡ directory-size g) (sum : Tally)
     (counted : Tallied nothing sum (length directory) (word-named directory) (word-good directory 0 spare (first-page g Translation) (region-pages g Translation))) where
   named-is : sum .named ≡ count (M g) (λ t. names-page (getD directory t none))
   named-is = omega (arith, counted .named-more, ap (λ (k : ℕ). count k (word-named directory)) long)
@@ -33,9 +33,9 @@ module _ (g : Geometry) (spare directory : List ℕ) (ok : Accepted g) (fit : Ow
       ∙ count-same (M g) _ _ (λ t h. ap (λ (k : ℕ). owns (first-page g Translation) (region-pages g Translation) spare k (getD directory t none)) (zero-add t))
 
   pub directory-counts : (pages : ℕ) → pages ≡ count (region-pages g Translation) (λ i. is-valid (first-page g Translation + i) spare)
-      → eqb (sum .named) (sum .good) && eqb (sum .good) pages ≡ directory-names g spare directory
+      → eqb (sum .named) (sum .good) && eqb (sum .good) pages ≡ owners-differ g Translation spare && directory-names g spare directory
   directory-counts pages e =
       rw (named-is, good-is, e)
       (decided-same
-      (by-counts g Translation spare (region-small g Translation ok) (λ t. getD directory t none) fit differ)
-      (directory-names-decided g spare directory))
+      (by-counts g Translation spare (region-small g Translation ok) (λ t. getD directory t none) fit)
+      (by-and (owners-differ-decided g Translation spare) (directory-names-decided g spare directory)))

@@ -3,7 +3,6 @@ pub mod Bools
 pub mod Bitmap
 pub mod Seen
 pub mod Sizes
-pub mod Owners
 pub mod Pages
 pub mod Erased
 pub mod Blocks

@@ -1,5 +1,6 @@
--- A map from the owners of a region to its pages names, for each owner, the valid page that it owns exactly where every word that is
--- no *none* names such a page and there are as many of these as valid pages. So rules 4 and 6 are decided by three counts.
+-- A map from the owners of a region to its pages names, for each owner, the one valid page that it owns exactly where every word that is
+-- no *none* names such a page and there are as many of these as valid pages: a second page of an owner would be named by no word. So
+-- rules 4 and 6, each with rule 2 of its region, are decided by three counts, and nothing is kept for each owner.
 use Prim.Native.Nat.{ℕ, _+_, _*_, _-_, _≤_, _<_}
 use mathlib.Core.Path.{_≡_, refl, sym, ap, _∙_}
 use mathlib.Core.Logic.{_≢_}
@@ -15,7 +16,7 @@ use Rattle.scope.specs.Lent.{none, valid, Place, decode, state-of, owner-of, is
 use Rattle.scope.specs.Regions.{Region, Data, Translation, owners, first-page, region-pages, Has-page}
 use Rattle.scope.specs.Sound.{Pages-fit, Owners-differ, Names}
 use Rattle.scope.specs.Laws.Decides.{Decides, by-equal, by-below, by-most, by-same, by-and}
-use Rattle.flash.specs.Cases.{on, clash, and-true, true-and, not-of-false, is-false}
+use Rattle.flash.specs.Cases.{on, same?, clash, and-true, true-and, not-of-false, is-false}
 use Rattle.flash.specs.Counting.{count-same}
 use Rattle.soundness.specs.Counted.{count-into, count-less, count-tight}
 
@@ -101,7 +102,7 @@ module _ (g : Geometry) (r : Region) (spare : List ℕ) where
         let s : place i ≡ place j = omega (arith, m .0 .0, n .0 .0) in
         sym (m .2) ∙ ap (λ (x : ℕ). owner-of x spare) s ∙ n .2
 
-    -- ---- from the rule to the counts
+    -- ---- from the rules to the counts
 
     module _ (fit : Owners-fit g r spare) (differ : Owners-differ g r spare)
         (names : (k : ℕ) → k < owners g r → Names g r spare k (decode (place k))) where
@@ -143,7 +144,7 @@ module _ (g : Geometry) (r : Region) (spare : List ℕ) where
             omega arith,
       )
 
-    -- ---- from the counts to the rule
+    -- ---- from the counts to the rules
 
     module _ (all-good : count (owners g r) (named-at place) ≡ count (owners g r) (good-at place))
         (all-pages : count (owners g r) (good-at place) ≡ count (region-pages g r) valid-at) where
@@ -151,9 +152,10 @@ module _ (g : Geometry) (r : Region) (spare : List ℕ) where
       good-of-word = count-tight (owners g r) (good-at place) (named-at place) (λ k l. good-named k) all-good
 
       -- A valid page is named by its owner's word: else there were fewer good words than valid pages.
-      no-page : (k : ℕ) → place k ≡ none → (p : ℕ) → Has-page g r p → state-of p spare ≡ valid → owner-of p spare ≢ k
+      named-by-owner : (p : ℕ) → Has-page g r p → state-of p spare ≡ valid → place (owner-of p spare) ≡ p
       unfolding offset
-      no-page k e p h v o =
+      named-by-owner p h v =
+          same? (place (owner-of p spare)) p (λ e. e) (λ other.
           let at : ℕ = p - first-page g r in
           let others : ℕ → Bool = λ i. valid-at i && not (eqb i at) in
           let is-p : first-page g r + at ≡ p = omega arith in
@@ -169,29 +171,36 @@ module _ (g : Geometry) (r : Region) (spare : List ℕ) where
             to-valid i t .0,
             true-and (to-valid i t .1) (not-of-false (ne-eqb (offset i) at (λ same.
                 let s : place i ≡ p = omega (arith, n .0 .0, h .0) in
-                let i-is : i ≡ k = sym (n .2) ∙ ap (λ (x : ℕ). owner-of x spare) s ∙ o in
-                let s′ : p ≡ none = sym s ∙ ap place i-is ∙ e in
-                omega (arith, h .1)))),
+                other (ap place (ap (λ (x : ℕ). owner-of x spare) (sym s) ∙ n .2) ∙ s)))),
           ))
-          (λ i j k′ l p′ q. to-differ i j p′ q) in
-          omega arith
+          (λ i j k l p′ q. to-differ i j p′ q) in
+          absurd (omega arith))
 
-      pub names-of-counts : (k : ℕ) → k < owners g r → Names g r spare k (decode (place k))
+      -- So an owner without a word has no page, and two pages of one owner are one.
+      no-page : (k : ℕ) → place k ≡ none → (p : ℕ) → Has-page g r p → state-of p spare ≡ valid → owner-of p spare ≢ k
+      no-page k e p h v o =
+          let is : p ≡ none = sym (named-by-owner p h v) ∙ ap place o ∙ e in
+          omega (arith, h .1)
+
+      differ-of-counts : Owners-differ g r spare
+      differ-of-counts p q h k v w e = sym (named-by-owner p h v) ∙ ap place e ∙ named-by-owner q k w
+
+      names-of-counts : (k : ℕ) → k < owners g r → Names g r spare k (decode (place k))
       names-of-counts k l =
           on (eqb (place k) none)
           (λ e. rw e (no-page k (eqb-true (place k) none e)))
           (λ e. rw e (owns-decided k (place k) .holds (good-of-word k l (not-of-false e))))
 
-    -- The rule for a whole map is decided by the two comparisons.
-    pub by-counts : Owners-fit g r spare → Owners-differ g r spare
+    -- Rule 2 and the rule for a whole map are decided by the two comparisons.
+    pub by-counts : Owners-fit g r spare
         → Decides
         (eqb (count (owners g r) (named-at place)) (count (owners g r) (good-at place))
         && eqb (count (owners g r) (good-at place)) (count (region-pages g r) valid-at))
-        ((k : ℕ) → k < owners g r → Names g r spare k (decode (place k)))
-    by-counts fit differ =
+        (Owners-differ g r spare × ((k : ℕ) → k < owners g r → Names g r spare k (decode (place k))))
+    by-counts fit =
         by-same
-        (λ x. names-of-counts (x .0) (x .1))
-        (λ n. counts-of-names fit differ n)
+        (λ x. (differ-of-counts (x .0) (x .1), names-of-counts (x .0) (x .1)))
+        (λ n. counts-of-names fit (n .0) (n .1))
         (by-and
         (by-equal (count (owners g r) (named-at place)) (count (owners g r) (good-at place)))
         (by-equal (count (owners g r) (good-at place)) (count (region-pages g r) valid-at)))

@@ -11,12 +11,12 @@ use lib.Dec.{eqb, ltb}
 use borrow.Author.Tests.{ltb-true, lt-ltb, eqb-true, eq-eqb, not-true, not-false}
 use Rattle.scope.specs.Counting.{count}
 use Rattle.scope.specs.Geometry.{Geometry, Accepted, M}
-use Rattle.scope.specs.Laws.Decides.{Decides, by-same}
-use Rattle.scope.specs.Laws.Decided.{places-hold-decided}
-use Rattle.scope.specs.Decisions.{places-hold}
+use Rattle.scope.specs.Laws.Decides.{Decides, by-same, by-and}
+use Rattle.scope.specs.Laws.Decided.{owners-differ-decided, places-hold-decided}
+use Rattle.scope.specs.Decisions.{owners-differ, places-hold}
 use Rattle.scope.specs.Lent.{Place, State, decode, is-valid, logical-at, physical-at, named, word-of, none}
 use Rattle.scope.specs.Regions.{Data}
-use Rattle.scope.specs.Sound.{Owners-differ, Names, Entries-fit, rank-of, stored, current}
+use Rattle.scope.specs.Sound.{Owners-differ, Names, Entries-fit, Places-hold, rank-of, stored, current}
 use Rattle.flash.specs.Cases.{on, clash, and-true, true-and, is-false}
 use Rattle.flash.specs.Counting.{count-same, count-split}
 use Rattle.cache.specs.Ranks.{rank-found, rank-is}
@@ -27,25 +27,33 @@ use Rattle.soundness.specs.Tally.{nothing, Tallied}
 use Rattle.soundness.specs.Translated.{stored-named, stored-good, cached-named, cached-good, hidden-named, hidden-good}
 use Rattle.soundness.specs.declared.tally.Tally.{Tally}
 
--- The two halves of the rule.
+-- The two halves of the rule, the first with rule 2 of the data region.
 abbrev pub Current-places : Geometry → State → Type 0
-Current-places g s = (l : ℕ) → l < g .L → Names g Data (s .spare) l (decode (current g s l))
+Current-places g s =
+    Owners-differ g Data (s .spare) × ((l : ℕ) → l < g .L → Names g Data (s .spare) l (decode (current g s l)))
 
 abbrev pub None-past : Geometry → List ℕ → List ℕ → Type 0
 None-past g chip directory =
     (t q i : ℕ) → t < M g → named t directory ≡ Place q → i < g .W → g .L ≤ t * g .W + i → word-of g q i chip ≡ none
 
--- Where the first fails the rule does; where it holds the second tells.
+-- Where the first fails the rules do; where it holds the second tells.
 module _ {a : Bool} (g : Geometry) (s : State) (first : Decides a (Current-places g s)) where
-  pub first-fails : not a ≡ true → false ≡ places-hold g s
-  first-fails p =
-      sym (is-false (places-hold g s) (λ h. clash (first .passes (places-hold-decided g s .holds h .current-place)) (not-true a p)))
+  both-rules : Decides (owners-differ g Data (s .spare) && places-hold g s) (Owners-differ g Data (s .spare) × Places-hold g s)
+  both-rules = by-and (owners-differ-decided g Data (s .spare)) (places-hold-decided g s)
 
-  pub second-tells : {b : Bool} → not a ≡ false → Decides b (None-past g (s .chip) (s .directory)) → b ≡ places-hold g s
+  pub first-fails : not a ≡ true → false ≡ owners-differ g Data (s .spare) && places-hold g s
+  first-fails p =
+      sym (is-false (owners-differ g Data (s .spare) && places-hold g s) (λ h.
+      let both = both-rules .holds h in
+      clash (first .passes (both .0, both .1 .current-place)) (not-true a p)))
+
+  pub second-tells : {b : Bool} → not a ≡ false → Decides b (None-past g (s .chip) (s .directory))
+      → b ≡ owners-differ g Data (s .spare) && places-hold g s
   second-tells p second =
+      let held = first .holds (not-false a p) in
       decided-same
-      (by-same (λ x. record { current-place = first .holds (not-false a p); past-L = x }) (λ f. f .past-L) second)
-      (places-hold-decided g s)
+      (by-same (λ x. (held .0, record { current-place = held .1; past-L = x })) (λ f. f .1 .past-L) second)
+      both-rules
 
 module _ (g : Geometry) (s : State) (fits : Entries-fit g (s .cache) (s .small .used)) where
   abbrev rank : ℕ → ℕ
@@ -139,7 +147,7 @@ sums-tell x y v a b c d e f =
     let q = eqb-true d (v + c) (both .1) in
     true-and (eq-eqb x y (omega arith)) (eq-eqb y v (omega arith)))
 
-module _ (g : Geometry) (s : State) (ok : Accepted g) (fit : Owners-fit g Data (s .spare)) (differ : Owners-differ g Data (s .spare))
+module _ (g : Geometry) (s : State) (ok : Accepted g) (fit : Owners-fit g Data (s .spare))
     (entries : Entries-fit g (s .cache) (s .small .used)) (held has hides : Tally) (pages : ℕ)
     (of-flash : Tallied nothing held (g .L) (stored-named g (s .chip) (s .directory)) (stored-good g (s .chip) (s .spare) (s .directory)))
     (of-cache : Tallied nothing has (s .small .used) (cached-named (s .cache)) (cached-good (g .D * g .P) (s .cache) (s .spare)))
@@ -164,4 +172,4 @@ module _ (g : Geometry) (s : State) (ok : Accepted g) (fit : Owners-fit g Data (
       && eqb (count (g .L) (λ l. owns first (g .D * g .P) (s .spare) l (current g s l))) (count (g .D * g .P) (λ i. is-valid (first + i) (s .spare))))
       (Current-places g s))
       at-zero
-      (by-counts g Data (s .spare) (region-small g Data ok) (current g s) fit differ)))
+      (by-counts g Data (s .spare) (region-small g Data ok) (current g s) fit)))

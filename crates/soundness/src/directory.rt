@@ -1,12 +1,13 @@
-// Rule 4: the directory names, for each translation page number, the valid page with that owner, and none where there isn't one.
+// Rule 4: the directory names, for each translation page number, the valid page with that owner, and none where there isn't one. Rule 2
+// of the translation region comes with it.
 ghost use mathlib.Core.Path.{_≡_};
+ghost use mathlib.Core.Bool.{_&&_};
 ghost use lib.ListN.{length};
 ghost use Rattle.lent.specs.Model.{geometry};
-ghost use Rattle.scope.specs.Decisions.{directory-names};
+ghost use Rattle.scope.specs.Decisions.{owners-differ, directory-names};
 ghost use Rattle.scope.specs.Geometry.{Accepted};
 ghost use Rattle.scope.specs.Lent.{spare-size, directory-size};
 ghost use Rattle.scope.specs.Regions.{Translation};
-ghost use Rattle.scope.specs.Sound.{Owners-differ};
 ghost use Rattle.soundness.specs.Named.{Owners-fit};
 use crate::tally::Tally;
 use crate::tally::VALID;
@@ -14,15 +15,15 @@ use crate::tally::tally_words;
 use lent::Geometry;
 use words::states::count_state;
 
-// By three counts: the words that name a page all name a valid page of their own, and there are as many as valid pages. What rules 1
-// and 2 say of the owners makes that the rule.
+// By three counts: the words that name a page all name a valid page of their own, and there are as many as valid pages. What rule 1
+// says of the owners makes that both rules.
 pub fn directory_names(g: Geometry, spare: &[u32], directory: &[u32]) -> bool
     requires { ⌜ Accepted (geometry g) ⌝ }
     requires { ⌜ length (now spare) ≡ spare-size (geometry g) ⌝ }
     requires { ⌜ length (now directory) ≡ directory-size (geometry g) ⌝ }
     requires { ⌜ Owners-fit (geometry g) Translation (now spare) ⌝ }
-    requires { ⌜ Owners-differ (geometry g) Translation (now spare) ⌝ }
-    ensures { λ r. ⌜ r ≡ directory-names (geometry g) (now (spare .entry)) (now (directory .entry)) ⌝ }
+    ensures { λ r. ⌜ r ≡ (owners-differ (geometry g) Translation (now (spare .entry))
+        && directory-names (geometry g) (now (spare .entry)) (now (directory .entry))) ⌝ }
 {
     let p = g.p as usize;
     let first = g.d as usize * p;

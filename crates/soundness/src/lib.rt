@@ -5,7 +5,6 @@ pub mod directory;
 pub mod entries;
 pub mod erased;
 pub mod geometry;
-pub mod owners;
 pub mod pages;
 pub mod places;
 pub mod sound;

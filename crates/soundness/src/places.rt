@@ -1,18 +1,19 @@
 // Rule 6: the current place of each logical page is the valid data page that it owns, or none where there isn't one; words past L are
-// none. By counts, in one pass over the translation pages and two over the cache: nothing is kept for each logical page. What flash
+// none. Rule 2 of the data region comes with it. By counts, in one pass over the translation pages and two over the cache: nothing is kept for each logical page. What flash
 // stores is counted for every logical page; then the words that cached entries hide are taken out of the counts, and the entries'
 // places put in. specs/Places.antt says why the sums decide the rule.
 ghost use mathlib.Core.Path.{_≡_};
+ghost use mathlib.Core.Bool.{_&&_};
 ghost use Prim.Native.Nat.{_+_, _*_, _≤_, _<_, min};
 ghost use lib.ListN.{length};
 ghost use Rattle.lent.specs.Model.{geometry};
 ghost use Rattle.scope.specs.Geometry.{Accepted, M, most-pages};
 ghost use Rattle.scope.specs.Lent.{chip-size, spare-size, directory-size};
 ghost use Rattle.flash.specs.Words.{Lengths-fit};
-ghost use Rattle.scope.specs.Decisions.{places-hold};
+ghost use Rattle.scope.specs.Decisions.{owners-differ, places-hold};
 ghost use Rattle.scope.specs.Laws.Decides.{Decides};
 ghost use Rattle.scope.specs.Regions.{Data};
-ghost use Rattle.scope.specs.Sound.{Owners-differ, Directory-names, Entries-fit};
+ghost use Rattle.scope.specs.Sound.{Directory-names, Entries-fit};
 ghost use Rattle.soundness.specs.Erased.{only-erased};
 ghost use Rattle.soundness.specs.PastL.{behind-words};
 ghost use Rattle.soundness.specs.Places.{Current-places, None-past, sums-agree};
@@ -195,7 +196,7 @@ fn sums_agree(held: Tally, has: Tally, hides: Tally, valid: usize) -> bool
     held.good + has.good == valid + hides.good
 }
 
-// The first half of the rule: each current place.
+// The first half of the rule, each current place, with rule 2.
 fn current_places(
     g: Geometry,
     chip: &[u32],
@@ -206,7 +207,7 @@ fn current_places(
 ) -> bool
     requires { ⌜ Accepted (geometry g) ⌝ }
     requires { ⌜ Lengths-fit (geometry g) (now chip) (now spare) (now directory) (now cache) ⌝ }
-    requires { ⌜ Owners-fit (geometry g) Data (now spare) × Owners-differ (geometry g) Data (now spare) ⌝ }
+    requires { ⌜ Owners-fit (geometry g) Data (now spare) ⌝ }
     requires { ⌜ Names-on-chip (geometry g) (now directory) ⌝ }
     requires { ⌜ Entries-fit (geometry g) (now cache) used ⌝ }
     ensures { λ r. ⌜ Decides r (Current-places (geometry g)
@@ -220,7 +221,7 @@ fn current_places(
     sums_agree(held, has, hides, valid)
 }
 
-// Rule 6, where rules 1, 2, 4 and 5 hold.
+// Rule 6 with rule 2 of the data region, where rules 1, 4 and 5 hold.
 pub fn places_hold(
     g: Geometry,
     chip: &[u32],
@@ -231,11 +232,11 @@ pub fn places_hold(
 ) -> bool
     requires { ⌜ Accepted (geometry g) ⌝ }
     requires { ⌜ Lengths-fit (geometry g) (now chip) (now spare) (now directory) (now cache) ⌝ }
-    requires { ⌜ Owners-fit (geometry g) Data (now spare) × Owners-differ (geometry g) Data (now spare) ⌝ }
+    requires { ⌜ Owners-fit (geometry g) Data (now spare) ⌝ }
     requires { ⌜ Directory-names (geometry g) (now spare) (now directory) ⌝ }
     requires { ⌜ Entries-fit (geometry g) (now cache) used ⌝ }
-    ensures { λ r. ⌜ r ≡ places-hold (geometry g)
-        (parts (now (chip .entry)) (now (spare .entry)) (now (directory .entry)) (now (cache .entry)) used) ⌝ }
+    ensures { λ r. ⌜ r ≡ (owners-differ (geometry g) Data (now (spare .entry)) && places-hold (geometry g)
+        (parts (now (chip .entry)) (now (spare .entry)) (now (directory .entry)) (now (cache .entry)) used)) ⌝ }
 {
     if !current_places(g, chip, spare, directory, cache, used) {
         return false;

@@ -1,4 +1,5 @@
-// The whole state: the seven rules in document 01's order, each with what the earlier ones give. The first that fails ends the test.
+// The whole state: the seven rules, each with what the earlier ones give. The first that fails ends the test. They come in document 01's
+// order but for rule 2, which rules 4 and 6 decide with their own.
 ghost use mathlib.Core.Path.{_≡_};
 ghost use lib.ListN.{length};
 ghost use Rattle.flash.specs.Words.{Lengths-fit};
@@ -10,7 +11,6 @@ ghost use Rattle.soundness.specs.Whole.{flash-sound, cache-sound, Flash-
 use crate::blocks::blocks_fit;
 use crate::directory::directory_names;
 use crate::entries::entries_fit;
-use crate::owners::owners_differ;
 use crate::pages::pages_fit;
 use crate::places::places_hold;
 use crate::stored::unchanged_agree;
@@ -26,9 +26,6 @@ fn flash_sound(g: Geometry, chip: &[u32], spare: &[u32], directory: &[u32], rec:
     ensures { λ r. ⌜ r ≡ flash-sound (geometry g) (now (chip .entry)) (now (spare .entry)) (now (directory .entry)) (small rec) ⌝ }
 {
     if !pages_fit(g, chip, spare) {
-        return false;
-    }
-    if !owners_differ(g, spare) {
         return false;
     }
     if !blocks_fit(g, spare, rec) {

@@ -47,7 +47,7 @@ returns c =
     let a = c .before .before .before .before .before .before .before .before .args in
     let pre = c .before .before .before .before .before .before .before .before .pre in
     rw (ne-eqb _ _ (c .if1 .taken)) at
-    (directory-counts (geometry (a .g)) (now (a .spare)) (now (a .directory)) (pre .0) (pre .1 .1 .1 .0) (pre .1 .1 .1 .1) (pre .1 .1 .0)
+    (directory-counts (geometry (a .g)) (now (a .spare)) (now (a .directory)) (pre .0) (pre .1 .1 .1) (pre .1 .1 .0)
     (c .before .before .tally-words .result) (c .before .before .tally-words .ensures) _ refl)
 
 count-state-requires : tie.Need-count-state-requires
@@ -58,7 +58,7 @@ returns-2 c =
     let a = c .before .before .before .before .before .before .before .before .before .before .args in
     let pre = c .before .before .before .before .before .before .before .before .before .before .pre in
     rw (eq-eqb _ _ (c .before .before .if1 .left)) at
-    (directory-counts (geometry (a .g)) (now (a .spare)) (now (a .directory)) (pre .0) (pre .1 .1 .1 .0) (pre .1 .1 .1 .1) (pre .1 .1 .0)
+    (directory-counts (geometry (a .g)) (now (a .spare)) (now (a .directory)) (pre .0) (pre .1 .1 .1) (pre .1 .1 .0)
     (c .before .before .before .before .tally-words .result) (c .before .before .before .before .tally-words .ensures) (c .before .count-state .result) (c .before .count-state .ensures))
 
 pub directory-names-spec : {M : Type 1} → statement M

@@ -71,7 +71,7 @@ returns c =
     let pre = c .before .before .before .before .before .before .before .before .before .before .before .pre in
     let s = parts (now (a .chip)) (now (a .spare)) (now (a .directory)) (now (a .cache)) (a .used) in
     subst (λ (b : Bool). Decides b (Current-places (geometry (a .g)) s)) (sym (c .sums-agree .ensures))
-    (places-by-sums (geometry (a .g)) s (pre .0) (pre .1 .1 .0 .0) (pre .1 .1 .0 .1) (pre .1 .1 .1 .1)
+    (places-by-sums (geometry (a .g)) s (pre .0) (pre .1 .1 .0) (pre .1 .1 .1 .1)
     (c .before .before .before .before .tally-stored .result) (c .before .before .before .tally-cached .result) (c .before .before .tally-hidden .result) (c .before .count-state .result)
     (c .before .before .before .before .tally-stored .ensures) (c .before .before .before .tally-cached .ensures) (c .before .before .tally-hidden .ensures) (c .before .count-state .ensures))
 

@@ -4,7 +4,7 @@ use borrow.Author.Needs.{needs}
 use denote.Ref.{now}
 use Rattle.soundness.specs.Bools.{refused, passed}
 use Rattle.lent.specs.Model.{geometry, small}
-use Rattle.soundness.specs.Whole.{owners-of-pages, differ-of-owners, stops-at-1, stops-at-2, stops-at-3, ends-at-4}
+use Rattle.soundness.specs.Whole.{owners-of-pages, stops-at-1, stops-at-3, ends-at-4}
 use Rattle.soundness.proofs.sound.flash_sound.Statement.{statement}
 use Rattle.soundness.proofs.sound.flash_sound.Tie as tie
 
@@ -16,42 +16,28 @@ returns c =
     let a = c .before .before .before .before .before .args in
     stops-at-1 (geometry (a .g)) (now (a .chip)) (now (a .spare)) (now (a .directory)) (small (a .rec)) (refused (c .before .pages-fit .ensures) (c .if1 .taken))
 
-owners-differ-requires : tie.Need-owners-differ-requires
-owners-differ-requires c κs =
-    let a = c .before .before .before .before .before .args in
-    let pre = c .before .before .before .before .before .pre in
-    let fit = owners-of-pages (geometry (a .g)) (now (a .chip)) (now (a .spare)) (passed (c .before .pages-fit .ensures) (c .if1 .left)) in
-    (pre .0, (pre .1 .1 .0, (fit .0, fit .1)))
+blocks-fit-requires : tie.Need-blocks-fit-requires
+blocks-fit-requires c κs = search needs
 
 returns-2 : tie.Need-returns-2
 returns-2 c =
     let a = c .before .before .before .before .before .before .before .args in
-    stops-at-2 (geometry (a .g)) (now (a .chip)) (now (a .spare)) (now (a .directory)) (small (a .rec)) (passed (c .before .before .before .pages-fit .ensures) (c .before .before .if1 .left))
-    (refused (c .before .owners-differ .ensures) (c .if2 .taken))
-
-blocks-fit-requires : tie.Need-blocks-fit-requires
-blocks-fit-requires c κs = search needs
-
-returns-3 : tie.Need-returns-3
-returns-3 c =
-    let a = c .before .before .before .before .before .before .before .before .before .args in
-    stops-at-3 (geometry (a .g)) (now (a .chip)) (now (a .spare)) (now (a .directory)) (small (a .rec)) (passed (c .before .before .before .before .before .pages-fit .ensures) (c .before .before .before .before .if1 .left))
-    (passed (c .before .before .before .owners-differ .ensures) (c .before .before .if2 .left)) (refused (c .before .blocks-fit .ensures) (c .if3 .taken))
+    stops-at-3 (geometry (a .g)) (now (a .chip)) (now (a .spare)) (now (a .directory)) (small (a .rec)) (passed (c .before .before .before .pages-fit .ensures) (c .before .before .if1 .left))
+    (refused (c .before .blocks-fit .ensures) (c .if2 .taken))
 
 directory-names-requires : tie.Need-directory-names-requires
 directory-names-requires c κs =
-    let a = c .before .before .before .before .before .before .before .before .before .args in
-    let pre = c .before .before .before .before .before .before .before .before .before .pre in
-    let fit = owners-of-pages (geometry (a .g)) (now (a .chip)) (now (a .spare)) (passed (c .before .before .before .before .before .pages-fit .ensures) (c .before .before .before .before .if1 .left)) in
-    let differ = differ-of-owners (geometry (a .g)) (now (a .spare)) (passed (c .before .before .before .owners-differ .ensures) (c .before .before .if2 .left)) in
-    (pre .0, (pre .1 .1 .0, (pre .1 .1 .1, (fit .1, differ .1))))
+    let a = c .before .before .before .before .before .before .before .args in
+    let pre = c .before .before .before .before .before .before .before .pre in
+    let fit = owners-of-pages (geometry (a .g)) (now (a .chip)) (now (a .spare)) (passed (c .before .before .before .pages-fit .ensures) (c .before .before .if1 .left)) in
+    (pre .0, (pre .1 .1 .0, (pre .1 .1 .1, fit .1)))
 
-returns-4 : tie.Need-returns-4
-returns-4 c =
-    let a = c .before .before .before .before .before .before .before .before .before .before .args in
+returns-3 : tie.Need-returns-3
+returns-3 c =
+    let a = c .before .before .before .before .before .before .before .before .args in
     c .directory-names .ensures
-    ∙ ends-at-4 (geometry (a .g)) (now (a .chip)) (now (a .spare)) (now (a .directory)) (small (a .rec)) (passed (c .before .before .before .before .before .before .pages-fit .ensures) (c .before .before .before .before .before .if1 .left))
-    (passed (c .before .before .before .before .owners-differ .ensures) (c .before .before .before .if2 .left)) (passed (c .before .before .blocks-fit .ensures) (c .before .if3 .left))
+    ∙ ends-at-4 (geometry (a .g)) (now (a .chip)) (now (a .spare)) (now (a .directory)) (small (a .rec)) (passed (c .before .before .before .before .pages-fit .ensures) (c .before .before .before .if1 .left))
+    (passed (c .before .before .blocks-fit .ensures) (c .before .if2 .left))
 
 pub flash-sound-spec : {M : Type 1} → statement M
 flash-sound-spec =
@@ -59,9 +45,7 @@ flash-sound-spec =
     (tie.spec
     pages-fit-requires
     returns
-    owners-differ-requires
-    returns-2
     blocks-fit-requires
-    returns-3
+    returns-2
     directory-names-requires
-    returns-4)
+    returns-3)
