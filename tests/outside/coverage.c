@@ -1,0 +1,150 @@
+/* What the sessions met: see coverage.h. */
+#include "coverage.h"
+
+#include <inttypes.h>
+#include <stdio.h>
+
+static const char *const corner_name[CORNERS] = {
+    "P = 1", "W = 1", "D = 2", "T = 2", "L largest", "M largest", "C = 1", "C > L",
+    "L no multiple of W"};
+
+/* The data region as it stands: its open block, the offset, and how many others are erased. */
+static void look_at_region(struct coverage *v, const struct world *x)
+{
+    v->open = x->slice[RECORD][0];
+    v->offset = x->slice[RECORD][1];
+    v->erased = 0;
+    for (uint32_t block = 0; block < x->d; block++)
+        v->erased += block != v->open && x->slice[SPARE][(size_t)block * x->p * 2] == NONE;
+}
+
+void coverage_start(struct coverage *v, const struct play *p)
+{
+    const struct world *x = &p->state[OF_ARCHIVE];
+    const bool met[CORNERS] = {
+        [ONE_PAGE] = x->p == 1,
+        [ONE_WORD] = x->w == 1,
+        [TWO_DATA] = x->d == 2,
+        [TWO_TRANSLATION] = x->t == 2,
+        [LARGEST_L] = x->l == (x->d - 1) * x->p - 1,
+        [LARGEST_M] = x->m == (x->t - 1) * x->p - 1,
+        [ONE_ENTRY] = x->c == 1,
+        [MORE_ENTRIES] = x->c > x->l,
+        [NO_MULTIPLE] = x->l % x->w != 0,
+    };
+    for (int i = 0; i < CORNERS; i++)
+        v->corners[i] += met[i];
+    v->sessions++;
+    look_at_region(v, x);
+}
+
+/*
+ * A collection of the data region opens another block and erases one, so that
+ * as many are erased as before; every other erase of a request is one of the
+ * translation region.
+ */
+static void count_collections(struct coverage *v, const struct play *p, const struct step *step)
+{
+    const struct world *x = &p->state[OF_ARCHIVE];
+    uint32_t open = v->open, erased = v->erased, offset = v->offset;
+    look_at_region(v, x);
+    if (p->reply > UNWRITTEN)
+        return;
+    if (step->kind == WRITE || step->kind == READ) {
+        bool collected = step->kind == WRITE && v->open != open && v->erased == erased;
+        v->full_offset += step->kind == WRITE && offset == x->p;
+        v->collections[0] += collected;
+        v->collections[1] += play_slice(p, OF_ARCHIVE, COUNTS)[2] - collected;
+    }
+    if (step->kind == RUN)
+        v->erases += play_slice(p, OF_ARCHIVE, COUNTS)[2];
+}
+
+void coverage_step(struct coverage *v, const struct play *p, const struct step *step)
+{
+    if (!p->called) {
+        look_at_region(v, &p->state[OF_ARCHIVE]);
+        return;
+    }
+    v->calls++;
+    v->replies[p->call.which][p->reply]++;
+    if (p->call.which == RUN && p->reply == DONE) {
+        v->records += p->call.n[ANSWERS];
+        for (size_t i = 0; i < p->call.n[ANSWERS]; i++)
+            v->answers[play_slice(p, OF_ARCHIVE, ANSWERS)[i]]++;
+    }
+    if (step->kind == OTHER_LENGTH && p->reply == LENGTH)
+        v->wrong_length[p->call.wrong]++;
+    if (p->broken > 0)
+        v->broken[p->broken]++;
+    v->still_sound += step->kind == CHANGED_WORD && p->reply == DONE && p->call.which != FORMAT;
+    count_collections(v, p, step);
+}
+
+static void print_row(const char *head, const char *const name[], const uint64_t n[], int from,
+                      int to)
+{
+    printf("  %s:", head);
+    for (int i = from; i < to; i++)
+        printf("%s %s %" PRIu64, i == from ? "" : ",", name[i], n[i]);
+    printf("\n");
+}
+
+static const char *const reply_name[REPLIES] = {"DONE",    "UNWRITTEN", "GEOMETRY", "LENGTH",
+                                                "DAMAGED", "KIND",      "PAGE"};
+static const char *const rule_name[RULES + 1] = {"", "1", "2", "3", "4", "5", "6", "7"};
+
+void coverage_print(const struct coverage *v)
+{
+    printf("met: %" PRIu64 " sessions, %" PRIu64 " calls compared, %" PRIu64
+           " records of runs; collections %" PRIu64 " data, %" PRIu64
+           " translation, and %" PRIu64 " erases in runs\n",
+           v->sessions, v->calls, v->records, v->collections[0], v->collections[1], v->erases);
+    for (int which = 0; which < CALLS; which++)
+        print_row(call_name[which], reply_name, v->replies[which], 0, REPLIES);
+    print_row("records", reply_name, v->answers, 0, REPLIES);
+    print_row("wrong length of", slice_name, v->wrong_length, 0, ALL);
+    print_row("first rule broken", rule_name, v->broken, 1, RULES + 1);
+    print_row("sessions with", corner_name, v->corners, 0, CORNERS);
+    printf("  changed words that left a sound state %" PRIu64
+           "; writes that found the open block at offset P %" PRIu64 "\n",
+           v->still_sound, v->full_offset);
+}
+
+static bool met(const char *head, const char *name, uint64_t n)
+{
+    if (n == 0)
+        printf("never met: %s %s\n", head, name);
+    return n > 0;
+}
+
+bool coverage_whole(const struct coverage *v)
+{
+    /* The replies that 01's table gives to each call, and to a record. */
+    static const int replies[CALLS + 1][REPLIES] = {
+        [FORMAT] = {[DONE] = 1, [GEOMETRY] = 1, [LENGTH] = 1},
+        [CHECK] = {[DONE] = 1, [GEOMETRY] = 1, [LENGTH] = 1, [DAMAGED] = 1},
+        [READ] = {1, 1, 1, 1, 1, 0, 1},
+        [WRITE] = {[DONE] = 1, [GEOMETRY] = 1, [LENGTH] = 1, [DAMAGED] = 1, [PAGE] = 1},
+        [RUN] = {[DONE] = 1, [GEOMETRY] = 1, [LENGTH] = 1, [DAMAGED] = 1},
+        [CALLS] = {[DONE] = 1, [UNWRITTEN] = 1, [KIND] = 1, [PAGE] = 1},
+    };
+    bool whole = true;
+    for (int reply = 0; reply < REPLIES; reply++) {
+        for (int which = 0; which < CALLS; which++)
+            if (replies[which][reply])
+                whole &= met(call_name[which], reply_name[reply], v->replies[which][reply]);
+        if (replies[CALLS][reply])
+            whole &= met("a record", reply_name[reply], v->answers[reply]);
+    }
+    for (int i = 0; i < ALL; i++)
+        whole &= met("a wrong length of", slice_name[i], v->wrong_length[i]);
+    for (int i = 1; i <= RULES; i++)
+        whole &= met("a state that first breaks rule", rule_name[i], v->broken[i]);
+    for (int i = 0; i < CORNERS; i++)
+        whole &= met("a geometry with", corner_name[i], v->corners[i]);
+    whole &= met("a collection of", "data", v->collections[0]);
+    whole &= met("a collection of", "translation", v->collections[1]);
+    whole &= met("a changed word that leaves", "a sound state", v->still_sound);
+    return whole & met("a write at", "offset P", v->full_offset);
+}

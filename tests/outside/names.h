@@ -1,0 +1,15 @@
+/*
+ * The independent program under the archive's names, so that it, or a mutant of
+ * it, can take the archive's place beside itself.  Included before its sources.
+ */
+#define ind_format tf_format
+#define ind_check tf_check
+#define ind_read tf_read
+#define ind_write tf_write
+#define ind_run tf_run
+#define ind_first_broken_rule tf_first_broken_rule
+#define ind_accept tf_accept
+#define ind_lengths_fit tf_lengths_fit
+#define ind_sound tf_sound
+#define ind_step_read tf_step_read
+#define ind_step_write tf_step_write

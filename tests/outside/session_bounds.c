@@ -1,0 +1,61 @@
+/*
+ * Sessions whose requests are all good, for soak and bounds: see session.h.
+ *
+ * The most that 01 lets a request cost is reached where both regions are as full
+ * as they may be: L = (D-1)P-1 and M = (T-1)P-1 pages written, so W is 1.  Then
+ * each region keeps one invalid page, every victim has P-1 valid ones, and with
+ * C = 1 a write before leaves a changed entry to write back.
+ *
+ *   write back     collect 2(P-1)+1, update 2                                2P+1
+ *   look up        read the translation page                                 1
+ *   room for data  collect 2(P-1)+1, and P-1 updates of 2P+1 each, as each
+ *                  moved page has its own translation page                   (P-1)(2P+1) + 2P-1
+ *   write          program                                                   1
+ *
+ * These are (2P+1)(P+1); a read is the first two and one read more, 2P+3.
+ */
+#include "session.h"
+
+#include <stdlib.h>
+
+static struct session of_good_requests(const uint32_t g[6], uint64_t seed, size_t steps)
+{
+    struct session s = {.start = FORMATTED, .seed = seed};
+    for (int i = 0; i < 6; i++)
+        s.g[i] = g[i];
+    s.step = malloc(steps * sizeof *s.step);
+    REQUIRE(s.step != NULL);
+    return s;
+}
+
+struct session session_bounds(uint32_t p, uint64_t seed)
+{
+    enum { AFTERWARDS = 60 };
+    const uint32_t l = 3 * p - 1, g[6] = {p, 1, 4, 4, l, 1};
+    struct session s = of_good_requests(g, seed, l + AFTERWARDS);
+    for (uint32_t i = 0; i < l + AFTERWARDS; i++) {
+        bool first = i < l;
+        int kind = first || random_below(&seed, 2) ? WRITE : READ;
+        uint32_t page = first ? i : random_below(&seed, l);
+        s.step[s.steps++] = (struct step){kind, page, random_64(&seed), NULL};
+    }
+    return s;
+}
+
+/* A cache of two: entries follow moved pages with their rank kept.  Last, every page is read. */
+struct session session_soak(uint64_t seed, size_t calls)
+{
+    static const uint32_t g[6] = {4, 1, 4, 4, 11, 2};
+    struct session s = of_good_requests(g, seed, calls);
+    s.placing = BEGINNING;
+    while (s.steps < calls) {
+        uint32_t any = random_below(&seed, 100);
+        bool last = calls - s.steps <= g[4];
+        int kind = any < 55 ? WRITE : any < 90 ? READ : any < 95 ? RUN : CHECK;
+        uint32_t at = kind == RUN ? random_below(&seed, 8) : random_below(&seed, g[4]);
+        if (last)
+            kind = READ, at = (uint32_t)(calls - s.steps) - 1;
+        s.step[s.steps++] = (struct step){kind, at, random_64(&seed), NULL};
+    }
+    return s;
+}
