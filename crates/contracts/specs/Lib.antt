@@ -5,3 +5,5 @@ pub mod Faithful
 pub mod AnyOutcome
 pub mod Traces
 pub mod Theorems
+-- What they come to at one call, and at two in a row.
+pub mod ReadAfterWrite
