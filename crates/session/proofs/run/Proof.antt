@@ -30,8 +30,8 @@ loop-less-2 c = search needs
 loop-again-2 : tie.Need-loop-again-2 Inv-loop μ-loop
 loop-again-2 c = search needs
 
-serve-requires : tie.Need-serve-requires Inv-loop μ-loop
-serve-requires c κs = search needs
+answer-requires : tie.Need-answer-requires Inv-loop μ-loop
+answer-requires c κs = search needs
 
 returns : tie.Need-returns Inv-loop μ-loop
 returns c = search needs
@@ -49,5 +49,5 @@ run-spec =
     loop-again
     loop-less-2
     loop-again-2
-    serve-requires
+    answer-requires
     returns)

@@ -1,103 +1,23 @@
-// Document 01's session: formats G, reads lines from standard input and prints what each is answered. All that matters is proved in
-// the crates below; this program reads, calls and writes.
+// Document 01's session program: formats G, reads lines from standard input and prints what each is answered.
+//
+// What a line means is proved in crate `lines`; that the bytes printed for it, and the state after it, are those of 01's definitions is
+// proved in serve.rt. No contract can say what is read and written: the functions here, which feed the input to the one and write what
+// the other gives, are proved safe and ending, and the program is run on 01's session (stdin, stdout) and by tests/session.
+mod serve;
+
+use crate::serve::C;
+use crate::serve::D;
+use crate::serve::L;
+use crate::serve::P;
+use crate::serve::T;
+use crate::serve::W;
+use crate::serve::serve;
 use libc::STDIN_FILENO;
 use libc::STDOUT_FILENO;
 use lines::Line;
-use lines::Parsed;
 
-// G: P = 2, W = 2, D = 3, T = 3, L = 3, C = 1.
-const P: u32 = 2;
-
-const W: u32 = 2;
-
-const D: u32 = 3;
-
-const T: u32 = 3;
-
-const L: u32 = 3;
-
-const C: u32 = 1;
-
-// A refusal, a write or an unwritten read: the answer and its counts.
-fn print_answer(reply: u32, counts: [u32; 3]) {
-    let numbers = [reply, counts[0], counts[1], counts[2]];
-    let mut out = [0u8; 64];
-    let n = lines::print::put_line(&mut out, &numbers);
-    io::write_all(STDOUT_FILENO, &out[..n]);
-}
-
-// A read that is DONE: the first word too.
-fn print_word(counts: [u32; 3], word: u32) {
-    let numbers = [0, counts[0], counts[1], counts[2], word];
-    let mut out = [0u8; 64];
-    let n = lines::print::put_line(&mut out, &numbers);
-    io::write_all(STDOUT_FILENO, &out[..n]);
-}
-
-fn write_page(
-    page: u32,
-    value: u32,
-    chip: &mut [u32; 24],
-    spare: &mut [u32; 24],
-    directory: &mut [u32; 2],
-    cache: &mut [u32; 3],
-    record: &mut [u32; 5],
-) {
-    let buffer = [value; 2];
-    let mut counts = [0u32; 3];
-    let reply = trianglefire::tf_write(
-        P,
-        W,
-        D,
-        T,
-        L,
-        C,
-        page,
-        chip,
-        spare,
-        directory,
-        cache,
-        record,
-        &buffer,
-        &mut counts,
-    );
-    print_answer(reply, counts);
-}
-
-fn read_page(
-    page: u32,
-    chip: &mut [u32; 24],
-    spare: &mut [u32; 24],
-    directory: &mut [u32; 2],
-    cache: &mut [u32; 3],
-    record: &mut [u32; 5],
-) {
-    let mut buffer = [0u32; 2];
-    let mut counts = [0u32; 3];
-    let reply = trianglefire::tf_read(
-        P,
-        W,
-        D,
-        T,
-        L,
-        C,
-        page,
-        chip,
-        spare,
-        directory,
-        cache,
-        record,
-        &mut buffer,
-        &mut counts,
-    );
-    if reply == 0 {
-        print_word(counts, buffer[0]);
-    } else {
-        print_answer(reply, counts);
-    }
-}
-
-fn serve(
+// Prints what the line asks for, which ends here.
+fn answer(
     line: Line,
     chip: &mut [u32; 24],
     spare: &mut [u32; 24],
@@ -105,19 +25,10 @@ fn serve(
     cache: &mut [u32; 3],
     record: &mut [u32; 5],
 ) {
-    match lines::finish(line) {
-        Parsed::Write(page, value) => write_page(
-            page,
-            value,
-            chip,
-            spare,
-            directory,
-            cache,
-            record,
-        ),
-        Parsed::Read(page) => read_page(page, chip, spare, directory, cache, record),
-        Parsed::Other => (),
-    }
+    let asked = lines::finish(line);
+    let mut out = [0u8; 64];
+    let n = serve(asked, &mut out, chip, spare, directory, cache, record);
+    io::write_all(STDOUT_FILENO, &out[..n]);
 }
 
 // One byte: a newline ends the line.
@@ -131,7 +42,7 @@ fn step(
     record: &mut [u32; 5],
 ) -> Line {
     if byte == b'\n' {
-        serve(line, chip, spare, directory, cache, record);
+        answer(line, chip, spare, directory, cache, record);
         return Line::Start;
     }
     lines::feed(line, byte)
@@ -202,7 +113,7 @@ fn run(
             turns = 0;
         }
     }
-    serve(line, chip, spare, directory, cache, record);
+    answer(line, chip, spare, directory, cache, record);
 }
 
 fn main() {

@@ -1,0 +1,153 @@
+// A line served: the call that it asks for is made, and what the program prints for it is put into lent bytes. The contracts say that
+// these bytes, and the state after, are those of document 01's definitions (specs/Serves.antt).
+use lines::Parsed;
+use lines::print::put_line;
+use trianglefire::tf_read;
+use trianglefire::tf_write;
+ghost use mathlib.Core.List.{_∷_, []};
+ghost use lib.ListN.{getD};
+ghost use Rattle.lines.specs.Digits.{Prints};
+ghost use Rattle.scope.specs.Tables.Play.{W, R};
+ghost use Rattle.session.specs.Serves.{held, answered, shown, Serves};
+
+// G: P = 2, W = 2, D = 3, T = 3, L = 3, C = 1.
+pub const P: u32 = 2;
+
+pub const W: u32 = 2;
+
+pub const D: u32 = 3;
+
+pub const T: u32 = 3;
+
+pub const L: u32 = 3;
+
+pub const C: u32 = 1;
+
+// Puts what is printed for a line; answers how many bytes that is, 0 for another line. Five numbers take at most 55 bytes.
+pub fn serve(
+    asked: Parsed,
+    out: &mut [u8; 64],
+    chip: &mut [u32; 24],
+    spare: &mut [u32; 24],
+    directory: &mut [u32; 2],
+    cache: &mut [u32; 3],
+    record: &mut [u32; 5],
+) -> usize
+    ensures { λ n. ⌜ Serves
+        (shown asked
+        (held (now (chip .entry)) (now (spare .entry)) (now (directory .entry)) (now (cache .entry)) (now («record» .entry))))
+        (held (now (chip .exit)) (now (spare .exit)) (now (directory .exit)) (now (cache .exit)) (now («record» .exit)))
+        (now (out .entry)) (now (out .exit)) n ⌝ }
+{
+    match asked {
+        Parsed::Write(page, value) => write_page(
+            page,
+            value,
+            out,
+            chip,
+            spare,
+            directory,
+            cache,
+            record,
+        ),
+        Parsed::Read(page) => read_page(page, out, chip, spare, directory, cache, record),
+        Parsed::Other => 0,
+    }
+}
+
+fn write_page(
+    page: u32,
+    value: u32,
+    out: &mut [u8; 64],
+    chip: &mut [u32; 24],
+    spare: &mut [u32; 24],
+    directory: &mut [u32; 2],
+    cache: &mut [u32; 3],
+    record: &mut [u32; 5],
+) -> usize
+    ensures { λ n. ⌜ Serves
+        (answered (W page value)
+        (held (now (chip .entry)) (now (spare .entry)) (now (directory .entry)) (now (cache .entry)) (now («record» .entry))))
+        (held (now (chip .exit)) (now (spare .exit)) (now (directory .exit)) (now (cache .exit)) (now («record» .exit)))
+        (now (out .entry)) (now (out .exit)) n ⌝ }
+{
+    let buffer = [value; 2];
+    let mut counts = [0u32; 3];
+    let reply = tf_write(
+        P,
+        W,
+        D,
+        T,
+        L,
+        C,
+        page,
+        chip,
+        spare,
+        directory,
+        cache,
+        record,
+        &buffer,
+        &mut counts,
+    );
+    put_answer(out, reply, counts)
+}
+
+fn read_page(
+    page: u32,
+    out: &mut [u8; 64],
+    chip: &mut [u32; 24],
+    spare: &mut [u32; 24],
+    directory: &mut [u32; 2],
+    cache: &mut [u32; 3],
+    record: &mut [u32; 5],
+) -> usize
+    ensures { λ n. ⌜ Serves
+        (answered (R page)
+        (held (now (chip .entry)) (now (spare .entry)) (now (directory .entry)) (now (cache .entry)) (now («record» .entry))))
+        (held (now (chip .exit)) (now (spare .exit)) (now (directory .exit)) (now (cache .exit)) (now («record» .exit)))
+        (now (out .entry)) (now (out .exit)) n ⌝ }
+{
+    let mut buffer = [0u32; 2];
+    let mut counts = [0u32; 3];
+    let reply = tf_read(
+        P,
+        W,
+        D,
+        T,
+        L,
+        C,
+        page,
+        chip,
+        spare,
+        directory,
+        cache,
+        record,
+        &mut buffer,
+        &mut counts,
+    );
+    if reply == 0 {
+        put_word(out, reply, counts, buffer[0])
+    } else {
+        put_answer(out, reply, counts)
+    }
+}
+
+// A write, a refusal or an unwritten read: the answer and its counts.
+fn put_answer(out: &mut [u8; 64], reply: u32, counts: [u32; 3]) -> usize
+    ensures { λ n. ⌜ Prints (now (out .entry))
+        (reply ∷ getD counts 0 0 ∷ getD counts 1 0 ∷ getD counts 2 0 ∷ [])
+        (now (out .exit)) n ⌝ }
+{
+    let numbers = [reply, counts[0], counts[1], counts[2]];
+    put_line(out, &numbers)
+}
+
+// A read that is DONE: the first word too.
+fn put_word(out: &mut [u8; 64], reply: u32, counts: [u32; 3], word: u32) -> usize
+    ensures { λ n. ⌜ Prints (now (out .entry))
+        (reply ∷ getD counts 0 0 ∷ getD counts 1 0 ∷ getD counts 2 0 ∷ word ∷ [])
+        (now (out .exit)) n ⌝ }
+{
+    let numbers = [reply, counts[0], counts[1], counts[2], word];
+    put_line(out, &numbers)
+}
