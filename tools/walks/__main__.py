@@ -5,11 +5,13 @@ WHY
     of lines in which nothing is to be thought about. This tool reads the function in src/ and prints the walk, a whole Proof.antt. It
     is not trusted: the check refuses a walk that does not fit the source. Print anew after each change of a signature or a contract.
 
-COMMANDS, from the repository's folder; `rt fmt` after the second
+COMMANDS, from the repository's folder; `rt fmt` after the first
+    python3 tools/walks CRATE            writes the proof files of all such functions of a crate, and its proofs/Rules.antt, the rules
+                                         that walks cite; proofs/Lib.antt has a line `pub mod Rules`
     python3 tools/walks CRATE FUNCTION   prints the proof file of one function
-    python3 tools/walks CRATE            writes the proof files of all such functions of a crate, and its proofs/Rules.antt
-    python3 tools/walks rules            prints Rules.antt, the rules that walks cite; proofs/Lib.antt has a line `pub mod Rules`
+    python3 tools/walks rules            prints Rules.antt
     python3 tools/walks --check          holds every printed file of the repository to what is printed now, the layout aside
+    What does not fit is said in one line, with exit status 1; nothing is written then. tests/walks tries this.
 
 THE SOURCE has one of two shapes; all else goes into the functions that these call, which are covered and take structs by value
     over a record: copies it, makes calls, stores the record that the last one gives    (record.py has the shape)
@@ -19,15 +21,16 @@ THE SOURCE has one of two shapes; all else goes into the functions that these ca
 THE CONTRACTS have one `ensures { λ r. ⌜ fact ⌝ }`, and at most one `requires { ⌜ fact ⌝ }`. They speak of a slice or a record by
     `now (x .entry)` and `now (x .exit)` alone. The walk takes the callees' facts from their source, with what `ghost use` brings.
     With one call over a record, the function ensures what its callee does, of `now (rec .entry)`, r and `now (rec .exit)` for what the
-    callee has by value. Else laws of the crate, in specs/ or proofs/, say how contracts follow from each other. They take proofs
-    alone, so their other arguments are implicit, and a fact is a record type, as `Ran ..`. For a function f:
+    callee has by value. Else laws of the crate, in specs/ or proofs/, say how contracts follow from each other. They are declared there,
+    or passed on by a line `pub use M.{law as f-none}`. They take proofs alone, so their other arguments are implicit, and a fact is a
+    record type, as `Ran ..`. For a function f:
 
     f-by            over a record, of several calls: what each callee ensures, in order, gives what f ensures
     f-before-g      the same of the calls before g gives what g requires, where g requires anything
     f-none          a run: what f ensures holds of no request. Where it has `length (now (rs .entry))` stands the number of requests served
     f-more          i < length rs, the same of the first i requests, and what the callee ensures of request i give that of i + 1.
                     Request i is `getD rs i (record { .. })`, with 0 in each field
-    f-ready         what f requires, i < length rs, and the same of the first i requests give what the callee requires, where it does
+    f-ready         i < length rs, the same of the first i requests, and what f requires give what the callee requires, where it does
 
 LIMITS  A function over a record returns a u32. A request has u32 fields. No statement but those of the shape.
 """
@@ -37,6 +40,7 @@ import argparse
 import re
 import sys
 from pathlib import Path
+from typing import NoReturn
 
 sys.dont_write_bytecode = True  # no __pycache__ in the repository
 sys.path.insert(0, str(Path(__file__).parent))
@@ -82,19 +86,26 @@ def check(source: Source) -> None:
             seen += 1
             new = rules() if m[1] == "rules" else proof(source, source.named(*m[1].split()))
             stale += [str(path.relative_to(source.root))] if "".join(new.split()) != "".join(old.split()) else []
-    if stale:
-        raise Misfit(f"not as printed: {', '.join(stale)}")
+    if stale or not seen:
+        raise Misfit(f"not as printed: {', '.join(stale)}" if stale else f"there is no printed file in {source.root / 'crates'}")
     print(f"walks: {seen} files are as printed")
 
 
+class Parser(argparse.ArgumentParser):
+    def error(self, message: str) -> NoReturn:
+        sys.exit(f"walks: {message}; `{COMMAND} --help` has the commands")
+
+
 def main() -> None:
-    parser = argparse.ArgumentParser(prog=COMMAND, description=__doc__, formatter_class=argparse.RawDescriptionHelpFormatter)
+    parser = Parser(prog=COMMAND, description=__doc__, formatter_class=argparse.RawDescriptionHelpFormatter)
     parser.add_argument("crate", nargs="?", help="a crate, or 'rules'")
     parser.add_argument("function", nargs="?", help="a function of it")
     parser.add_argument("--check", action="store_true", help="hold the printed files to what is printed now")
     parser.add_argument("--root", type=Path, default=HERE.parents[1], help="another repository's folder")
     o = parser.parse_args()
     source = Source(o.root.resolve())
+    if o.check == bool(o.crate) or (o.crate == "rules" and o.function):
+        parser.error("give a crate, a crate and a function, 'rules' or --check")
     try:
         if o.check:
             check(source)
@@ -102,10 +113,8 @@ def main() -> None:
             sys.stdout.write(rules())
         elif o.function:
             sys.stdout.write(proof(source, source.named(o.crate, o.function)))
-        elif o.crate:
-            write_all(source, o.crate)
         else:
-            parser.error("a crate, 'rules' or --check")
+            write_all(source, o.crate)
     except Misfit as wrong:
         sys.exit(f"walks: {wrong}")
 

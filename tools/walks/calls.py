@@ -4,7 +4,7 @@ from __future__ import annotations
 from typing import NamedTuple
 
 from context import Context
-from params import CONSTANTS, Kind, Plain, Slice
+from params import TRUE, Kind, Plain, Slice
 from source import Function, Misfit
 from text import LOGIC, MACHINE, Terms, arrow, binders, cons, named, nested, nested_type, part, token
 
@@ -41,9 +41,9 @@ class Call:
         self.k, self.n, self.callee, self.out, self.given = k, f"·{k}", callee, out, given
         if len(names) != len(callee.params):
             raise Misfit(f"'{callee.item}' takes {len(callee.params)} arguments, and is given {len(names)}")
-        slices, values = {p.name: p for p in given.lists}, {**CONSTANTS, **given.values}
+        slices, values = {p.name: p for p in given.lists}, {"true": (None, TRUE), **given.values}
         self.args: list[Plain | Lent] = []
-        self.operands: list[int | str] = []  # a local, or a constant
+        self.operands: list[int | None] = []  # a local, or none where the argument is `true`
         for place, name in enumerate(names):
             if p := slices.get(name):
                 number = sum(isinstance(a, Lent) for a in self.args)
@@ -185,7 +185,8 @@ Callee{n} 𝓤 H A mm rn = tripleOf 𝓤 H A callee{n}.signature (callee{n}.spec
         c.front(*items).rule(f"cut {self.gives} (raw ({self.contract} .pre {self.to}) ∷ []) _ ({calling})", len(items), ["pre"]).line()
         operands = "no-more !"
         for a, operand in reversed(list(zip(self.args, self.operands))):
-            read = f"({operand}-lit !)" if isinstance(operand, str) else c.load(self.lent_on.get(a, operand) if isinstance(a, Lent) else operand)
+            local = self.lent_on.get(a, operand) if isinstance(a, Lent) else operand
+            read = "(true-lit !)" if local is None else c.load(local)
             operands = f"and-then ! {read} ({operands})"
         c.bind(f"calls-at ! fm ({self.contract}) known{n} {self.to} ({operands})", f"w{n}", 1, ["post"]).line()
         c.bind(f"come{n} {named(self.state)} w{n} _ tt", named(self.heard), 1, list(self.come_items())).line()
@@ -207,5 +208,5 @@ Callee{n} 𝓤 H A mm rn = tripleOf 𝓤 H A callee{n}.signature (callee{n}.spec
             c.rename(f"own {x}", f"lent {x}")
         else:
             one, copies = p.owned(p.list), f"shr-slice-copy 𝓤 H A W (named {p.lifetime}) κ·{x} {p.to.row}"
-            c.front(f"own {x}").rule(f"use1 W ({one} ⊛ {one}) ({copies} .twice ({p.value}) (s·{x} ∷ []))")
+            c.front(f"own {x}").rule(f"use1 W ({one} ⊛ {one}) ({copies} .twice ({p.value}) ({p.machine} ∷ []))")
             c.rule("split !", 1, [f"lent {x}", f"own {x}"]).line()

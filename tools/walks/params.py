@@ -95,9 +95,7 @@ class Struct(Kind):
 
 
 U32, USIZE = Number("u32"), Number("usize")
-# the constants that a call may be given: each stands for its local too
-CONSTANTS = {name: (name, Plain("Bool", name, "tyBool", f"(vbool {name})", "(tt, tt)", "bool",
-                                f"owned ! bool (Is bool) (bool-makes 𝓤 H A W) {name} _ refl")) for name in ("true", "false")}
+TRUE = Plain("Bool", "true", "tyBool", "(vbool true)", "(tt, tt)", "bool", "owned ! bool (Is bool) (bool-makes 𝓤 H A W) true _ refl")
 
 
 # ---- Parameters
@@ -159,7 +157,7 @@ class Slice(Reference):
         self.binders += f" (l·{x} : List {to.type}) (room·{x} : Room {to.row} (length l·{x}))"
         self.made_of += f" ({self.related} .0 .1)"
         self.type, self.value = f"RefT (List {to.type})", self.at(f"γ·{x}", self.list)
-        self.machine_type, self.machine = f"(sliceTy (tyRef (named {lifetime}) {self.how} {self.target}))", f"s·{x}"
+        self.machine_type, self.machine = f"(sliceTy (tyRef (named {lifetime}) {self.how} {self.target}))", f"(sliceVal (b·{x}, o·{x}) (length l·{x}))"
         self.typing, self.row = f"(tt, (tt, (record {{ fits = room·{x} .0 }}, tt)))", self.row_at(lifetime, f"κ·{x}")
         self.length = USIZE.plain(f"(length l·{x})", f"(refl, room·{x} .0)")
         self.vals, self.tells = "slice-vals", f"{'mut' if mut else 'shr'}-slice-tells (named {lifetime}) (κs{part(lifetime)}) {to.row}"
@@ -175,14 +173,14 @@ class Slice(Reference):
 
     def at(self, name: str, items: str) -> str:
         """Its value in contracts, under a ghost name and at a list."""
-        return f"x·{self.x} {name} {items}"
+        return f"slice {self.to.row} b·{self.x} o·{self.x} {name} {items}"
 
     def row_at(self, named: int, lifetime: str) -> str:
         return f"{'MutSlice' if self.mut else 'ShrSlice'} (named {named}) {lifetime} {self.to.row}"
 
     def owned(self, items: str) -> str:
         """What it owns, at that list."""
-        return f"‵ ({self.row} .own ({self.at(f'γ·{self.x}', items)}) (s·{self.x} ∷ []))"
+        return f"‵ ({self.row} .own ({self.at(f'γ·{self.x}', items)}) ({self.machine} ∷ []))"
 
     def last(self, items: str, name: str = "") -> str:
         """That its last list is known, under its own name or another."""

@@ -9,7 +9,7 @@
         out.answer
     }
 
-There may be several calls: each is given any of r, the lengths, the parameters, `true`, `false`, and the results of calls before it.
+There may be several calls: each is given any of r, the lengths, the parameters, `true`, and the results of calls before it.
 With `rec: &Record` there is no store, and the last call may be the end of the body, if it returns the answer itself.
 Each call is a lemma, `call·k`: a rule that takes what the call needs off the front of the context, with any rest Γ, and puts what comes
 back there. So its walk has a small context, which takes half the memory.
@@ -149,7 +149,7 @@ class OverRecord(Walk):
         """What a call takes off the front of the context."""
         items = {f"own {a.x}": a.p.owned(a.items) for a in call.lent}
         items.update({f"token {a.x}": a.p.token for a in call.lent})
-        items.update({f"cell {i}": self.cell(i, a.machine) for i, a in zip(call.operands, call.args) if isinstance(i, int)})
+        items.update({f"cell {i}": self.cell(i, a.machine) for i, a in zip(call.operands, call.args) if i is not None})
         return {**items, **{f"cell {i}": self.cell(i) for i in [self.slots[call.k - 1], *call.extra_locals]}}
 
     def put(self, call: Call) -> dict[str, str]:

@@ -12,7 +12,7 @@ MACHINE = "(mm : Memory → SProp 𝓤) (rn : Routine → Fun 𝓤)"
 IMPORTS = """\
 mathlib.Core.Path: _≡_ refl sym ap subst _∙_
 mathlib.Core.Logic: _⊎_ inl inr
-mathlib.Core.Bool: Bool true false
+mathlib.Core.Bool: Bool true
 mathlib.Core.WellFounded: WellFounded InvImage·wf
 Prim.Native.Nat: ℕ _+_ _-_ _*_ _≤_ _<_ _^_ zero-le
 native.Mathlib.Nat: eq-or-lt-of-le le-of-eq
@@ -36,7 +36,7 @@ contract.Monad: Fun fact
 contract.Running: givenOf tables tablesOf
 types.Kit: Goal Soaks Given Item ‵ raw some later _⊛_ ⋆ runs anyQ atRet Sq _$_ _∵_ ! qed by move keep drop cut use1 split join pick rewrite
 types.Kit: fsplit fsplit3 fjoin fjoin3 feqL feqI suffices frame await done
-types.Run: look look-raw init store store-raw forget stop hop fld from load lit true-lit false-lit bin addr of-opd and-then no-more
+types.Run: look look-raw init store store-raw forget stop hop fld from load lit true-lit bin addr of-opd and-then no-more
 types.Run: assigns assigns-last land first blocks stays leaves-loop returns enter alloc1 alloc0 params1 pass1 pass0 exec Below again loops
 types.Part: agg whole sub look-in
 types.SemTy: Body
@@ -53,7 +53,7 @@ denote.Signature: plain
 denote.Steps: only opens closes looks shuts owned peeks heard nothing
 denote.Struct.Steps: spelt
 denote.Triple.Entry: onEntry
-denote.Triple.Spec: Meets tripleOf
+denote.Triple.Spec: tripleOf
 denote.Triple.Statement: Contract Triple
 denote.Triple.Call: calls-at
 denote.Triple.Clauses: ensured lasts
@@ -63,7 +63,7 @@ denote.Triple.Walked: goes-none goes-ref goes-gave-slice goes-slice goes-none-sl
 denote.Exit: yes"""
 OF_THE_LOGIC = {name: line.partition(": ")[0] for line in IMPORTS.splitlines() for name in line.partition(": ")[2].split()}
 OF_THE_WALK = set("a vals Post needed stayed exits walk walks all-go En St At Turned Nearer Nearer-wf more ends turns begin looping no-request "
-                  "i-fits place-fits next-fits holds bare frees-all lends-again comes-back".split())
+                  "i-fits place-fits next-fits holds bare frees-all slice lends-again comes-back".split())
 
 EDGE = r"\s(){},;"  # what stands at the ends of a word of antt
 

@@ -82,7 +82,7 @@ class Walk:
             "use denote.Struct.Laws as LL\n", *(s.uses(self.own) for s in structs.values()), *(call.uses(self.own) for call in self.calls),
             f"use {module} as walked·\nuse {module}.Key.{{name as #walked}}\nuse {module}.Statement as stated\n"
             f"use {module}.Code as code\nuse {module}.Code.Mir as piece\n",
-            f"use Rattle.{self.own}.proofs.Rules.{{lends-again, comes-back, holds, bare, frees-all}}\n", use_lines(self.cites.items())])
+            f"use Rattle.{self.own}.proofs.Rules.{{slice, lends-again, comes-back, holds, bare, frees-all}}\n", use_lines(self.cites.items())])
 
     def statements(self) -> str:
         """How each parameter stands at exit, and the callees' contracts."""
@@ -95,13 +95,8 @@ stayed = {nested(p.stay for p in self.params)}
         """The module's head, with what the parameters are made of; the arguments, their machine values, and what is to hold at exit."""
         terms = Terms({name: value.value for name, (_, value) in self.plain.items()}, {p.name: p.list for p in self.slices})
         needed = f" (needed : {terms.say(self.f.requires)})" if self.f.requires else ""
-        values = "".join(f"""
-  abbrev x·{p.x} : GName → List {p.to.type} → {p.type}
-  x·{p.x} δ z = record {{ ptr = (b·{p.x}, o·{p.x}); name = δ; now = z }}
-  abbrev s·{p.x} : Val
-  s·{p.x} = sliceVal (b·{p.x}, o·{p.x}) (length l·{p.x})""" for p in self.slices)
         return f"""\
-module _ {LOGIC} (W : Given 𝓤 H A) {MACHINE} {" ".join(p.binders for p in self.params)}{needed} where{values}
+module _ {LOGIC} (W : Given 𝓤 H A) {MACHINE} {" ".join(p.binders for p in self.params)}{needed} where
   abbrev a : {nested_type(p.type for p in self.params)}
   a = {nested(p.value for p in self.params)}
   abbrev vals : {nested_type(["List Val"] * len(self.params))}

@@ -26,10 +26,10 @@ use denote.Slice.{sliceVal, MutSlice, heres, Room, finally, at-slice, codedHoley
 use denote.Lend.{Held, lends-slice, slice-back}
 use denote.Index.{row, whole-in, whole-out, opens-slice, closes-slice}
 
--- A slice of T at the place (b, o). Its machine value has a count m, which a walk writes as the length that it was given with, and not
--- as that of its list so far.
+-- A slice of T at the place (b, o), by its ghost name and its list. Its machine value has a count m, which a walk writes as the length
+-- that it was given with, and not as that of its list so far.
 module _ (R : RattleType) (b o : ℕ) where
-  abbrev slice : GName → List (R .Denot) → RefT (List (R .Denot))
+  abbrev pub slice : GName → List (R .Denot) → RefT (List (R .Denot))
   slice γ xs = record { ptr = (b, o); name = γ; now = xs }
 
   abbrev values : ℕ → List Val

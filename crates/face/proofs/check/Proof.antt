@@ -54,7 +54,7 @@ use Rattle.face.proofs.check.Key.{name as #walked}
 use Rattle.face.proofs.check.Statement as stated
 use Rattle.face.proofs.check.Code as code
 use Rattle.face.proofs.check.Code.Mir as piece
-use Rattle.face.proofs.Rules.{lends-again, comes-back, holds, bare, frees-all}
+use Rattle.face.proofs.Rules.{slice, lends-again, comes-back, holds, bare, frees-all}
 use Rattle.lent.specs.Model.{geometry, state}
 use Rattle.scope.specs.Calls.{check}
 use Rattle.scope.specs.Contracts.{Answers, right-lengths}
@@ -66,41 +66,11 @@ abbrev Callee·1 : {M : Type 1} (𝓤 : URA M) (H : Heap 𝓤) (A : Atoms 𝓤) 
 Callee·1 𝓤 H A mm rn = tripleOf 𝓤 H A callee·1.signature (callee·1.spec 𝓤 H A mm rn)
 
 module _ {M : Type 1} (𝓤 : URA M) (H : Heap 𝓤) (A : Atoms 𝓤) (W : Given 𝓤 H A) (mm : Memory → SProp 𝓤) (rn : Routine → Fun 𝓤) (κ·rec : Lft) (q·rec : Share) (b·rec o·rec : ℕ) (γ·rec : GName) (v·rec : D·Record) (v·g : D·Geometry) (is·g : Is T·Geometry.the-row v·g ((LL.val T·Geometry.the-type L·Geometry.the-laws v·g) ∷ [])) (κ·chip : Lft) (q·chip : Share) (b·chip o·chip : ℕ) (γ·chip : GName) (l·chip : List ℕ) (room·chip : Room u32 (length l·chip)) (κ·spare : Lft) (q·spare : Share) (b·spare o·spare : ℕ) (γ·spare : GName) (l·spare : List ℕ) (room·spare : Room u32 (length l·spare)) (κ·directory : Lft) (q·directory : Share) (b·directory o·directory : ℕ) (γ·directory : GName) (l·directory : List ℕ) (room·directory : Room u32 (length l·directory)) (κ·cache : Lft) (q·cache : Share) (b·cache o·cache : ℕ) (γ·cache : GName) (l·cache : List ℕ) (room·cache : Room u32 (length l·cache)) (κ·counts : Lft) (q·counts : Share) (b·counts o·counts : ℕ) (γ·counts : GName) (l·counts : List ℕ) (room·counts : Room u32 (length l·counts)) where
-  abbrev x·chip : GName → List ℕ → RefT (List ℕ)
-  x·chip δ z = record { ptr = (b·chip, o·chip); name = δ; now = z }
-
-  abbrev s·chip : Val
-  s·chip = sliceVal (b·chip, o·chip) (length l·chip)
-
-  abbrev x·spare : GName → List ℕ → RefT (List ℕ)
-  x·spare δ z = record { ptr = (b·spare, o·spare); name = δ; now = z }
-
-  abbrev s·spare : Val
-  s·spare = sliceVal (b·spare, o·spare) (length l·spare)
-
-  abbrev x·directory : GName → List ℕ → RefT (List ℕ)
-  x·directory δ z = record { ptr = (b·directory, o·directory); name = δ; now = z }
-
-  abbrev s·directory : Val
-  s·directory = sliceVal (b·directory, o·directory) (length l·directory)
-
-  abbrev x·cache : GName → List ℕ → RefT (List ℕ)
-  x·cache δ z = record { ptr = (b·cache, o·cache); name = δ; now = z }
-
-  abbrev s·cache : Val
-  s·cache = sliceVal (b·cache, o·cache) (length l·cache)
-
-  abbrev x·counts : GName → List ℕ → RefT (List ℕ)
-  x·counts δ z = record { ptr = (b·counts, o·counts); name = δ; now = z }
-
-  abbrev s·counts : Val
-  s·counts = sliceVal (b·counts, o·counts) (length l·counts)
-
   abbrev a : RefT D·Record × (D·Geometry × (RefT (List ℕ) × (RefT (List ℕ) × (RefT (List ℕ) × (RefT (List ℕ) × (RefT (List ℕ) × (Unit {0})))))))
-  a = (record { ptr = (b·rec, o·rec); name = γ·rec; now = v·rec }, (v·g, (x·chip γ·chip l·chip, (x·spare γ·spare l·spare, (x·directory γ·directory l·directory, (x·cache γ·cache l·cache, (x·counts γ·counts l·counts, tt)))))))
+  a = (record { ptr = (b·rec, o·rec); name = γ·rec; now = v·rec }, (v·g, (slice u32 b·chip o·chip γ·chip l·chip, (slice u32 b·spare o·spare γ·spare l·spare, (slice u32 b·directory o·directory γ·directory l·directory, (slice u32 b·cache o·cache γ·cache l·cache, (slice u32 b·counts o·counts γ·counts l·counts, tt)))))))
 
   abbrev vals : List Val × (List Val × (List Val × (List Val × (List Val × (List Val × (List Val × (Unit {0})))))))
-  vals = ((vptr b·rec o·rec) ∷ [], ((LL.val T·Geometry.the-type L·Geometry.the-laws v·g) ∷ [], (s·chip ∷ [], (s·spare ∷ [], (s·directory ∷ [], (s·cache ∷ [], (s·counts ∷ [], tt)))))))
+  vals = ((vptr b·rec o·rec) ∷ [], ((LL.val T·Geometry.the-type L·Geometry.the-laws v·g) ∷ [], ((sliceVal (b·chip, o·chip) (length l·chip)) ∷ [], ((sliceVal (b·spare, o·spare) (length l·spare)) ∷ [], ((sliceVal (b·directory, o·directory) (length l·directory)) ∷ [], ((sliceVal (b·cache, o·cache) (length l·cache)) ∷ [], ((sliceVal (b·counts, o·counts) (length l·counts)) ∷ [], tt)))))))
 
   abbrev Post : Val → SProp 𝓤
   Post = walkOf 𝓤 H A walked·.ended stayed (walked·.clauses 𝓤 H A mm rn) .post (((κ·rec, (κ·chip, (κ·spare, (κ·directory, (κ·cache, (κ·counts, tt)))))), (q·rec, (q·chip, (q·spare, (q·directory, (q·cache, (q·counts, tt)))))), tt, a, vals), tt)
@@ -109,16 +79,16 @@ module _ {M : Type 1} (𝓤 : URA M) (H : Heap 𝓤) (A : Atoms 𝓤) (W : Given
   Did·1 r·1 zs·1 = Answers (check (geometry v·g) (right-lengths true (l·counts)) (state (l·chip) (l·spare) (l·directory) (l·cache) v·rec)) (l·counts) r·1 (state (l·chip) (l·spare) (l·directory) (l·cache) v·rec) ((zs·1 .1 .1 .1 .1 .1 .1 .1 .0))
 
   abbrev ca·1 : D·Record × (Bool × (D·Geometry × (RefT (List ℕ) × (RefT (List ℕ) × (RefT (List ℕ) × (RefT (List ℕ) × (RefT (List ℕ) × (Unit {0}))))))))
-  ca·1 = (v·rec, (true, (v·g, (x·chip γ·chip l·chip, (x·spare γ·spare l·spare, (x·directory γ·directory l·directory, (x·cache γ·cache l·cache, (x·counts γ·counts l·counts, tt))))))))
+  ca·1 = (v·rec, (true, (v·g, (slice u32 b·chip o·chip γ·chip l·chip, (slice u32 b·spare o·spare γ·spare l·spare, (slice u32 b·directory o·directory γ·directory l·directory, (slice u32 b·cache o·cache γ·cache l·cache, (slice u32 b·counts o·counts γ·counts l·counts, tt))))))))
 
   abbrev cv·1 : List Val × (List Val × (List Val × (List Val × (List Val × (List Val × (List Val × (List Val × (Unit {0}))))))))
-  cv·1 = ((LL.val T·Record.the-type L·Record.the-laws v·rec) ∷ [], ((vbool true) ∷ [], ((LL.val T·Geometry.the-type L·Geometry.the-laws v·g) ∷ [], (s·chip ∷ [], (s·spare ∷ [], (s·directory ∷ [], (s·cache ∷ [], (s·counts ∷ [], tt))))))))
+  cv·1 = ((LL.val T·Record.the-type L·Record.the-laws v·rec) ∷ [], ((vbool true) ∷ [], ((LL.val T·Geometry.the-type L·Geometry.the-laws v·g) ∷ [], ((sliceVal (b·chip, o·chip) (length l·chip)) ∷ [], ((sliceVal (b·spare, o·spare) (length l·spare)) ∷ [], ((sliceVal (b·directory, o·directory) (length l·directory)) ∷ [], ((sliceVal (b·cache, o·cache) (length l·cache)) ∷ [], ((sliceVal (b·counts, o·counts) (length l·counts)) ∷ [], tt))))))))
 
   abbrev to·1 : Callee·1 𝓤 H A mm rn .Ghost
   to·1 = (((κ·chip, (κ·spare, (κ·directory, (κ·cache, (κ·counts, tt))))), (q·chip, (q·spare, (q·directory, (q·cache, (q·counts, tt))))), tt, (ca·1), (cv·1)), tt)
 
   abbrev gives·1 : List (Item 𝓤)
-  gives·1 = ‵ (flft κ·chip q·chip) ∷ ‵ (flft κ·spare q·spare) ∷ ‵ (flft κ·directory q·directory) ∷ ‵ (flft κ·cache q·cache) ∷ ‵ (flft κ·counts q·counts) ∷ ‵ (ShrSlice (named 0) κ·chip u32 .own (x·chip γ·chip l·chip) (s·chip ∷ [])) ∷ ‵ (ShrSlice (named 1) κ·spare u32 .own (x·spare γ·spare l·spare) (s·spare ∷ [])) ∷ ‵ (ShrSlice (named 2) κ·directory u32 .own (x·directory γ·directory l·directory) (s·directory ∷ [])) ∷ ‵ (ShrSlice (named 3) κ·cache u32 .own (x·cache γ·cache l·cache) (s·cache ∷ [])) ∷ ‵ (MutSlice (named 4) κ·counts u32 .own (x·counts γ·counts l·counts) (s·counts ∷ [])) ∷ []
+  gives·1 = ‵ (flft κ·chip q·chip) ∷ ‵ (flft κ·spare q·spare) ∷ ‵ (flft κ·directory q·directory) ∷ ‵ (flft κ·cache q·cache) ∷ ‵ (flft κ·counts q·counts) ∷ ‵ (ShrSlice (named 0) κ·chip u32 .own (slice u32 b·chip o·chip γ·chip l·chip) ((sliceVal (b·chip, o·chip) (length l·chip)) ∷ [])) ∷ ‵ (ShrSlice (named 1) κ·spare u32 .own (slice u32 b·spare o·spare γ·spare l·spare) ((sliceVal (b·spare, o·spare) (length l·spare)) ∷ [])) ∷ ‵ (ShrSlice (named 2) κ·directory u32 .own (slice u32 b·directory o·directory γ·directory l·directory) ((sliceVal (b·directory, o·directory) (length l·directory)) ∷ [])) ∷ ‵ (ShrSlice (named 3) κ·cache u32 .own (slice u32 b·cache o·cache γ·cache l·cache) ((sliceVal (b·cache, o·cache) (length l·cache)) ∷ [])) ∷ ‵ (MutSlice (named 4) κ·counts u32 .own (slice u32 b·counts o·counts γ·counts l·counts) ((sliceVal (b·counts, o·counts) (length l·counts)) ∷ [])) ∷ []
 
   calling·1 : (is·rec : Is T·Record.the-row v·rec ((LL.val T·Record.the-type L·Record.the-laws v·rec) ∷ [])) → ent 𝓤 (⋆ 𝓤 H A (gives·1)) (Callee·1 𝓤 H A mm rn .pre (to·1))
   calling·1 is·rec =
@@ -134,9 +104,9 @@ module _ {M : Type 1} (𝓤 : URA M) (H : Heap 𝓤) (A : Atoms 𝓤) (W : Given
       fsplit ! $ drop ! $ fsplit ! $ drop ! $ fsplit ! $ drop ! $ fsplit ! $ drop ! $ fsplit ! $ drop ! $ fsplit ! $ drop ! $ fsplit ! $ drop ! $ fsplit ! $ fsplit ! $ move ! (1 ∷ []) $ feqL ! (λ d·1·counts. move ! (1 ∷ []) $ drop ! $ move ! (1 ∷ []) $ split ! $ move ! (1 ∷ []) $ peeks ! u32 (Is u32) (shows 𝓤 H A u32) r·1 (w·1 ∷ []) (λ was·1. drop ! $
       split ! $ move ! (1 ∷ []) $ split ! $ move ! (1 ∷ []) $ split ! $ move ! (1 ∷ []) $ split ! $ move ! (1 ∷ []) $ split ! $ move ! (1 ∷ []) $ drop ! $ move ! (4 ∷ 3 ∷ 2 ∷ 1 ∷ 0 ∷ 5 ∷ []) $ so r·1 zs·1 did·1 was·1 d·1·counts)))))
 
-  exits : (r·1 : ℕ) (zs·1 : Unit {0} × (Unit {0} × (Unit {0} × (Unit {0} × (Unit {0} × (Unit {0} × (Unit {0} × (List ℕ × (Unit {0}))))))))) (did·1 : Did·1 r·1 zs·1) (ans : Is u32 r·1 ((vint w32 r·1) ∷ [])) (e·counts : length (zs·1 .1 .1 .1 .1 .1 .1 .1 .0) ≡ length l·counts) → ent 𝓤 (⋆ 𝓤 H A (‵ (fres γ·rec (T·Record.the-row .coded .code v·rec)) ∷ ‵ (fshr-bor κ·rec (λ s. partAt T·Record.the-row s v·rec b·rec o·rec)) ∷ ‵ (flft κ·rec q·rec) ∷ ‵ (flft κ·chip q·chip) ∷ ‵ (flft κ·spare q·spare) ∷ ‵ (flft κ·directory q·directory) ∷ ‵ (flft κ·cache q·cache) ∷ ‵ (flft κ·counts q·counts) ∷ ‵ (ShrSlice (named 1) κ·chip u32 .own (x·chip γ·chip l·chip) (s·chip ∷ [])) ∷ ‵ (ShrSlice (named 2) κ·spare u32 .own (x·spare γ·spare l·spare) (s·spare ∷ [])) ∷ ‵ (ShrSlice (named 3) κ·directory u32 .own (x·directory γ·directory l·directory) (s·directory ∷ [])) ∷ ‵ (ShrSlice (named 4) κ·cache u32 .own (x·cache γ·cache l·cache) (s·cache ∷ [])) ∷ ‵ (finally u32 γ·counts (zs·1 .1 .1 .1 .1 .1 .1 .1 .0)) ∷ [])) (Post (vint w32 r·1))
+  exits : (r·1 : ℕ) (zs·1 : Unit {0} × (Unit {0} × (Unit {0} × (Unit {0} × (Unit {0} × (Unit {0} × (Unit {0} × (List ℕ × (Unit {0}))))))))) (did·1 : Did·1 r·1 zs·1) (ans : Is u32 r·1 ((vint w32 r·1) ∷ [])) (e·counts : length (zs·1 .1 .1 .1 .1 .1 .1 .1 .0) ≡ length l·counts) → ent 𝓤 (⋆ 𝓤 H A (‵ (fres γ·rec (T·Record.the-row .coded .code v·rec)) ∷ ‵ (fshr-bor κ·rec (λ s. partAt T·Record.the-row s v·rec b·rec o·rec)) ∷ ‵ (flft κ·rec q·rec) ∷ ‵ (flft κ·chip q·chip) ∷ ‵ (flft κ·spare q·spare) ∷ ‵ (flft κ·directory q·directory) ∷ ‵ (flft κ·cache q·cache) ∷ ‵ (flft κ·counts q·counts) ∷ ‵ (ShrSlice (named 1) κ·chip u32 .own (slice u32 b·chip o·chip γ·chip l·chip) ((sliceVal (b·chip, o·chip) (length l·chip)) ∷ [])) ∷ ‵ (ShrSlice (named 2) κ·spare u32 .own (slice u32 b·spare o·spare γ·spare l·spare) ((sliceVal (b·spare, o·spare) (length l·spare)) ∷ [])) ∷ ‵ (ShrSlice (named 3) κ·directory u32 .own (slice u32 b·directory o·directory γ·directory l·directory) ((sliceVal (b·directory, o·directory) (length l·directory)) ∷ [])) ∷ ‵ (ShrSlice (named 4) κ·cache u32 .own (slice u32 b·cache o·cache γ·cache l·cache) ((sliceVal (b·cache, o·cache) (length l·cache)) ∷ [])) ∷ ‵ (finally u32 γ·counts (zs·1 .1 .1 .1 .1 .1 .1 .1 .0)) ∷ [])) (Post (vint w32 r·1))
   exits r·1 zs·1 did·1 ans e·counts =
-      qed W (‵ (fres γ·rec (T·Record.the-row .coded .code v·rec)) ∷ ‵ (fshr-bor κ·rec (λ s. partAt T·Record.the-row s v·rec b·rec o·rec)) ∷ ‵ (flft κ·rec q·rec) ∷ ‵ (flft κ·chip q·chip) ∷ ‵ (flft κ·spare q·spare) ∷ ‵ (flft κ·directory q·directory) ∷ ‵ (flft κ·cache q·cache) ∷ ‵ (flft κ·counts q·counts) ∷ ‵ (ShrSlice (named 1) κ·chip u32 .own (x·chip γ·chip l·chip) (s·chip ∷ [])) ∷ ‵ (ShrSlice (named 2) κ·spare u32 .own (x·spare γ·spare l·spare) (s·spare ∷ [])) ∷ ‵ (ShrSlice (named 3) κ·directory u32 .own (x·directory γ·directory l·directory) (s·directory ∷ [])) ∷ ‵ (ShrSlice (named 4) κ·cache u32 .own (x·cache γ·cache l·cache) (s·cache ∷ [])) ∷ ‵ (finally u32 γ·counts (zs·1 .1 .1 .1 .1 .1 .1 .1 .0)) ∷ []) ∵ suffices ! _ (ends-at 𝓤 H A walked·.ended stayed (walked·.clauses 𝓤 H A mm rn) W (((κ·rec, (κ·chip, (κ·spare, (κ·directory, (κ·cache, (κ·counts, tt)))))), (q·rec, (q·chip, (q·spare, (q·directory, (q·cache, (q·counts, tt)))))), tt, a, vals), tt) (vint w32 r·1) r·1 (tt, (tt, (tt, (tt, (tt, (tt, ((zs·1 .1 .1 .1 .1 .1 .1 .1 .0), tt))))))) (tt, (tt, (tt, (tt, (tt, (tt, (e·counts, tt)))))))) $
+      qed W (‵ (fres γ·rec (T·Record.the-row .coded .code v·rec)) ∷ ‵ (fshr-bor κ·rec (λ s. partAt T·Record.the-row s v·rec b·rec o·rec)) ∷ ‵ (flft κ·rec q·rec) ∷ ‵ (flft κ·chip q·chip) ∷ ‵ (flft κ·spare q·spare) ∷ ‵ (flft κ·directory q·directory) ∷ ‵ (flft κ·cache q·cache) ∷ ‵ (flft κ·counts q·counts) ∷ ‵ (ShrSlice (named 1) κ·chip u32 .own (slice u32 b·chip o·chip γ·chip l·chip) ((sliceVal (b·chip, o·chip) (length l·chip)) ∷ [])) ∷ ‵ (ShrSlice (named 2) κ·spare u32 .own (slice u32 b·spare o·spare γ·spare l·spare) ((sliceVal (b·spare, o·spare) (length l·spare)) ∷ [])) ∷ ‵ (ShrSlice (named 3) κ·directory u32 .own (slice u32 b·directory o·directory γ·directory l·directory) ((sliceVal (b·directory, o·directory) (length l·directory)) ∷ [])) ∷ ‵ (ShrSlice (named 4) κ·cache u32 .own (slice u32 b·cache o·cache γ·cache l·cache) ((sliceVal (b·cache, o·cache) (length l·cache)) ∷ [])) ∷ ‵ (finally u32 γ·counts (zs·1 .1 .1 .1 .1 .1 .1 .1 .0)) ∷ []) ∵ suffices ! _ (ends-at 𝓤 H A walked·.ended stayed (walked·.clauses 𝓤 H A mm rn) W (((κ·rec, (κ·chip, (κ·spare, (κ·directory, (κ·cache, (κ·counts, tt)))))), (q·rec, (q·chip, (q·spare, (q·directory, (q·cache, (q·counts, tt)))))), tt, a, vals), tt) (vint w32 r·1) r·1 (tt, (tt, (tt, (tt, (tt, (tt, ((zs·1 .1 .1 .1 .1 .1 .1 .1 .0), tt))))))) (tt, (tt, (tt, (tt, (tt, (tt, (e·counts, tt)))))))) $
       says ! (did·1) $ feqI ! (List Val) ((vptr b·rec o·rec) ∷ []) ((vptr b·rec o·rec) ∷ []) refl $ fjoin3 ! $ nothing ! $ move ! (7 ∷ 0 ∷ []) $ join ! $ move ! (6 ∷ 0 ∷ []) $ join ! $ move ! (5 ∷ 0 ∷ []) $ join ! $ move ! (4 ∷ 0 ∷ []) $ join ! $ move ! (3 ∷ 0 ∷ []) $ join ! $ move ! (2 ∷ 0 ∷ []) $ join ! $ frame ! $ nothing ! $ move ! (6 ∷ 0 ∷ []) $ fjoin ! $ move ! (5 ∷ 0 ∷ []) $ fjoin ! $ move ! (4 ∷ 0 ∷ []) $ fjoin ! $ move ! (3 ∷ 0 ∷ []) $ fjoin ! $ move ! (2 ∷ 0 ∷ []) $ fjoin ! $ owned ! T·Geometry.the-row (Is T·Geometry.the-row) (LL.makes T·Geometry.the-type L·Geometry.the-plain 𝓤 H A) v·g _ is·g $ fjoin ! $ move ! (1 ∷ 0 ∷ []) $ fjoin ! $ owned ! u32 (Is u32) (uint-makes 𝓤 H A W w32) r·1 _ ans $ move ! (1 ∷ 0 ∷ []) $ done !
 
   module _ (𝓣 : Tables 𝓤 H) (fm : FmC 𝓤 H (W .laws) (𝓣 .C)) (known·1 : Triple 𝓤 (𝓣 .C #·1) (Callee·1 𝓤 H A mm rn)) (l·0 l·1 l·2 l·3 l·4 l·5 l·6 l·7 l·8 l·9 l·10 : ℕ) where
@@ -144,15 +114,15 @@ module _ {M : Type 1} (𝓤 : URA M) (H : Heap 𝓤) (A : Atoms 𝓤) (W : Given
     En = ((tyInt w32), l·0) ∷ ((tyRef (named 0) imm (pointee (T·Record.the-row .written))), l·1) ∷ (L·Geometry.mir, l·2) ∷ ((sliceTy (tyRef (named 1) imm (tyInt w32))), l·3) ∷ ((sliceTy (tyRef (named 2) imm (tyInt w32))), l·4) ∷ ((sliceTy (tyRef (named 3) imm (tyInt w32))), l·5) ∷ ((sliceTy (tyRef (named 4) imm (tyInt w32))), l·6) ∷ ((sliceTy (tyRef (named 5) mut (tyInt w32))), l·7) ∷ (L·Record.mir, l·8) ∷ ((tyRef erased mut (tyInt w32)), l·9) ∷ ((sliceTy (tyRef erased mut (tyInt w32))), l·10) ∷ []
 
     call·1 : (is·rec : Is T·Record.the-row v·rec ((LL.val T·Record.the-type L·Record.the-laws v·rec) ∷ [])) (Γ : List (Item 𝓤))
-        → ((r·1 : ℕ) (zs·1 : Unit {0} × (Unit {0} × (Unit {0} × (Unit {0} × (Unit {0} × (Unit {0} × (Unit {0} × (List ℕ × (Unit {0}))))))))) (did·1 : Did·1 r·1 zs·1) (is·1 : Is u32 r·1 ((vint w32 r·1) ∷ [])) (d·1·counts : length (zs·1 .1 .1 .1 .1 .1 .1 .1 .0) ≡ length l·counts) → Sq W (‵ (ShrSlice (named 1) κ·chip u32 .own (x·chip γ·chip l·chip) (s·chip ∷ [])) ∷ ‵ (ShrSlice (named 2) κ·spare u32 .own (x·spare γ·spare l·spare) (s·spare ∷ [])) ∷ ‵ (ShrSlice (named 3) κ·directory u32 .own (x·directory γ·directory l·directory) (s·directory ∷ [])) ∷ ‵ (ShrSlice (named 4) κ·cache u32 .own (x·cache γ·cache l·cache) (s·cache ∷ [])) ∷ ‵ (finally u32 γ·counts (zs·1 .1 .1 .1 .1 .1 .1 .1 .0)) ∷ ‵ (flft κ·chip q·chip) ∷ ‵ (flft κ·spare q·spare) ∷ ‵ (flft κ·directory q·directory) ∷ ‵ (flft κ·cache q·cache) ∷ ‵ (flft κ·counts q·counts) ∷ ‵ (fat fullShare L·Record.mir l·8 0 (LL.val T·Record.the-type L·Record.the-laws v·rec)) ∷ ‵ (fat fullShare L·Geometry.mir l·2 0 (LL.val T·Geometry.the-type L·Geometry.the-laws v·g)) ∷ ‵ (fat fullShare (sliceTy (tyRef (named 1) imm (tyInt w32))) l·3 0 s·chip) ∷ ‵ (fat fullShare (sliceTy (tyRef (named 2) imm (tyInt w32))) l·4 0 s·spare) ∷ ‵ (fat fullShare (sliceTy (tyRef (named 3) imm (tyInt w32))) l·5 0 s·directory) ∷ ‵ (fat fullShare (sliceTy (tyRef (named 4) imm (tyInt w32))) l·6 0 s·cache) ∷ ‵ (fat fullShare (sliceTy (tyRef (named 5) mut (tyInt w32))) l·7 0 s·counts) ∷ ‵ (fat fullShare (tyInt w32) l·0 0 (vint w32 r·1)) ∷ ‵ (froom (tyRef erased mut (tyInt w32)) l·9 0) ∷ ‵ (froom (sliceTy (tyRef erased mut (tyInt w32))) l·10 0) ∷ Γ) (runs (𝓣 .C) (𝓣 .Λ) En piece.t-5 (atRet En Post)))
-        → Sq W (‵ (ShrSlice (named 1) κ·chip u32 .own (x·chip γ·chip l·chip) (s·chip ∷ [])) ∷ ‵ (ShrSlice (named 2) κ·spare u32 .own (x·spare γ·spare l·spare) (s·spare ∷ [])) ∷ ‵ (ShrSlice (named 3) κ·directory u32 .own (x·directory γ·directory l·directory) (s·directory ∷ [])) ∷ ‵ (ShrSlice (named 4) κ·cache u32 .own (x·cache γ·cache l·cache) (s·cache ∷ [])) ∷ ‵ (MutSlice (named 5) κ·counts u32 .own (x·counts γ·counts l·counts) (s·counts ∷ [])) ∷ ‵ (flft κ·chip q·chip) ∷ ‵ (flft κ·spare q·spare) ∷ ‵ (flft κ·directory q·directory) ∷ ‵ (flft κ·cache q·cache) ∷ ‵ (flft κ·counts q·counts) ∷ ‵ (fat fullShare L·Record.mir l·8 0 (LL.val T·Record.the-type L·Record.the-laws v·rec)) ∷ ‵ (fat fullShare L·Geometry.mir l·2 0 (LL.val T·Geometry.the-type L·Geometry.the-laws v·g)) ∷ ‵ (fat fullShare (sliceTy (tyRef (named 1) imm (tyInt w32))) l·3 0 s·chip) ∷ ‵ (fat fullShare (sliceTy (tyRef (named 2) imm (tyInt w32))) l·4 0 s·spare) ∷ ‵ (fat fullShare (sliceTy (tyRef (named 3) imm (tyInt w32))) l·5 0 s·directory) ∷ ‵ (fat fullShare (sliceTy (tyRef (named 4) imm (tyInt w32))) l·6 0 s·cache) ∷ ‵ (fat fullShare (sliceTy (tyRef (named 5) mut (tyInt w32))) l·7 0 s·counts) ∷ ‵ (froom (tyInt w32) l·0 0) ∷ ‵ (froom (tyRef erased mut (tyInt w32)) l·9 0) ∷ ‵ (froom (sliceTy (tyRef erased mut (tyInt w32))) l·10 0) ∷ Γ) (runs (𝓣 .C) (𝓣 .Λ) En piece.t-2 (atRet En Post))
+        → ((r·1 : ℕ) (zs·1 : Unit {0} × (Unit {0} × (Unit {0} × (Unit {0} × (Unit {0} × (Unit {0} × (Unit {0} × (List ℕ × (Unit {0}))))))))) (did·1 : Did·1 r·1 zs·1) (is·1 : Is u32 r·1 ((vint w32 r·1) ∷ [])) (d·1·counts : length (zs·1 .1 .1 .1 .1 .1 .1 .1 .0) ≡ length l·counts) → Sq W (‵ (ShrSlice (named 1) κ·chip u32 .own (slice u32 b·chip o·chip γ·chip l·chip) ((sliceVal (b·chip, o·chip) (length l·chip)) ∷ [])) ∷ ‵ (ShrSlice (named 2) κ·spare u32 .own (slice u32 b·spare o·spare γ·spare l·spare) ((sliceVal (b·spare, o·spare) (length l·spare)) ∷ [])) ∷ ‵ (ShrSlice (named 3) κ·directory u32 .own (slice u32 b·directory o·directory γ·directory l·directory) ((sliceVal (b·directory, o·directory) (length l·directory)) ∷ [])) ∷ ‵ (ShrSlice (named 4) κ·cache u32 .own (slice u32 b·cache o·cache γ·cache l·cache) ((sliceVal (b·cache, o·cache) (length l·cache)) ∷ [])) ∷ ‵ (finally u32 γ·counts (zs·1 .1 .1 .1 .1 .1 .1 .1 .0)) ∷ ‵ (flft κ·chip q·chip) ∷ ‵ (flft κ·spare q·spare) ∷ ‵ (flft κ·directory q·directory) ∷ ‵ (flft κ·cache q·cache) ∷ ‵ (flft κ·counts q·counts) ∷ ‵ (fat fullShare L·Record.mir l·8 0 (LL.val T·Record.the-type L·Record.the-laws v·rec)) ∷ ‵ (fat fullShare L·Geometry.mir l·2 0 (LL.val T·Geometry.the-type L·Geometry.the-laws v·g)) ∷ ‵ (fat fullShare (sliceTy (tyRef (named 1) imm (tyInt w32))) l·3 0 (sliceVal (b·chip, o·chip) (length l·chip))) ∷ ‵ (fat fullShare (sliceTy (tyRef (named 2) imm (tyInt w32))) l·4 0 (sliceVal (b·spare, o·spare) (length l·spare))) ∷ ‵ (fat fullShare (sliceTy (tyRef (named 3) imm (tyInt w32))) l·5 0 (sliceVal (b·directory, o·directory) (length l·directory))) ∷ ‵ (fat fullShare (sliceTy (tyRef (named 4) imm (tyInt w32))) l·6 0 (sliceVal (b·cache, o·cache) (length l·cache))) ∷ ‵ (fat fullShare (sliceTy (tyRef (named 5) mut (tyInt w32))) l·7 0 (sliceVal (b·counts, o·counts) (length l·counts))) ∷ ‵ (fat fullShare (tyInt w32) l·0 0 (vint w32 r·1)) ∷ ‵ (froom (tyRef erased mut (tyInt w32)) l·9 0) ∷ ‵ (froom (sliceTy (tyRef erased mut (tyInt w32))) l·10 0) ∷ Γ) (runs (𝓣 .C) (𝓣 .Λ) En piece.t-5 (atRet En Post)))
+        → Sq W (‵ (ShrSlice (named 1) κ·chip u32 .own (slice u32 b·chip o·chip γ·chip l·chip) ((sliceVal (b·chip, o·chip) (length l·chip)) ∷ [])) ∷ ‵ (ShrSlice (named 2) κ·spare u32 .own (slice u32 b·spare o·spare γ·spare l·spare) ((sliceVal (b·spare, o·spare) (length l·spare)) ∷ [])) ∷ ‵ (ShrSlice (named 3) κ·directory u32 .own (slice u32 b·directory o·directory γ·directory l·directory) ((sliceVal (b·directory, o·directory) (length l·directory)) ∷ [])) ∷ ‵ (ShrSlice (named 4) κ·cache u32 .own (slice u32 b·cache o·cache γ·cache l·cache) ((sliceVal (b·cache, o·cache) (length l·cache)) ∷ [])) ∷ ‵ (MutSlice (named 5) κ·counts u32 .own (slice u32 b·counts o·counts γ·counts l·counts) ((sliceVal (b·counts, o·counts) (length l·counts)) ∷ [])) ∷ ‵ (flft κ·chip q·chip) ∷ ‵ (flft κ·spare q·spare) ∷ ‵ (flft κ·directory q·directory) ∷ ‵ (flft κ·cache q·cache) ∷ ‵ (flft κ·counts q·counts) ∷ ‵ (fat fullShare L·Record.mir l·8 0 (LL.val T·Record.the-type L·Record.the-laws v·rec)) ∷ ‵ (fat fullShare L·Geometry.mir l·2 0 (LL.val T·Geometry.the-type L·Geometry.the-laws v·g)) ∷ ‵ (fat fullShare (sliceTy (tyRef (named 1) imm (tyInt w32))) l·3 0 (sliceVal (b·chip, o·chip) (length l·chip))) ∷ ‵ (fat fullShare (sliceTy (tyRef (named 2) imm (tyInt w32))) l·4 0 (sliceVal (b·spare, o·spare) (length l·spare))) ∷ ‵ (fat fullShare (sliceTy (tyRef (named 3) imm (tyInt w32))) l·5 0 (sliceVal (b·directory, o·directory) (length l·directory))) ∷ ‵ (fat fullShare (sliceTy (tyRef (named 4) imm (tyInt w32))) l·6 0 (sliceVal (b·cache, o·cache) (length l·cache))) ∷ ‵ (fat fullShare (sliceTy (tyRef (named 5) mut (tyInt w32))) l·7 0 (sliceVal (b·counts, o·counts) (length l·counts))) ∷ ‵ (froom (tyInt w32) l·0 0) ∷ ‵ (froom (tyRef erased mut (tyInt w32)) l·9 0) ∷ ‵ (froom (sliceTy (tyRef erased mut (tyInt w32))) l·10 0) ∷ Γ) (runs (𝓣 .C) (𝓣 .Λ) En piece.t-2 (atRet En Post))
     call·1 is·rec Γ so =
         assigns ! (addr ! (from ! (fld ! refl (hop ! (look-in ! 16 (sub ! 0 refl (whole !))) (stop !))))) (from ! (stop !)) (init ! 18 refl (tt, tt)) $
         assigns ! (agg ! (and-then ! (load ! (from ! (stop !)) (look ! 18 refl)) (and-then ! (load ! (from ! (fld ! refl (stop !))) (look-in ! 16 (sub ! 1 refl (whole !)))) (no-more !)))) (from ! (stop !)) (init ! 19 refl (tt, (tt, (record { fits = room·counts .0 }, tt)))) $
-        use1 W (‵ (ShrSlice (named 1) κ·chip u32 .own (x·chip γ·chip l·chip) (s·chip ∷ [])) ⊛ ‵ (ShrSlice (named 1) κ·chip u32 .own (x·chip γ·chip l·chip) (s·chip ∷ []))) (shr-slice-copy 𝓤 H A W (named 1) κ·chip u32 .twice (x·chip γ·chip l·chip) (s·chip ∷ [])) $ split ! $
-        move ! (2 ∷ []) $ use1 W (‵ (ShrSlice (named 2) κ·spare u32 .own (x·spare γ·spare l·spare) (s·spare ∷ [])) ⊛ ‵ (ShrSlice (named 2) κ·spare u32 .own (x·spare γ·spare l·spare) (s·spare ∷ []))) (shr-slice-copy 𝓤 H A W (named 2) κ·spare u32 .twice (x·spare γ·spare l·spare) (s·spare ∷ [])) $ split ! $
-        move ! (4 ∷ []) $ use1 W (‵ (ShrSlice (named 3) κ·directory u32 .own (x·directory γ·directory l·directory) (s·directory ∷ [])) ⊛ ‵ (ShrSlice (named 3) κ·directory u32 .own (x·directory γ·directory l·directory) (s·directory ∷ []))) (shr-slice-copy 𝓤 H A W (named 3) κ·directory u32 .twice (x·directory γ·directory l·directory) (s·directory ∷ [])) $ split ! $
-        move ! (6 ∷ []) $ use1 W (‵ (ShrSlice (named 4) κ·cache u32 .own (x·cache γ·cache l·cache) (s·cache ∷ [])) ⊛ ‵ (ShrSlice (named 4) κ·cache u32 .own (x·cache γ·cache l·cache) (s·cache ∷ []))) (shr-slice-copy 𝓤 H A W (named 4) κ·cache u32 .twice (x·cache γ·cache l·cache) (s·cache ∷ [])) $ split ! $
+        use1 W (‵ (ShrSlice (named 1) κ·chip u32 .own (slice u32 b·chip o·chip γ·chip l·chip) ((sliceVal (b·chip, o·chip) (length l·chip)) ∷ [])) ⊛ ‵ (ShrSlice (named 1) κ·chip u32 .own (slice u32 b·chip o·chip γ·chip l·chip) ((sliceVal (b·chip, o·chip) (length l·chip)) ∷ []))) (shr-slice-copy 𝓤 H A W (named 1) κ·chip u32 .twice (slice u32 b·chip o·chip γ·chip l·chip) ((sliceVal (b·chip, o·chip) (length l·chip)) ∷ [])) $ split ! $
+        move ! (2 ∷ []) $ use1 W (‵ (ShrSlice (named 2) κ·spare u32 .own (slice u32 b·spare o·spare γ·spare l·spare) ((sliceVal (b·spare, o·spare) (length l·spare)) ∷ [])) ⊛ ‵ (ShrSlice (named 2) κ·spare u32 .own (slice u32 b·spare o·spare γ·spare l·spare) ((sliceVal (b·spare, o·spare) (length l·spare)) ∷ []))) (shr-slice-copy 𝓤 H A W (named 2) κ·spare u32 .twice (slice u32 b·spare o·spare γ·spare l·spare) ((sliceVal (b·spare, o·spare) (length l·spare)) ∷ [])) $ split ! $
+        move ! (4 ∷ []) $ use1 W (‵ (ShrSlice (named 3) κ·directory u32 .own (slice u32 b·directory o·directory γ·directory l·directory) ((sliceVal (b·directory, o·directory) (length l·directory)) ∷ [])) ⊛ ‵ (ShrSlice (named 3) κ·directory u32 .own (slice u32 b·directory o·directory γ·directory l·directory) ((sliceVal (b·directory, o·directory) (length l·directory)) ∷ []))) (shr-slice-copy 𝓤 H A W (named 3) κ·directory u32 .twice (slice u32 b·directory o·directory γ·directory l·directory) ((sliceVal (b·directory, o·directory) (length l·directory)) ∷ [])) $ split ! $
+        move ! (6 ∷ []) $ use1 W (‵ (ShrSlice (named 4) κ·cache u32 .own (slice u32 b·cache o·cache γ·cache l·cache) ((sliceVal (b·cache, o·cache) (length l·cache)) ∷ [])) ⊛ ‵ (ShrSlice (named 4) κ·cache u32 .own (slice u32 b·cache o·cache γ·cache l·cache) ((sliceVal (b·cache, o·cache) (length l·cache)) ∷ []))) (shr-slice-copy 𝓤 H A W (named 4) κ·cache u32 .twice (slice u32 b·cache o·cache γ·cache l·cache) ((sliceVal (b·cache, o·cache) (length l·cache)) ∷ [])) $ split ! $
         move ! (9 ∷ 10 ∷ 11 ∷ 12 ∷ 13 ∷ 6 ∷ 4 ∷ 2 ∷ 0 ∷ 8 ∷ []) $ cut (gives·1) (raw (Callee·1 𝓤 H A mm rn .pre (to·1)) ∷ []) _ (calling·1 is·rec) $
         calls-at ! fm (Callee·1 𝓤 H A mm rn) known·1 (to·1) (and-then ! (load ! (from ! (stop !)) (look ! 5 refl)) (and-then ! (true-lit !) (and-then ! (load ! (from ! (stop !)) (look ! 6 refl)) (and-then ! (load ! (from ! (stop !)) (look ! 7 refl)) (and-then ! (load ! (from ! (stop !)) (look ! 8 refl)) (and-then ! (load ! (from ! (stop !)) (look ! 9 refl)) (and-then ! (load ! (from ! (stop !)) (look ! 10 refl)) (and-then ! (load ! (from ! (stop !)) (look ! 14 refl)) (no-more !))))))))) (λ w·1.
         come·1 w·1 _ tt (λ r·1 zs·1 did·1 was·1 d·1·counts.
@@ -161,9 +131,9 @@ module _ {M : Type 1} (𝓤 : URA M) (H : Heap 𝓤) (A : Atoms 𝓤) (W : Given
         move ! (9 ∷ 8 ∷ 7 ∷ 6 ∷ 5 ∷ 0 ∷ 1 ∷ 2 ∷ 3 ∷ 4 ∷ 10 ∷ 11 ∷ 12 ∷ 13 ∷ 14 ∷ 15 ∷ 16 ∷ 17 ∷ 18 ∷ 19 ∷ []) $ so r·1 zs·1 did·1 (refl, was·1 .1) d·1·counts))
 
   walk : (𝓣 : Tables 𝓤 H) (fm : FmC 𝓤 H (W .laws) (𝓣 .C)) (known·1 : Triple 𝓤 (𝓣 .C #·1) (Callee·1 𝓤 H A mm rn))
-      → ent 𝓤 (onEntry 𝓤 H A walked·.signature (κ·rec, (κ·chip, (κ·spare, (κ·directory, (κ·cache, (κ·counts, tt)))))) (q·rec, (q·chip, (q·spare, (q·directory, (q·cache, (q·counts, tt)))))) a vals) (WpFn 𝓤 H (𝓣 .C) (𝓣 .Λ) code.function ((vptr b·rec o·rec) ∷ (LL.val T·Geometry.the-type L·Geometry.the-laws v·g) ∷ s·chip ∷ s·spare ∷ s·directory ∷ s·cache ∷ s·counts ∷ []) Post)
+      → ent 𝓤 (onEntry 𝓤 H A walked·.signature (κ·rec, (κ·chip, (κ·spare, (κ·directory, (κ·cache, (κ·counts, tt)))))) (q·rec, (q·chip, (q·spare, (q·directory, (q·cache, (q·counts, tt)))))) a vals) (WpFn 𝓤 H (𝓣 .C) (𝓣 .Λ) code.function ((vptr b·rec o·rec) ∷ (LL.val T·Geometry.the-type L·Geometry.the-laws v·g) ∷ (sliceVal (b·chip, o·chip) (length l·chip)) ∷ (sliceVal (b·spare, o·spare) (length l·spare)) ∷ (sliceVal (b·directory, o·directory) (length l·directory)) ∷ (sliceVal (b·cache, o·cache) (length l·cache)) ∷ (sliceVal (b·counts, o·counts) (length l·counts)) ∷ []) Post)
   walk 𝓣 fm known·1 =
-      qed W ((‵ (flft κ·rec q·rec) ⊛ ‵ (flft κ·chip q·chip) ⊛ ‵ (flft κ·spare q·spare) ⊛ ‵ (flft κ·directory q·directory) ⊛ ‵ (flft κ·cache q·cache) ⊛ ‵ (flft κ·counts q·counts) ⊛ ‵ ftrue) ∷ ‵ (owns (ShrRef (named 0) κ·rec T·Record.the-row ∷ T·Geometry.the-row ∷ ShrSlice (named 1) κ·chip u32 ∷ ShrSlice (named 2) κ·spare u32 ∷ ShrSlice (named 3) κ·directory u32 ∷ ShrSlice (named 4) κ·cache u32 ∷ MutSlice (named 5) κ·counts u32 ∷ []) a vals) ∷ []) ∵ enter ! (𝓣 .C) (𝓣 .Λ) code.function ((vptr b·rec o·rec) ∷ (LL.val T·Geometry.the-type L·Geometry.the-laws v·g) ∷ s·chip ∷ s·spare ∷ s·directory ∷ s·cache ∷ s·counts ∷ []) _ $
+      qed W ((‵ (flft κ·rec q·rec) ⊛ ‵ (flft κ·chip q·chip) ⊛ ‵ (flft κ·spare q·spare) ⊛ ‵ (flft κ·directory q·directory) ⊛ ‵ (flft κ·cache q·cache) ⊛ ‵ (flft κ·counts q·counts) ⊛ ‵ ftrue) ∷ ‵ (owns (ShrRef (named 0) κ·rec T·Record.the-row ∷ T·Geometry.the-row ∷ ShrSlice (named 1) κ·chip u32 ∷ ShrSlice (named 2) κ·spare u32 ∷ ShrSlice (named 3) κ·directory u32 ∷ ShrSlice (named 4) κ·cache u32 ∷ MutSlice (named 5) κ·counts u32 ∷ []) a vals) ∷ []) ∵ enter ! (𝓣 .C) (𝓣 .Λ) code.function ((vptr b·rec o·rec) ∷ (LL.val T·Geometry.the-type L·Geometry.the-laws v·g) ∷ (sliceVal (b·chip, o·chip) (length l·chip)) ∷ (sliceVal (b·spare, o·spare) (length l·spare)) ∷ (sliceVal (b·directory, o·directory) (length l·directory)) ∷ (sliceVal (b·cache, o·cache) (length l·cache)) ∷ (sliceVal (b·counts, o·counts) (length l·counts)) ∷ []) _ $
       alloc1 ! (λ l·0. alloc1 ! (λ l·1. alloc1 ! (λ l·2. alloc1 ! (λ l·3. alloc1 ! (λ l·4. alloc1 ! (λ l·5. alloc1 ! (λ l·6. alloc1 ! (λ l·7. alloc1 ! (λ l·8. alloc1 ! (λ l·9. alloc1 ! (λ l·10. alloc0 ! $ params1 ! $
       pass1 ! (init ! 18 refl (tt, tt)) $ pass1 ! (init ! 16 refl (LL.lawful T·Geometry.the-type L·Geometry.the-laws 𝓤 H A W .typed v·g _ is·g .0)) $ pass1 ! (init ! 14 refl (tt, (tt, (record { fits = room·chip .0 }, tt)))) $ pass1 ! (init ! 12 refl (tt, (tt, (record { fits = room·spare .0 }, tt)))) $ pass1 ! (init ! 10 refl (tt, (tt, (record { fits = room·directory .0 }, tt)))) $ pass1 ! (init ! 8 refl (tt, (tt, (record { fits = room·cache .0 }, tt)))) $ pass1 ! (init ! 6 refl (tt, (tt, (record { fits = room·counts .0 }, tt)))) $ pass0 ! $
       move ! (23 ∷ []) $ fsplit ! $ move ! (1 ∷ []) $ fsplit ! $ drop ! $ fsplit ! $ move ! (1 ∷ []) $ fsplit ! $ move ! (1 ∷ []) $ fsplit ! $ move ! (1 ∷ []) $ fsplit ! $ move ! (1 ∷ []) $ fsplit ! $ move ! (29 ∷ []) $ split ! $ move ! (1 ∷ []) $ split ! $ move ! (1 ∷ []) $ split ! $ move ! (1 ∷ []) $ split ! $ move ! (1 ∷ []) $ split ! $ move ! (1 ∷ []) $ split ! $

@@ -58,7 +58,7 @@ use Rattle.face.proofs.read.Key.{name as #walked}
 use Rattle.face.proofs.read.Statement as stated
 use Rattle.face.proofs.read.Code as code
 use Rattle.face.proofs.read.Code.Mir as piece
-use Rattle.face.proofs.Rules.{lends-again, comes-back, holds, bare, frees-all}
+use Rattle.face.proofs.Rules.{slice, lends-again, comes-back, holds, bare, frees-all}
 use Rattle.lent.specs.Model.{geometry, state}
 use Rattle.scope.specs.Calls.{read}
 use Rattle.scope.specs.Requests.{replied}
@@ -71,47 +71,11 @@ abbrev Callee·1 : {M : Type 1} (𝓤 : URA M) (H : Heap 𝓤) (A : Atoms 𝓤) 
 Callee·1 𝓤 H A mm rn = tripleOf 𝓤 H A callee·1.signature (callee·1.spec 𝓤 H A mm rn)
 
 module _ {M : Type 1} (𝓤 : URA M) (H : Heap 𝓤) (A : Atoms 𝓤) (W : Given 𝓤 H A) (mm : Memory → SProp 𝓤) (rn : Routine → Fun 𝓤) (κ·rec : Lft) (q·rec : Share) (b·rec o·rec : ℕ) (γ·rec : GName) (v·rec : D·Record) (v·g : D·Geometry) (is·g : Is T·Geometry.the-row v·g ((LL.val T·Geometry.the-type L·Geometry.the-laws v·g) ∷ [])) (v·page : ℕ) (is·page : Is u32 v·page ((vint w32 v·page) ∷ [])) (κ·chip : Lft) (q·chip : Share) (b·chip o·chip : ℕ) (γ·chip : GName) (l·chip : List ℕ) (room·chip : Room u32 (length l·chip)) (κ·spare : Lft) (q·spare : Share) (b·spare o·spare : ℕ) (γ·spare : GName) (l·spare : List ℕ) (room·spare : Room u32 (length l·spare)) (κ·directory : Lft) (q·directory : Share) (b·directory o·directory : ℕ) (γ·directory : GName) (l·directory : List ℕ) (room·directory : Room u32 (length l·directory)) (κ·cache : Lft) (q·cache : Share) (b·cache o·cache : ℕ) (γ·cache : GName) (l·cache : List ℕ) (room·cache : Room u32 (length l·cache)) (κ·buffer : Lft) (q·buffer : Share) (b·buffer o·buffer : ℕ) (γ·buffer : GName) (l·buffer : List ℕ) (room·buffer : Room u32 (length l·buffer)) (κ·counts : Lft) (q·counts : Share) (b·counts o·counts : ℕ) (γ·counts : GName) (l·counts : List ℕ) (room·counts : Room u32 (length l·counts)) where
-  abbrev x·chip : GName → List ℕ → RefT (List ℕ)
-  x·chip δ z = record { ptr = (b·chip, o·chip); name = δ; now = z }
-
-  abbrev s·chip : Val
-  s·chip = sliceVal (b·chip, o·chip) (length l·chip)
-
-  abbrev x·spare : GName → List ℕ → RefT (List ℕ)
-  x·spare δ z = record { ptr = (b·spare, o·spare); name = δ; now = z }
-
-  abbrev s·spare : Val
-  s·spare = sliceVal (b·spare, o·spare) (length l·spare)
-
-  abbrev x·directory : GName → List ℕ → RefT (List ℕ)
-  x·directory δ z = record { ptr = (b·directory, o·directory); name = δ; now = z }
-
-  abbrev s·directory : Val
-  s·directory = sliceVal (b·directory, o·directory) (length l·directory)
-
-  abbrev x·cache : GName → List ℕ → RefT (List ℕ)
-  x·cache δ z = record { ptr = (b·cache, o·cache); name = δ; now = z }
-
-  abbrev s·cache : Val
-  s·cache = sliceVal (b·cache, o·cache) (length l·cache)
-
-  abbrev x·buffer : GName → List ℕ → RefT (List ℕ)
-  x·buffer δ z = record { ptr = (b·buffer, o·buffer); name = δ; now = z }
-
-  abbrev s·buffer : Val
-  s·buffer = sliceVal (b·buffer, o·buffer) (length l·buffer)
-
-  abbrev x·counts : GName → List ℕ → RefT (List ℕ)
-  x·counts δ z = record { ptr = (b·counts, o·counts); name = δ; now = z }
-
-  abbrev s·counts : Val
-  s·counts = sliceVal (b·counts, o·counts) (length l·counts)
-
   abbrev a : RefT D·Record × (D·Geometry × (ℕ × (RefT (List ℕ) × (RefT (List ℕ) × (RefT (List ℕ) × (RefT (List ℕ) × (RefT (List ℕ) × (RefT (List ℕ) × (Unit {0})))))))))
-  a = (record { ptr = (b·rec, o·rec); name = γ·rec; now = v·rec }, (v·g, (v·page, (x·chip γ·chip l·chip, (x·spare γ·spare l·spare, (x·directory γ·directory l·directory, (x·cache γ·cache l·cache, (x·buffer γ·buffer l·buffer, (x·counts γ·counts l·counts, tt)))))))))
+  a = (record { ptr = (b·rec, o·rec); name = γ·rec; now = v·rec }, (v·g, (v·page, (slice u32 b·chip o·chip γ·chip l·chip, (slice u32 b·spare o·spare γ·spare l·spare, (slice u32 b·directory o·directory γ·directory l·directory, (slice u32 b·cache o·cache γ·cache l·cache, (slice u32 b·buffer o·buffer γ·buffer l·buffer, (slice u32 b·counts o·counts γ·counts l·counts, tt)))))))))
 
   abbrev vals : List Val × (List Val × (List Val × (List Val × (List Val × (List Val × (List Val × (List Val × (List Val × (Unit {0})))))))))
-  vals = ((vptr b·rec o·rec) ∷ [], ((LL.val T·Geometry.the-type L·Geometry.the-laws v·g) ∷ [], ((vint w32 v·page) ∷ [], (s·chip ∷ [], (s·spare ∷ [], (s·directory ∷ [], (s·cache ∷ [], (s·buffer ∷ [], (s·counts ∷ [], tt)))))))))
+  vals = ((vptr b·rec o·rec) ∷ [], ((LL.val T·Geometry.the-type L·Geometry.the-laws v·g) ∷ [], ((vint w32 v·page) ∷ [], ((sliceVal (b·chip, o·chip) (length l·chip)) ∷ [], ((sliceVal (b·spare, o·spare) (length l·spare)) ∷ [], ((sliceVal (b·directory, o·directory) (length l·directory)) ∷ [], ((sliceVal (b·cache, o·cache) (length l·cache)) ∷ [], ((sliceVal (b·buffer, o·buffer) (length l·buffer)) ∷ [], ((sliceVal (b·counts, o·counts) (length l·counts)) ∷ [], tt)))))))))
 
   abbrev Post : Val → SProp 𝓤
   Post = walkOf 𝓤 H A walked·.ended stayed (walked·.clauses 𝓤 H A mm rn) .post (((κ·rec, (κ·chip, (κ·spare, (κ·directory, (κ·cache, (κ·buffer, (κ·counts, tt))))))), (q·rec, (q·chip, (q·spare, (q·directory, (q·cache, (q·buffer, (q·counts, tt))))))), tt, a, vals), tt)
@@ -120,16 +84,16 @@ module _ {M : Type 1} (𝓤 : URA M) (H : Heap 𝓤) (A : Atoms 𝓤) (W : Given
   Did·1 r·1 zs·1 = Answers (read (geometry v·g) (right-lengths true (l·counts)) v·page (l·buffer) (state (l·chip) (l·spare) (l·directory) (l·cache) v·rec)) (l·counts) (replied ((zs·1 .1 .1 .1 .1 .1 .1 .1 .1 .0)) (r·1 .answer)) (state ((zs·1 .1 .1 .1 .1 .0)) ((zs·1 .1 .1 .1 .1 .1 .0)) ((zs·1 .1 .1 .1 .1 .1 .1 .0)) ((zs·1 .1 .1 .1 .1 .1 .1 .1 .0)) (r·1 .rec)) ((zs·1 .1 .1 .1 .1 .1 .1 .1 .1 .1 .0))
 
   abbrev ca·1 : D·Record × (Bool × (D·Geometry × (ℕ × (RefT (List ℕ) × (RefT (List ℕ) × (RefT (List ℕ) × (RefT (List ℕ) × (RefT (List ℕ) × (RefT (List ℕ) × (Unit {0}))))))))))
-  ca·1 = (v·rec, (true, (v·g, (v·page, (x·chip γ·chip l·chip, (x·spare γ·spare l·spare, (x·directory γ·directory l·directory, (x·cache γ·cache l·cache, (x·buffer γ·buffer l·buffer, (x·counts γ·counts l·counts, tt))))))))))
+  ca·1 = (v·rec, (true, (v·g, (v·page, (slice u32 b·chip o·chip γ·chip l·chip, (slice u32 b·spare o·spare γ·spare l·spare, (slice u32 b·directory o·directory γ·directory l·directory, (slice u32 b·cache o·cache γ·cache l·cache, (slice u32 b·buffer o·buffer γ·buffer l·buffer, (slice u32 b·counts o·counts γ·counts l·counts, tt))))))))))
 
   abbrev cv·1 : List Val × (List Val × (List Val × (List Val × (List Val × (List Val × (List Val × (List Val × (List Val × (List Val × (Unit {0}))))))))))
-  cv·1 = ((LL.val T·Record.the-type L·Record.the-laws v·rec) ∷ [], ((vbool true) ∷ [], ((LL.val T·Geometry.the-type L·Geometry.the-laws v·g) ∷ [], ((vint w32 v·page) ∷ [], (s·chip ∷ [], (s·spare ∷ [], (s·directory ∷ [], (s·cache ∷ [], (s·buffer ∷ [], (s·counts ∷ [], tt))))))))))
+  cv·1 = ((LL.val T·Record.the-type L·Record.the-laws v·rec) ∷ [], ((vbool true) ∷ [], ((LL.val T·Geometry.the-type L·Geometry.the-laws v·g) ∷ [], ((vint w32 v·page) ∷ [], ((sliceVal (b·chip, o·chip) (length l·chip)) ∷ [], ((sliceVal (b·spare, o·spare) (length l·spare)) ∷ [], ((sliceVal (b·directory, o·directory) (length l·directory)) ∷ [], ((sliceVal (b·cache, o·cache) (length l·cache)) ∷ [], ((sliceVal (b·buffer, o·buffer) (length l·buffer)) ∷ [], ((sliceVal (b·counts, o·counts) (length l·counts)) ∷ [], tt))))))))))
 
   abbrev to·1 : Callee·1 𝓤 H A mm rn .Ghost
   to·1 = (((κ·chip, (κ·spare, (κ·directory, (κ·cache, (κ·buffer, (κ·counts, tt)))))), (q·chip, (q·spare, (q·directory, (q·cache, (q·buffer, (q·counts, tt)))))), tt, (ca·1), (cv·1)), tt)
 
   abbrev gives·1 : List (Item 𝓤)
-  gives·1 = ‵ (flft κ·chip q·chip) ∷ ‵ (flft κ·spare q·spare) ∷ ‵ (flft κ·directory q·directory) ∷ ‵ (flft κ·cache q·cache) ∷ ‵ (flft κ·buffer q·buffer) ∷ ‵ (flft κ·counts q·counts) ∷ ‵ (MutSlice (named 0) κ·chip u32 .own (x·chip γ·chip l·chip) (s·chip ∷ [])) ∷ ‵ (MutSlice (named 1) κ·spare u32 .own (x·spare γ·spare l·spare) (s·spare ∷ [])) ∷ ‵ (MutSlice (named 2) κ·directory u32 .own (x·directory γ·directory l·directory) (s·directory ∷ [])) ∷ ‵ (MutSlice (named 3) κ·cache u32 .own (x·cache γ·cache l·cache) (s·cache ∷ [])) ∷ ‵ (MutSlice (named 4) κ·buffer u32 .own (x·buffer γ·buffer l·buffer) (s·buffer ∷ [])) ∷ ‵ (MutSlice (named 5) κ·counts u32 .own (x·counts γ·counts l·counts) (s·counts ∷ [])) ∷ []
+  gives·1 = ‵ (flft κ·chip q·chip) ∷ ‵ (flft κ·spare q·spare) ∷ ‵ (flft κ·directory q·directory) ∷ ‵ (flft κ·cache q·cache) ∷ ‵ (flft κ·buffer q·buffer) ∷ ‵ (flft κ·counts q·counts) ∷ ‵ (MutSlice (named 0) κ·chip u32 .own (slice u32 b·chip o·chip γ·chip l·chip) ((sliceVal (b·chip, o·chip) (length l·chip)) ∷ [])) ∷ ‵ (MutSlice (named 1) κ·spare u32 .own (slice u32 b·spare o·spare γ·spare l·spare) ((sliceVal (b·spare, o·spare) (length l·spare)) ∷ [])) ∷ ‵ (MutSlice (named 2) κ·directory u32 .own (slice u32 b·directory o·directory γ·directory l·directory) ((sliceVal (b·directory, o·directory) (length l·directory)) ∷ [])) ∷ ‵ (MutSlice (named 3) κ·cache u32 .own (slice u32 b·cache o·cache γ·cache l·cache) ((sliceVal (b·cache, o·cache) (length l·cache)) ∷ [])) ∷ ‵ (MutSlice (named 4) κ·buffer u32 .own (slice u32 b·buffer o·buffer γ·buffer l·buffer) ((sliceVal (b·buffer, o·buffer) (length l·buffer)) ∷ [])) ∷ ‵ (MutSlice (named 5) κ·counts u32 .own (slice u32 b·counts o·counts γ·counts l·counts) ((sliceVal (b·counts, o·counts) (length l·counts)) ∷ [])) ∷ []
 
   calling·1 : (is·rec : Is T·Record.the-row v·rec ((LL.val T·Record.the-type L·Record.the-laws v·rec) ∷ [])) → ent 𝓤 (⋆ 𝓤 H A (gives·1)) (Callee·1 𝓤 H A mm rn .pre (to·1))
   calling·1 is·rec =
@@ -155,8 +119,8 @@ module _ {M : Type 1} (𝓤 : URA M) (H : Heap 𝓤) (A : Atoms 𝓤) (W : Given
     En = ((tyInt w32), l·0) ∷ ((tyRef (named 0) mut (pointee (T·Record.the-row .written))), l·1) ∷ (L·Geometry.mir, l·2) ∷ ((tyInt w32), l·3) ∷ ((sliceTy (tyRef (named 1) mut (tyInt w32))), l·4) ∷ ((sliceTy (tyRef (named 2) mut (tyInt w32))), l·5) ∷ ((sliceTy (tyRef (named 3) mut (tyInt w32))), l·6) ∷ ((sliceTy (tyRef (named 4) mut (tyInt w32))), l·7) ∷ ((sliceTy (tyRef (named 5) mut (tyInt w32))), l·8) ∷ ((sliceTy (tyRef (named 6) mut (tyInt w32))), l·9) ∷ (L·Record.mir, l·10) ∷ (L·Out.mir, l·11) ∷ ((tyRef erased mut (tyInt w32)), l·12) ∷ ((sliceTy (tyRef erased mut (tyInt w32))), l·13) ∷ ((tyRef erased mut (tyInt w32)), l·14) ∷ ((sliceTy (tyRef erased mut (tyInt w32))), l·15) ∷ ((tyRef erased mut (tyInt w32)), l·16) ∷ ((sliceTy (tyRef erased mut (tyInt w32))), l·17) ∷ ((tyRef erased mut (tyInt w32)), l·18) ∷ ((sliceTy (tyRef erased mut (tyInt w32))), l·19) ∷ ((tyRef erased mut (tyInt w32)), l·20) ∷ ((sliceTy (tyRef erased mut (tyInt w32))), l·21) ∷ ((tyRef erased mut (tyInt w32)), l·22) ∷ ((sliceTy (tyRef erased mut (tyInt w32))), l·23) ∷ []
 
     call·1 : (is·rec : Is T·Record.the-row v·rec ((LL.val T·Record.the-type L·Record.the-laws v·rec) ∷ [])) (Γ : List (Item 𝓤))
-        → ((r·1 : D·Out) (zs·1 : Unit {0} × (Unit {0} × (Unit {0} × (Unit {0} × (List ℕ × (List ℕ × (List ℕ × (List ℕ × (List ℕ × (List ℕ × (Unit {0}))))))))))) (did·1 : Did·1 r·1 zs·1) (is·1 : Is T·Out.the-row r·1 ((LL.val T·Out.the-type L·Out.the-laws r·1) ∷ [])) (d·1·chip : length (zs·1 .1 .1 .1 .1 .0) ≡ length l·chip) (d·1·spare : length (zs·1 .1 .1 .1 .1 .1 .0) ≡ length l·spare) (d·1·directory : length (zs·1 .1 .1 .1 .1 .1 .1 .0) ≡ length l·directory) (d·1·cache : length (zs·1 .1 .1 .1 .1 .1 .1 .1 .0) ≡ length l·cache) (d·1·buffer : length (zs·1 .1 .1 .1 .1 .1 .1 .1 .1 .0) ≡ length l·buffer) (d·1·counts : length (zs·1 .1 .1 .1 .1 .1 .1 .1 .1 .1 .0) ≡ length l·counts) → Sq W (‵ (finally u32 γ·chip (zs·1 .1 .1 .1 .1 .0)) ∷ ‵ (finally u32 γ·spare (zs·1 .1 .1 .1 .1 .1 .0)) ∷ ‵ (finally u32 γ·directory (zs·1 .1 .1 .1 .1 .1 .1 .0)) ∷ ‵ (finally u32 γ·cache (zs·1 .1 .1 .1 .1 .1 .1 .1 .0)) ∷ ‵ (finally u32 γ·buffer (zs·1 .1 .1 .1 .1 .1 .1 .1 .1 .0)) ∷ ‵ (finally u32 γ·counts (zs·1 .1 .1 .1 .1 .1 .1 .1 .1 .1 .0)) ∷ ‵ (flft κ·chip q·chip) ∷ ‵ (flft κ·spare q·spare) ∷ ‵ (flft κ·directory q·directory) ∷ ‵ (flft κ·cache q·cache) ∷ ‵ (flft κ·buffer q·buffer) ∷ ‵ (flft κ·counts q·counts) ∷ ‵ (fat fullShare L·Record.mir l·10 0 (LL.val T·Record.the-type L·Record.the-laws v·rec)) ∷ ‵ (fat fullShare L·Geometry.mir l·2 0 (LL.val T·Geometry.the-type L·Geometry.the-laws v·g)) ∷ ‵ (fat fullShare (tyInt w32) l·3 0 (vint w32 v·page)) ∷ ‵ (fat fullShare (sliceTy (tyRef (named 1) mut (tyInt w32))) l·4 0 s·chip) ∷ ‵ (fat fullShare (sliceTy (tyRef (named 2) mut (tyInt w32))) l·5 0 s·spare) ∷ ‵ (fat fullShare (sliceTy (tyRef (named 3) mut (tyInt w32))) l·6 0 s·directory) ∷ ‵ (fat fullShare (sliceTy (tyRef (named 4) mut (tyInt w32))) l·7 0 s·cache) ∷ ‵ (fat fullShare (sliceTy (tyRef (named 5) mut (tyInt w32))) l·8 0 s·buffer) ∷ ‵ (fat fullShare (sliceTy (tyRef (named 6) mut (tyInt w32))) l·9 0 s·counts) ∷ ‵ (fat fullShare L·Out.mir l·11 0 (LL.val T·Out.the-type L·Out.the-laws r·1)) ∷ ‵ (froom (tyRef erased mut (tyInt w32)) l·12 0) ∷ ‵ (froom (sliceTy (tyRef erased mut (tyInt w32))) l·13 0) ∷ ‵ (froom (tyRef erased mut (tyInt w32)) l·14 0) ∷ ‵ (froom (sliceTy (tyRef erased mut (tyInt w32))) l·15 0) ∷ ‵ (froom (tyRef erased mut (tyInt w32)) l·16 0) ∷ ‵ (froom (sliceTy (tyRef erased mut (tyInt w32))) l·17 0) ∷ ‵ (froom (tyRef erased mut (tyInt w32)) l·18 0) ∷ ‵ (froom (sliceTy (tyRef erased mut (tyInt w32))) l·19 0) ∷ ‵ (froom (tyRef erased mut (tyInt w32)) l·20 0) ∷ ‵ (froom (sliceTy (tyRef erased mut (tyInt w32))) l·21 0) ∷ ‵ (froom (tyRef erased mut (tyInt w32)) l·22 0) ∷ ‵ (froom (sliceTy (tyRef erased mut (tyInt w32))) l·23 0) ∷ Γ) (runs (𝓣 .C) (𝓣 .Λ) En piece.t-15 (atRet En Post)))
-        → Sq W (‵ (MutSlice (named 1) κ·chip u32 .own (x·chip γ·chip l·chip) (s·chip ∷ [])) ∷ ‵ (MutSlice (named 2) κ·spare u32 .own (x·spare γ·spare l·spare) (s·spare ∷ [])) ∷ ‵ (MutSlice (named 3) κ·directory u32 .own (x·directory γ·directory l·directory) (s·directory ∷ [])) ∷ ‵ (MutSlice (named 4) κ·cache u32 .own (x·cache γ·cache l·cache) (s·cache ∷ [])) ∷ ‵ (MutSlice (named 5) κ·buffer u32 .own (x·buffer γ·buffer l·buffer) (s·buffer ∷ [])) ∷ ‵ (MutSlice (named 6) κ·counts u32 .own (x·counts γ·counts l·counts) (s·counts ∷ [])) ∷ ‵ (flft κ·chip q·chip) ∷ ‵ (flft κ·spare q·spare) ∷ ‵ (flft κ·directory q·directory) ∷ ‵ (flft κ·cache q·cache) ∷ ‵ (flft κ·buffer q·buffer) ∷ ‵ (flft κ·counts q·counts) ∷ ‵ (fat fullShare L·Record.mir l·10 0 (LL.val T·Record.the-type L·Record.the-laws v·rec)) ∷ ‵ (fat fullShare L·Geometry.mir l·2 0 (LL.val T·Geometry.the-type L·Geometry.the-laws v·g)) ∷ ‵ (fat fullShare (tyInt w32) l·3 0 (vint w32 v·page)) ∷ ‵ (fat fullShare (sliceTy (tyRef (named 1) mut (tyInt w32))) l·4 0 s·chip) ∷ ‵ (fat fullShare (sliceTy (tyRef (named 2) mut (tyInt w32))) l·5 0 s·spare) ∷ ‵ (fat fullShare (sliceTy (tyRef (named 3) mut (tyInt w32))) l·6 0 s·directory) ∷ ‵ (fat fullShare (sliceTy (tyRef (named 4) mut (tyInt w32))) l·7 0 s·cache) ∷ ‵ (fat fullShare (sliceTy (tyRef (named 5) mut (tyInt w32))) l·8 0 s·buffer) ∷ ‵ (fat fullShare (sliceTy (tyRef (named 6) mut (tyInt w32))) l·9 0 s·counts) ∷ ‵ (froom L·Out.mir l·11 0) ∷ ‵ (froom (tyRef erased mut (tyInt w32)) l·12 0) ∷ ‵ (froom (sliceTy (tyRef erased mut (tyInt w32))) l·13 0) ∷ ‵ (froom (tyRef erased mut (tyInt w32)) l·14 0) ∷ ‵ (froom (sliceTy (tyRef erased mut (tyInt w32))) l·15 0) ∷ ‵ (froom (tyRef erased mut (tyInt w32)) l·16 0) ∷ ‵ (froom (sliceTy (tyRef erased mut (tyInt w32))) l·17 0) ∷ ‵ (froom (tyRef erased mut (tyInt w32)) l·18 0) ∷ ‵ (froom (sliceTy (tyRef erased mut (tyInt w32))) l·19 0) ∷ ‵ (froom (tyRef erased mut (tyInt w32)) l·20 0) ∷ ‵ (froom (sliceTy (tyRef erased mut (tyInt w32))) l·21 0) ∷ ‵ (froom (tyRef erased mut (tyInt w32)) l·22 0) ∷ ‵ (froom (sliceTy (tyRef erased mut (tyInt w32))) l·23 0) ∷ Γ) (runs (𝓣 .C) (𝓣 .Λ) En piece.t-2 (atRet En Post))
+        → ((r·1 : D·Out) (zs·1 : Unit {0} × (Unit {0} × (Unit {0} × (Unit {0} × (List ℕ × (List ℕ × (List ℕ × (List ℕ × (List ℕ × (List ℕ × (Unit {0}))))))))))) (did·1 : Did·1 r·1 zs·1) (is·1 : Is T·Out.the-row r·1 ((LL.val T·Out.the-type L·Out.the-laws r·1) ∷ [])) (d·1·chip : length (zs·1 .1 .1 .1 .1 .0) ≡ length l·chip) (d·1·spare : length (zs·1 .1 .1 .1 .1 .1 .0) ≡ length l·spare) (d·1·directory : length (zs·1 .1 .1 .1 .1 .1 .1 .0) ≡ length l·directory) (d·1·cache : length (zs·1 .1 .1 .1 .1 .1 .1 .1 .0) ≡ length l·cache) (d·1·buffer : length (zs·1 .1 .1 .1 .1 .1 .1 .1 .1 .0) ≡ length l·buffer) (d·1·counts : length (zs·1 .1 .1 .1 .1 .1 .1 .1 .1 .1 .0) ≡ length l·counts) → Sq W (‵ (finally u32 γ·chip (zs·1 .1 .1 .1 .1 .0)) ∷ ‵ (finally u32 γ·spare (zs·1 .1 .1 .1 .1 .1 .0)) ∷ ‵ (finally u32 γ·directory (zs·1 .1 .1 .1 .1 .1 .1 .0)) ∷ ‵ (finally u32 γ·cache (zs·1 .1 .1 .1 .1 .1 .1 .1 .0)) ∷ ‵ (finally u32 γ·buffer (zs·1 .1 .1 .1 .1 .1 .1 .1 .1 .0)) ∷ ‵ (finally u32 γ·counts (zs·1 .1 .1 .1 .1 .1 .1 .1 .1 .1 .0)) ∷ ‵ (flft κ·chip q·chip) ∷ ‵ (flft κ·spare q·spare) ∷ ‵ (flft κ·directory q·directory) ∷ ‵ (flft κ·cache q·cache) ∷ ‵ (flft κ·buffer q·buffer) ∷ ‵ (flft κ·counts q·counts) ∷ ‵ (fat fullShare L·Record.mir l·10 0 (LL.val T·Record.the-type L·Record.the-laws v·rec)) ∷ ‵ (fat fullShare L·Geometry.mir l·2 0 (LL.val T·Geometry.the-type L·Geometry.the-laws v·g)) ∷ ‵ (fat fullShare (tyInt w32) l·3 0 (vint w32 v·page)) ∷ ‵ (fat fullShare (sliceTy (tyRef (named 1) mut (tyInt w32))) l·4 0 (sliceVal (b·chip, o·chip) (length l·chip))) ∷ ‵ (fat fullShare (sliceTy (tyRef (named 2) mut (tyInt w32))) l·5 0 (sliceVal (b·spare, o·spare) (length l·spare))) ∷ ‵ (fat fullShare (sliceTy (tyRef (named 3) mut (tyInt w32))) l·6 0 (sliceVal (b·directory, o·directory) (length l·directory))) ∷ ‵ (fat fullShare (sliceTy (tyRef (named 4) mut (tyInt w32))) l·7 0 (sliceVal (b·cache, o·cache) (length l·cache))) ∷ ‵ (fat fullShare (sliceTy (tyRef (named 5) mut (tyInt w32))) l·8 0 (sliceVal (b·buffer, o·buffer) (length l·buffer))) ∷ ‵ (fat fullShare (sliceTy (tyRef (named 6) mut (tyInt w32))) l·9 0 (sliceVal (b·counts, o·counts) (length l·counts))) ∷ ‵ (fat fullShare L·Out.mir l·11 0 (LL.val T·Out.the-type L·Out.the-laws r·1)) ∷ ‵ (froom (tyRef erased mut (tyInt w32)) l·12 0) ∷ ‵ (froom (sliceTy (tyRef erased mut (tyInt w32))) l·13 0) ∷ ‵ (froom (tyRef erased mut (tyInt w32)) l·14 0) ∷ ‵ (froom (sliceTy (tyRef erased mut (tyInt w32))) l·15 0) ∷ ‵ (froom (tyRef erased mut (tyInt w32)) l·16 0) ∷ ‵ (froom (sliceTy (tyRef erased mut (tyInt w32))) l·17 0) ∷ ‵ (froom (tyRef erased mut (tyInt w32)) l·18 0) ∷ ‵ (froom (sliceTy (tyRef erased mut (tyInt w32))) l·19 0) ∷ ‵ (froom (tyRef erased mut (tyInt w32)) l·20 0) ∷ ‵ (froom (sliceTy (tyRef erased mut (tyInt w32))) l·21 0) ∷ ‵ (froom (tyRef erased mut (tyInt w32)) l·22 0) ∷ ‵ (froom (sliceTy (tyRef erased mut (tyInt w32))) l·23 0) ∷ Γ) (runs (𝓣 .C) (𝓣 .Λ) En piece.t-15 (atRet En Post)))
+        → Sq W (‵ (MutSlice (named 1) κ·chip u32 .own (slice u32 b·chip o·chip γ·chip l·chip) ((sliceVal (b·chip, o·chip) (length l·chip)) ∷ [])) ∷ ‵ (MutSlice (named 2) κ·spare u32 .own (slice u32 b·spare o·spare γ·spare l·spare) ((sliceVal (b·spare, o·spare) (length l·spare)) ∷ [])) ∷ ‵ (MutSlice (named 3) κ·directory u32 .own (slice u32 b·directory o·directory γ·directory l·directory) ((sliceVal (b·directory, o·directory) (length l·directory)) ∷ [])) ∷ ‵ (MutSlice (named 4) κ·cache u32 .own (slice u32 b·cache o·cache γ·cache l·cache) ((sliceVal (b·cache, o·cache) (length l·cache)) ∷ [])) ∷ ‵ (MutSlice (named 5) κ·buffer u32 .own (slice u32 b·buffer o·buffer γ·buffer l·buffer) ((sliceVal (b·buffer, o·buffer) (length l·buffer)) ∷ [])) ∷ ‵ (MutSlice (named 6) κ·counts u32 .own (slice u32 b·counts o·counts γ·counts l·counts) ((sliceVal (b·counts, o·counts) (length l·counts)) ∷ [])) ∷ ‵ (flft κ·chip q·chip) ∷ ‵ (flft κ·spare q·spare) ∷ ‵ (flft κ·directory q·directory) ∷ ‵ (flft κ·cache q·cache) ∷ ‵ (flft κ·buffer q·buffer) ∷ ‵ (flft κ·counts q·counts) ∷ ‵ (fat fullShare L·Record.mir l·10 0 (LL.val T·Record.the-type L·Record.the-laws v·rec)) ∷ ‵ (fat fullShare L·Geometry.mir l·2 0 (LL.val T·Geometry.the-type L·Geometry.the-laws v·g)) ∷ ‵ (fat fullShare (tyInt w32) l·3 0 (vint w32 v·page)) ∷ ‵ (fat fullShare (sliceTy (tyRef (named 1) mut (tyInt w32))) l·4 0 (sliceVal (b·chip, o·chip) (length l·chip))) ∷ ‵ (fat fullShare (sliceTy (tyRef (named 2) mut (tyInt w32))) l·5 0 (sliceVal (b·spare, o·spare) (length l·spare))) ∷ ‵ (fat fullShare (sliceTy (tyRef (named 3) mut (tyInt w32))) l·6 0 (sliceVal (b·directory, o·directory) (length l·directory))) ∷ ‵ (fat fullShare (sliceTy (tyRef (named 4) mut (tyInt w32))) l·7 0 (sliceVal (b·cache, o·cache) (length l·cache))) ∷ ‵ (fat fullShare (sliceTy (tyRef (named 5) mut (tyInt w32))) l·8 0 (sliceVal (b·buffer, o·buffer) (length l·buffer))) ∷ ‵ (fat fullShare (sliceTy (tyRef (named 6) mut (tyInt w32))) l·9 0 (sliceVal (b·counts, o·counts) (length l·counts))) ∷ ‵ (froom L·Out.mir l·11 0) ∷ ‵ (froom (tyRef erased mut (tyInt w32)) l·12 0) ∷ ‵ (froom (sliceTy (tyRef erased mut (tyInt w32))) l·13 0) ∷ ‵ (froom (tyRef erased mut (tyInt w32)) l·14 0) ∷ ‵ (froom (sliceTy (tyRef erased mut (tyInt w32))) l·15 0) ∷ ‵ (froom (tyRef erased mut (tyInt w32)) l·16 0) ∷ ‵ (froom (sliceTy (tyRef erased mut (tyInt w32))) l·17 0) ∷ ‵ (froom (tyRef erased mut (tyInt w32)) l·18 0) ∷ ‵ (froom (sliceTy (tyRef erased mut (tyInt w32))) l·19 0) ∷ ‵ (froom (tyRef erased mut (tyInt w32)) l·20 0) ∷ ‵ (froom (sliceTy (tyRef erased mut (tyInt w32))) l·21 0) ∷ ‵ (froom (tyRef erased mut (tyInt w32)) l·22 0) ∷ ‵ (froom (sliceTy (tyRef erased mut (tyInt w32))) l·23 0) ∷ Γ) (runs (𝓣 .C) (𝓣 .Λ) En piece.t-2 (atRet En Post))
     call·1 is·rec Γ so =
         assigns ! (addr ! (from ! (fld ! refl (hop ! (look-in ! 15 (sub ! 0 refl (whole !))) (stop !))))) (from ! (stop !)) (init ! 22 refl (tt, tt)) $
         assigns ! (agg ! (and-then ! (load ! (from ! (stop !)) (look ! 22 refl)) (and-then ! (load ! (from ! (fld ! refl (stop !))) (look-in ! 15 (sub ! 1 refl (whole !)))) (no-more !)))) (from ! (stop !)) (init ! 23 refl (tt, (tt, (record { fits = room·chip .0 }, tt)))) $
@@ -178,9 +142,9 @@ module _ {M : Type 1} (𝓤 : URA M) (H : Heap 𝓤) (A : Atoms 𝓤) (W : Given
         move ! (6 ∷ 7 ∷ 8 ∷ 9 ∷ 10 ∷ 11 ∷ 0 ∷ 1 ∷ 2 ∷ 3 ∷ 4 ∷ 5 ∷ 12 ∷ 13 ∷ 14 ∷ 15 ∷ 16 ∷ 17 ∷ 18 ∷ 19 ∷ 20 ∷ 21 ∷ 22 ∷ 23 ∷ 24 ∷ 25 ∷ 26 ∷ 27 ∷ 28 ∷ 29 ∷ 30 ∷ 31 ∷ 32 ∷ 33 ∷ []) $ so r·1 zs·1 did·1 (LL.owes T·Out.the-type L·Out.the-laws r·1 (LL.owed T·Out.the-type L·Out.the-laws r·1 _ was·1)) d·1·chip d·1·spare d·1·directory d·1·cache d·1·buffer d·1·counts))
 
   walk : (𝓣 : Tables 𝓤 H) (fm : FmC 𝓤 H (W .laws) (𝓣 .C)) (known·1 : Triple 𝓤 (𝓣 .C #·1) (Callee·1 𝓤 H A mm rn))
-      → ent 𝓤 (onEntry 𝓤 H A walked·.signature (κ·rec, (κ·chip, (κ·spare, (κ·directory, (κ·cache, (κ·buffer, (κ·counts, tt))))))) (q·rec, (q·chip, (q·spare, (q·directory, (q·cache, (q·buffer, (q·counts, tt))))))) a vals) (WpFn 𝓤 H (𝓣 .C) (𝓣 .Λ) code.function ((vptr b·rec o·rec) ∷ (LL.val T·Geometry.the-type L·Geometry.the-laws v·g) ∷ (vint w32 v·page) ∷ s·chip ∷ s·spare ∷ s·directory ∷ s·cache ∷ s·buffer ∷ s·counts ∷ []) Post)
+      → ent 𝓤 (onEntry 𝓤 H A walked·.signature (κ·rec, (κ·chip, (κ·spare, (κ·directory, (κ·cache, (κ·buffer, (κ·counts, tt))))))) (q·rec, (q·chip, (q·spare, (q·directory, (q·cache, (q·buffer, (q·counts, tt))))))) a vals) (WpFn 𝓤 H (𝓣 .C) (𝓣 .Λ) code.function ((vptr b·rec o·rec) ∷ (LL.val T·Geometry.the-type L·Geometry.the-laws v·g) ∷ (vint w32 v·page) ∷ (sliceVal (b·chip, o·chip) (length l·chip)) ∷ (sliceVal (b·spare, o·spare) (length l·spare)) ∷ (sliceVal (b·directory, o·directory) (length l·directory)) ∷ (sliceVal (b·cache, o·cache) (length l·cache)) ∷ (sliceVal (b·buffer, o·buffer) (length l·buffer)) ∷ (sliceVal (b·counts, o·counts) (length l·counts)) ∷ []) Post)
   walk 𝓣 fm known·1 =
-      qed W ((‵ (flft κ·rec q·rec) ⊛ ‵ (flft κ·chip q·chip) ⊛ ‵ (flft κ·spare q·spare) ⊛ ‵ (flft κ·directory q·directory) ⊛ ‵ (flft κ·cache q·cache) ⊛ ‵ (flft κ·buffer q·buffer) ⊛ ‵ (flft κ·counts q·counts) ⊛ ‵ ftrue) ∷ ‵ (owns (MutRef (named 0) κ·rec T·Record.the-row ∷ T·Geometry.the-row ∷ u32 ∷ MutSlice (named 1) κ·chip u32 ∷ MutSlice (named 2) κ·spare u32 ∷ MutSlice (named 3) κ·directory u32 ∷ MutSlice (named 4) κ·cache u32 ∷ MutSlice (named 5) κ·buffer u32 ∷ MutSlice (named 6) κ·counts u32 ∷ []) a vals) ∷ []) ∵ enter ! (𝓣 .C) (𝓣 .Λ) code.function ((vptr b·rec o·rec) ∷ (LL.val T·Geometry.the-type L·Geometry.the-laws v·g) ∷ (vint w32 v·page) ∷ s·chip ∷ s·spare ∷ s·directory ∷ s·cache ∷ s·buffer ∷ s·counts ∷ []) _ $
+      qed W ((‵ (flft κ·rec q·rec) ⊛ ‵ (flft κ·chip q·chip) ⊛ ‵ (flft κ·spare q·spare) ⊛ ‵ (flft κ·directory q·directory) ⊛ ‵ (flft κ·cache q·cache) ⊛ ‵ (flft κ·buffer q·buffer) ⊛ ‵ (flft κ·counts q·counts) ⊛ ‵ ftrue) ∷ ‵ (owns (MutRef (named 0) κ·rec T·Record.the-row ∷ T·Geometry.the-row ∷ u32 ∷ MutSlice (named 1) κ·chip u32 ∷ MutSlice (named 2) κ·spare u32 ∷ MutSlice (named 3) κ·directory u32 ∷ MutSlice (named 4) κ·cache u32 ∷ MutSlice (named 5) κ·buffer u32 ∷ MutSlice (named 6) κ·counts u32 ∷ []) a vals) ∷ []) ∵ enter ! (𝓣 .C) (𝓣 .Λ) code.function ((vptr b·rec o·rec) ∷ (LL.val T·Geometry.the-type L·Geometry.the-laws v·g) ∷ (vint w32 v·page) ∷ (sliceVal (b·chip, o·chip) (length l·chip)) ∷ (sliceVal (b·spare, o·spare) (length l·spare)) ∷ (sliceVal (b·directory, o·directory) (length l·directory)) ∷ (sliceVal (b·cache, o·cache) (length l·cache)) ∷ (sliceVal (b·buffer, o·buffer) (length l·buffer)) ∷ (sliceVal (b·counts, o·counts) (length l·counts)) ∷ []) _ $
       alloc1 ! (λ l·0. alloc1 ! (λ l·1. alloc1 ! (λ l·2. alloc1 ! (λ l·3. alloc1 ! (λ l·4. alloc1 ! (λ l·5. alloc1 ! (λ l·6. alloc1 ! (λ l·7. alloc1 ! (λ l·8. alloc1 ! (λ l·9. alloc1 ! (λ l·10. alloc1 ! (λ l·11. alloc1 ! (λ l·12. alloc1 ! (λ l·13. alloc1 ! (λ l·14. alloc1 ! (λ l·15. alloc1 ! (λ l·16. alloc1 ! (λ l·17. alloc1 ! (λ l·18. alloc1 ! (λ l·19. alloc1 ! (λ l·20. alloc1 ! (λ l·21. alloc1 ! (λ l·22. alloc1 ! (λ l·23. alloc0 ! $ params1 ! $
       pass1 ! (init ! 44 refl (tt, tt)) $ pass1 ! (init ! 42 refl (LL.lawful T·Geometry.the-type L·Geometry.the-laws 𝓤 H A W .typed v·g _ is·g .0)) $ pass1 ! (init ! 40 refl (uint-lawful 𝓤 H A W w32 .typed v·page _ is·page .0)) $ pass1 ! (init ! 38 refl (tt, (tt, (record { fits = room·chip .0 }, tt)))) $ pass1 ! (init ! 36 refl (tt, (tt, (record { fits = room·spare .0 }, tt)))) $ pass1 ! (init ! 34 refl (tt, (tt, (record { fits = room·directory .0 }, tt)))) $ pass1 ! (init ! 32 refl (tt, (tt, (record { fits = room·cache .0 }, tt)))) $ pass1 ! (init ! 30 refl (tt, (tt, (record { fits = room·buffer .0 }, tt)))) $ pass1 ! (init ! 28 refl (tt, (tt, (record { fits = room·counts .0 }, tt)))) $ pass0 ! $
       move ! (49 ∷ []) $ fsplit ! $ move ! (1 ∷ []) $ fsplit ! $ drop ! $ fsplit ! $ drop ! $ fsplit ! $ move ! (1 ∷ []) $ fsplit ! $ move ! (1 ∷ []) $ fsplit ! $ move ! (1 ∷ []) $ fsplit ! $ move ! (1 ∷ []) $ fsplit ! $ move ! (1 ∷ []) $ fsplit ! $ move ! (56 ∷ []) $ split ! $ move ! (1 ∷ []) $ split ! $ move ! (1 ∷ []) $ split ! $ move ! (1 ∷ []) $ split ! $ move ! (1 ∷ []) $ split ! $ move ! (1 ∷ []) $ split ! $ move ! (1 ∷ []) $ split ! $

@@ -72,7 +72,7 @@ use Rattle.face.proofs.run.Key.{name as #walked}
 use Rattle.face.proofs.run.Statement as stated
 use Rattle.face.proofs.run.Code as code
 use Rattle.face.proofs.run.Code.Mir as piece
-use Rattle.face.proofs.Rules.{lends-again, comes-back, holds, bare, frees-all}
+use Rattle.face.proofs.Rules.{slice, lends-again, comes-back, holds, bare, frees-all}
 use Rattle.face.specs.Served.{run-before-serve-all, run-by}
 use Rattle.lent.specs.Model.{geometry, state}
 use Rattle.calls.specs.Run.{Begun, Finished}
@@ -91,59 +91,11 @@ abbrev Callee·3 : {M : Type 1} (𝓤 : URA M) (H : Heap 𝓤) (A : Atoms 𝓤) 
 Callee·3 𝓤 H A mm rn = tripleOf 𝓤 H A callee·3.signature (callee·3.spec 𝓤 H A mm rn)
 
 module _ {M : Type 1} (𝓤 : URA M) (H : Heap 𝓤) (A : Atoms 𝓤) (W : Given 𝓤 H A) (mm : Memory → SProp 𝓤) (rn : Routine → Fun 𝓤) (κ·rec : Lft) (q·rec : Share) (b·rec o·rec : ℕ) (γ·rec : GName) (v·rec : D·Record) (v·g : D·Geometry) (is·g : Is T·Geometry.the-row v·g ((LL.val T·Geometry.the-type L·Geometry.the-laws v·g) ∷ [])) (κ·requests : Lft) (q·requests : Share) (b·requests o·requests : ℕ) (γ·requests : GName) (l·requests : List D·Request) (room·requests : Room T·Request.the-row (length l·requests)) (κ·chip : Lft) (q·chip : Share) (b·chip o·chip : ℕ) (γ·chip : GName) (l·chip : List ℕ) (room·chip : Room u32 (length l·chip)) (κ·spare : Lft) (q·spare : Share) (b·spare o·spare : ℕ) (γ·spare : GName) (l·spare : List ℕ) (room·spare : Room u32 (length l·spare)) (κ·directory : Lft) (q·directory : Share) (b·directory o·directory : ℕ) (γ·directory : GName) (l·directory : List ℕ) (room·directory : Room u32 (length l·directory)) (κ·cache : Lft) (q·cache : Share) (b·cache o·cache : ℕ) (γ·cache : GName) (l·cache : List ℕ) (room·cache : Room u32 (length l·cache)) (κ·words : Lft) (q·words : Share) (b·words o·words : ℕ) (γ·words : GName) (l·words : List ℕ) (room·words : Room u32 (length l·words)) (κ·answers : Lft) (q·answers : Share) (b·answers o·answers : ℕ) (γ·answers : GName) (l·answers : List ℕ) (room·answers : Room u32 (length l·answers)) (κ·counts : Lft) (q·counts : Share) (b·counts o·counts : ℕ) (γ·counts : GName) (l·counts : List ℕ) (room·counts : Room u32 (length l·counts)) where
-  abbrev x·requests : GName → List D·Request → RefT (List D·Request)
-  x·requests δ z = record { ptr = (b·requests, o·requests); name = δ; now = z }
-
-  abbrev s·requests : Val
-  s·requests = sliceVal (b·requests, o·requests) (length l·requests)
-
-  abbrev x·chip : GName → List ℕ → RefT (List ℕ)
-  x·chip δ z = record { ptr = (b·chip, o·chip); name = δ; now = z }
-
-  abbrev s·chip : Val
-  s·chip = sliceVal (b·chip, o·chip) (length l·chip)
-
-  abbrev x·spare : GName → List ℕ → RefT (List ℕ)
-  x·spare δ z = record { ptr = (b·spare, o·spare); name = δ; now = z }
-
-  abbrev s·spare : Val
-  s·spare = sliceVal (b·spare, o·spare) (length l·spare)
-
-  abbrev x·directory : GName → List ℕ → RefT (List ℕ)
-  x·directory δ z = record { ptr = (b·directory, o·directory); name = δ; now = z }
-
-  abbrev s·directory : Val
-  s·directory = sliceVal (b·directory, o·directory) (length l·directory)
-
-  abbrev x·cache : GName → List ℕ → RefT (List ℕ)
-  x·cache δ z = record { ptr = (b·cache, o·cache); name = δ; now = z }
-
-  abbrev s·cache : Val
-  s·cache = sliceVal (b·cache, o·cache) (length l·cache)
-
-  abbrev x·words : GName → List ℕ → RefT (List ℕ)
-  x·words δ z = record { ptr = (b·words, o·words); name = δ; now = z }
-
-  abbrev s·words : Val
-  s·words = sliceVal (b·words, o·words) (length l·words)
-
-  abbrev x·answers : GName → List ℕ → RefT (List ℕ)
-  x·answers δ z = record { ptr = (b·answers, o·answers); name = δ; now = z }
-
-  abbrev s·answers : Val
-  s·answers = sliceVal (b·answers, o·answers) (length l·answers)
-
-  abbrev x·counts : GName → List ℕ → RefT (List ℕ)
-  x·counts δ z = record { ptr = (b·counts, o·counts); name = δ; now = z }
-
-  abbrev s·counts : Val
-  s·counts = sliceVal (b·counts, o·counts) (length l·counts)
-
   abbrev a : RefT D·Record × (D·Geometry × (RefT (List D·Request) × (RefT (List ℕ) × (RefT (List ℕ) × (RefT (List ℕ) × (RefT (List ℕ) × (RefT (List ℕ) × (RefT (List ℕ) × (RefT (List ℕ) × (Unit {0}))))))))))
-  a = (record { ptr = (b·rec, o·rec); name = γ·rec; now = v·rec }, (v·g, (x·requests γ·requests l·requests, (x·chip γ·chip l·chip, (x·spare γ·spare l·spare, (x·directory γ·directory l·directory, (x·cache γ·cache l·cache, (x·words γ·words l·words, (x·answers γ·answers l·answers, (x·counts γ·counts l·counts, tt))))))))))
+  a = (record { ptr = (b·rec, o·rec); name = γ·rec; now = v·rec }, (v·g, (slice T·Request.the-row b·requests o·requests γ·requests l·requests, (slice u32 b·chip o·chip γ·chip l·chip, (slice u32 b·spare o·spare γ·spare l·spare, (slice u32 b·directory o·directory γ·directory l·directory, (slice u32 b·cache o·cache γ·cache l·cache, (slice u32 b·words o·words γ·words l·words, (slice u32 b·answers o·answers γ·answers l·answers, (slice u32 b·counts o·counts γ·counts l·counts, tt))))))))))
 
   abbrev vals : List Val × (List Val × (List Val × (List Val × (List Val × (List Val × (List Val × (List Val × (List Val × (List Val × (Unit {0}))))))))))
-  vals = ((vptr b·rec o·rec) ∷ [], ((LL.val T·Geometry.the-type L·Geometry.the-laws v·g) ∷ [], (s·requests ∷ [], (s·chip ∷ [], (s·spare ∷ [], (s·directory ∷ [], (s·cache ∷ [], (s·words ∷ [], (s·answers ∷ [], (s·counts ∷ [], tt))))))))))
+  vals = ((vptr b·rec o·rec) ∷ [], ((LL.val T·Geometry.the-type L·Geometry.the-laws v·g) ∷ [], ((sliceVal (b·requests, o·requests) (length l·requests)) ∷ [], ((sliceVal (b·chip, o·chip) (length l·chip)) ∷ [], ((sliceVal (b·spare, o·spare) (length l·spare)) ∷ [], ((sliceVal (b·directory, o·directory) (length l·directory)) ∷ [], ((sliceVal (b·cache, o·cache) (length l·cache)) ∷ [], ((sliceVal (b·words, o·words) (length l·words)) ∷ [], ((sliceVal (b·answers, o·answers) (length l·answers)) ∷ [], ((sliceVal (b·counts, o·counts) (length l·counts)) ∷ [], tt))))))))))
 
   abbrev Post : Val → SProp 𝓤
   Post = walkOf 𝓤 H A walked·.ended stayed (walked·.clauses 𝓤 H A mm rn) .post (((κ·rec, (κ·requests, (κ·chip, (κ·spare, (κ·directory, (κ·cache, (κ·words, (κ·answers, (κ·counts, tt))))))))), (q·rec, (q·requests, (q·chip, (q·spare, (q·directory, (q·cache, (q·words, (q·answers, (q·counts, tt))))))))), tt, a, vals), tt)
@@ -152,16 +104,16 @@ module _ {M : Type 1} (𝓤 : URA M) (H : Heap 𝓤) (A : Atoms 𝓤) (W : Given
   Did·1 r·1 zs·1 = Begun (geometry v·g) true (length l·requests) (length l·words) (length l·answers) (length l·counts) (state (l·chip) (l·spare) (l·directory) (l·cache) v·rec) r·1 (state ((zs·1 .1 .1 .1 .1 .1 .1 .1 .0)) ((zs·1 .1 .1 .1 .1 .1 .1 .1 .1 .0)) ((zs·1 .1 .1 .1 .1 .1 .1 .1 .1 .1 .0)) ((zs·1 .1 .1 .1 .1 .1 .1 .1 .1 .1 .1 .0)) (r·1 .rec))
 
   abbrev ca·1 : (ν·1·chip : ℕ) (δ·1·chip : GName) (ν·1·spare : ℕ) (δ·1·spare : GName) (ν·1·directory : ℕ) (δ·1·directory : GName) (ν·1·cache : ℕ) (δ·1·cache : GName) → D·Record × (Bool × (ℕ × (D·Geometry × (ℕ × (ℕ × (ℕ × (RefT (List ℕ) × (RefT (List ℕ) × (RefT (List ℕ) × (RefT (List ℕ) × (Unit {0})))))))))))
-  ca·1 ν·1·chip δ·1·chip ν·1·spare δ·1·spare ν·1·directory δ·1·directory ν·1·cache δ·1·cache = (v·rec, (true, ((length l·requests), (v·g, ((length l·words), ((length l·answers), ((length l·counts), (x·chip δ·1·chip l·chip, (x·spare δ·1·spare l·spare, (x·directory δ·1·directory l·directory, (x·cache δ·1·cache l·cache, tt)))))))))))
+  ca·1 ν·1·chip δ·1·chip ν·1·spare δ·1·spare ν·1·directory δ·1·directory ν·1·cache δ·1·cache = (v·rec, (true, ((length l·requests), (v·g, ((length l·words), ((length l·answers), ((length l·counts), (slice u32 b·chip o·chip δ·1·chip l·chip, (slice u32 b·spare o·spare δ·1·spare l·spare, (slice u32 b·directory o·directory δ·1·directory l·directory, (slice u32 b·cache o·cache δ·1·cache l·cache, tt)))))))))))
 
   abbrev cv·1 : (ν·1·chip : ℕ) (δ·1·chip : GName) (ν·1·spare : ℕ) (δ·1·spare : GName) (ν·1·directory : ℕ) (δ·1·directory : GName) (ν·1·cache : ℕ) (δ·1·cache : GName) → List Val × (List Val × (List Val × (List Val × (List Val × (List Val × (List Val × (List Val × (List Val × (List Val × (List Val × (Unit {0})))))))))))
-  cv·1 ν·1·chip δ·1·chip ν·1·spare δ·1·spare ν·1·directory δ·1·directory ν·1·cache δ·1·cache = ((LL.val T·Record.the-type L·Record.the-laws v·rec) ∷ [], ((vbool true) ∷ [], ((vint w64 (length l·requests)) ∷ [], ((LL.val T·Geometry.the-type L·Geometry.the-laws v·g) ∷ [], ((vint w64 (length l·words)) ∷ [], ((vint w64 (length l·answers)) ∷ [], ((vint w64 (length l·counts)) ∷ [], (s·chip ∷ [], (s·spare ∷ [], (s·directory ∷ [], (s·cache ∷ [], tt)))))))))))
+  cv·1 ν·1·chip δ·1·chip ν·1·spare δ·1·spare ν·1·directory δ·1·directory ν·1·cache δ·1·cache = ((LL.val T·Record.the-type L·Record.the-laws v·rec) ∷ [], ((vbool true) ∷ [], ((vint w64 (length l·requests)) ∷ [], ((LL.val T·Geometry.the-type L·Geometry.the-laws v·g) ∷ [], ((vint w64 (length l·words)) ∷ [], ((vint w64 (length l·answers)) ∷ [], ((vint w64 (length l·counts)) ∷ [], ((sliceVal (b·chip, o·chip) (length l·chip)) ∷ [], ((sliceVal (b·spare, o·spare) (length l·spare)) ∷ [], ((sliceVal (b·directory, o·directory) (length l·directory)) ∷ [], ((sliceVal (b·cache, o·cache) (length l·cache)) ∷ [], tt)))))))))))
 
   abbrev to·1 : (ν·1·chip : ℕ) (δ·1·chip : GName) (ν·1·spare : ℕ) (δ·1·spare : GName) (ν·1·directory : ℕ) (δ·1·directory : GName) (ν·1·cache : ℕ) (δ·1·cache : GName) → Callee·1 𝓤 H A mm rn .Ghost
   to·1 ν·1·chip δ·1·chip ν·1·spare δ·1·spare ν·1·directory δ·1·directory ν·1·cache δ·1·cache = ((((ν·1·chip ∷ []), ((ν·1·spare ∷ []), ((ν·1·directory ∷ []), ((ν·1·cache ∷ []), tt)))), (fullShare, (fullShare, (fullShare, (fullShare, tt)))), tt, (ca·1 ν·1·chip δ·1·chip ν·1·spare δ·1·spare ν·1·directory δ·1·directory ν·1·cache δ·1·cache), (cv·1 ν·1·chip δ·1·chip ν·1·spare δ·1·spare ν·1·directory δ·1·directory ν·1·cache δ·1·cache)), tt)
 
   abbrev gives·1 : (ν·1·chip : ℕ) (δ·1·chip : GName) (ν·1·spare : ℕ) (δ·1·spare : GName) (ν·1·directory : ℕ) (δ·1·directory : GName) (ν·1·cache : ℕ) (δ·1·cache : GName) → List (Item 𝓤)
-  gives·1 ν·1·chip δ·1·chip ν·1·spare δ·1·spare ν·1·directory δ·1·directory ν·1·cache δ·1·cache = ‵ (flft (ν·1·chip ∷ []) fullShare) ∷ ‵ (flft (ν·1·spare ∷ []) fullShare) ∷ ‵ (flft (ν·1·directory ∷ []) fullShare) ∷ ‵ (flft (ν·1·cache ∷ []) fullShare) ∷ ‵ (MutSlice (named 0) (ν·1·chip ∷ []) u32 .own (x·chip δ·1·chip l·chip) (s·chip ∷ [])) ∷ ‵ (MutSlice (named 1) (ν·1·spare ∷ []) u32 .own (x·spare δ·1·spare l·spare) (s·spare ∷ [])) ∷ ‵ (MutSlice (named 2) (ν·1·directory ∷ []) u32 .own (x·directory δ·1·directory l·directory) (s·directory ∷ [])) ∷ ‵ (MutSlice (named 3) (ν·1·cache ∷ []) u32 .own (x·cache δ·1·cache l·cache) (s·cache ∷ [])) ∷ []
+  gives·1 ν·1·chip δ·1·chip ν·1·spare δ·1·spare ν·1·directory δ·1·directory ν·1·cache δ·1·cache = ‵ (flft (ν·1·chip ∷ []) fullShare) ∷ ‵ (flft (ν·1·spare ∷ []) fullShare) ∷ ‵ (flft (ν·1·directory ∷ []) fullShare) ∷ ‵ (flft (ν·1·cache ∷ []) fullShare) ∷ ‵ (MutSlice (named 0) (ν·1·chip ∷ []) u32 .own (slice u32 b·chip o·chip δ·1·chip l·chip) ((sliceVal (b·chip, o·chip) (length l·chip)) ∷ [])) ∷ ‵ (MutSlice (named 1) (ν·1·spare ∷ []) u32 .own (slice u32 b·spare o·spare δ·1·spare l·spare) ((sliceVal (b·spare, o·spare) (length l·spare)) ∷ [])) ∷ ‵ (MutSlice (named 2) (ν·1·directory ∷ []) u32 .own (slice u32 b·directory o·directory δ·1·directory l·directory) ((sliceVal (b·directory, o·directory) (length l·directory)) ∷ [])) ∷ ‵ (MutSlice (named 3) (ν·1·cache ∷ []) u32 .own (slice u32 b·cache o·cache δ·1·cache l·cache) ((sliceVal (b·cache, o·cache) (length l·cache)) ∷ [])) ∷ []
 
   calling·1 : (ν·1·chip : ℕ) (δ·1·chip : GName) (ν·1·spare : ℕ) (δ·1·spare : GName) (ν·1·directory : ℕ) (δ·1·directory : GName) (ν·1·cache : ℕ) (δ·1·cache : GName) (is·rec : Is T·Record.the-row v·rec ((LL.val T·Record.the-type L·Record.the-laws v·rec) ∷ [])) → ent 𝓤 (⋆ 𝓤 H A (gives·1 ν·1·chip δ·1·chip ν·1·spare δ·1·spare ν·1·directory δ·1·directory ν·1·cache δ·1·cache)) (Callee·1 𝓤 H A mm rn .pre (to·1 ν·1·chip δ·1·chip ν·1·spare δ·1·spare ν·1·directory δ·1·directory ν·1·cache δ·1·cache))
   calling·1 ν·1·chip δ·1·chip ν·1·spare δ·1·spare ν·1·directory δ·1·directory ν·1·cache δ·1·cache is·rec =
@@ -181,16 +133,16 @@ module _ {M : Type 1} (𝓤 : URA M) (H : Heap 𝓤) (A : Atoms 𝓤) (W : Given
   Did·2 r·1 zs·1 r·2 zs·2 = Ran (geometry v·g) (l·requests) (length (l·requests)) r·1 (state ((zs·1 .1 .1 .1 .1 .1 .1 .1 .0)) ((zs·1 .1 .1 .1 .1 .1 .1 .1 .1 .0)) ((zs·1 .1 .1 .1 .1 .1 .1 .1 .1 .1 .0)) ((zs·1 .1 .1 .1 .1 .1 .1 .1 .1 .1 .1 .0)) (r·1 .rec)) (l·words) (l·answers) r·2 (state ((zs·2 .1 .1 .1 .0)) ((zs·2 .1 .1 .1 .1 .0)) ((zs·2 .1 .1 .1 .1 .1 .0)) ((zs·2 .1 .1 .1 .1 .1 .1 .0)) (r·2 .rec)) ((zs·2 .1 .1 .1 .1 .1 .1 .1 .0)) ((zs·2 .1 .1 .1 .1 .1 .1 .1 .1 .0))
 
   abbrev ca·2 : (r·1 : D·Running) (zs·1 : Unit {0} × (Unit {0} × (Unit {0} × (Unit {0} × (Unit {0} × (Unit {0} × (Unit {0} × (List ℕ × (List ℕ × (List ℕ × (List ℕ × (Unit {0})))))))))))) → D·Running × (RefT (List D·Request) × (D·Geometry × (RefT (List ℕ) × (RefT (List ℕ) × (RefT (List ℕ) × (RefT (List ℕ) × (RefT (List ℕ) × (RefT (List ℕ) × (Unit {0})))))))))
-  ca·2 r·1 zs·1 = (r·1, (x·requests γ·requests l·requests, (v·g, (x·chip γ·chip (zs·1 .1 .1 .1 .1 .1 .1 .1 .0), (x·spare γ·spare (zs·1 .1 .1 .1 .1 .1 .1 .1 .1 .0), (x·directory γ·directory (zs·1 .1 .1 .1 .1 .1 .1 .1 .1 .1 .0), (x·cache γ·cache (zs·1 .1 .1 .1 .1 .1 .1 .1 .1 .1 .1 .0), (x·words γ·words l·words, (x·answers γ·answers l·answers, tt)))))))))
+  ca·2 r·1 zs·1 = (r·1, (slice T·Request.the-row b·requests o·requests γ·requests l·requests, (v·g, (slice u32 b·chip o·chip γ·chip (zs·1 .1 .1 .1 .1 .1 .1 .1 .0), (slice u32 b·spare o·spare γ·spare (zs·1 .1 .1 .1 .1 .1 .1 .1 .1 .0), (slice u32 b·directory o·directory γ·directory (zs·1 .1 .1 .1 .1 .1 .1 .1 .1 .1 .0), (slice u32 b·cache o·cache γ·cache (zs·1 .1 .1 .1 .1 .1 .1 .1 .1 .1 .1 .0), (slice u32 b·words o·words γ·words l·words, (slice u32 b·answers o·answers γ·answers l·answers, tt)))))))))
 
   abbrev cv·2 : (r·1 : D·Running) (zs·1 : Unit {0} × (Unit {0} × (Unit {0} × (Unit {0} × (Unit {0} × (Unit {0} × (Unit {0} × (List ℕ × (List ℕ × (List ℕ × (List ℕ × (Unit {0})))))))))))) → List Val × (List Val × (List Val × (List Val × (List Val × (List Val × (List Val × (List Val × (List Val × (Unit {0})))))))))
-  cv·2 r·1 zs·1 = ((LL.val T·Running.the-type L·Running.the-laws r·1) ∷ [], (s·requests ∷ [], ((LL.val T·Geometry.the-type L·Geometry.the-laws v·g) ∷ [], (s·chip ∷ [], (s·spare ∷ [], (s·directory ∷ [], (s·cache ∷ [], (s·words ∷ [], (s·answers ∷ [], tt)))))))))
+  cv·2 r·1 zs·1 = ((LL.val T·Running.the-type L·Running.the-laws r·1) ∷ [], ((sliceVal (b·requests, o·requests) (length l·requests)) ∷ [], ((LL.val T·Geometry.the-type L·Geometry.the-laws v·g) ∷ [], ((sliceVal (b·chip, o·chip) (length l·chip)) ∷ [], ((sliceVal (b·spare, o·spare) (length l·spare)) ∷ [], ((sliceVal (b·directory, o·directory) (length l·directory)) ∷ [], ((sliceVal (b·cache, o·cache) (length l·cache)) ∷ [], ((sliceVal (b·words, o·words) (length l·words)) ∷ [], ((sliceVal (b·answers, o·answers) (length l·answers)) ∷ [], tt)))))))))
 
   abbrev to·2 : (r·1 : D·Running) (zs·1 : Unit {0} × (Unit {0} × (Unit {0} × (Unit {0} × (Unit {0} × (Unit {0} × (Unit {0} × (List ℕ × (List ℕ × (List ℕ × (List ℕ × (Unit {0})))))))))))) → Callee·2 𝓤 H A mm rn .Ghost
   to·2 r·1 zs·1 = (((κ·requests, (κ·chip, (κ·spare, (κ·directory, (κ·cache, (κ·words, (κ·answers, tt))))))), (q·requests, (q·chip, (q·spare, (q·directory, (q·cache, (q·words, (q·answers, tt))))))), tt, (ca·2 r·1 zs·1), (cv·2 r·1 zs·1)), tt)
 
   abbrev gives·2 : (r·1 : D·Running) (zs·1 : Unit {0} × (Unit {0} × (Unit {0} × (Unit {0} × (Unit {0} × (Unit {0} × (Unit {0} × (List ℕ × (List ℕ × (List ℕ × (List ℕ × (Unit {0})))))))))))) → List (Item 𝓤)
-  gives·2 r·1 zs·1 = ‵ (flft κ·requests q·requests) ∷ ‵ (flft κ·chip q·chip) ∷ ‵ (flft κ·spare q·spare) ∷ ‵ (flft κ·directory q·directory) ∷ ‵ (flft κ·cache q·cache) ∷ ‵ (flft κ·words q·words) ∷ ‵ (flft κ·answers q·answers) ∷ ‵ (ShrSlice (named 0) κ·requests T·Request.the-row .own (x·requests γ·requests l·requests) (s·requests ∷ [])) ∷ ‵ (MutSlice (named 1) κ·chip u32 .own (x·chip γ·chip (zs·1 .1 .1 .1 .1 .1 .1 .1 .0)) (s·chip ∷ [])) ∷ ‵ (MutSlice (named 2) κ·spare u32 .own (x·spare γ·spare (zs·1 .1 .1 .1 .1 .1 .1 .1 .1 .0)) (s·spare ∷ [])) ∷ ‵ (MutSlice (named 3) κ·directory u32 .own (x·directory γ·directory (zs·1 .1 .1 .1 .1 .1 .1 .1 .1 .1 .0)) (s·directory ∷ [])) ∷ ‵ (MutSlice (named 4) κ·cache u32 .own (x·cache γ·cache (zs·1 .1 .1 .1 .1 .1 .1 .1 .1 .1 .1 .0)) (s·cache ∷ [])) ∷ ‵ (MutSlice (named 5) κ·words u32 .own (x·words γ·words l·words) (s·words ∷ [])) ∷ ‵ (MutSlice (named 6) κ·answers u32 .own (x·answers γ·answers l·answers) (s·answers ∷ [])) ∷ []
+  gives·2 r·1 zs·1 = ‵ (flft κ·requests q·requests) ∷ ‵ (flft κ·chip q·chip) ∷ ‵ (flft κ·spare q·spare) ∷ ‵ (flft κ·directory q·directory) ∷ ‵ (flft κ·cache q·cache) ∷ ‵ (flft κ·words q·words) ∷ ‵ (flft κ·answers q·answers) ∷ ‵ (ShrSlice (named 0) κ·requests T·Request.the-row .own (slice T·Request.the-row b·requests o·requests γ·requests l·requests) ((sliceVal (b·requests, o·requests) (length l·requests)) ∷ [])) ∷ ‵ (MutSlice (named 1) κ·chip u32 .own (slice u32 b·chip o·chip γ·chip (zs·1 .1 .1 .1 .1 .1 .1 .1 .0)) ((sliceVal (b·chip, o·chip) (length l·chip)) ∷ [])) ∷ ‵ (MutSlice (named 2) κ·spare u32 .own (slice u32 b·spare o·spare γ·spare (zs·1 .1 .1 .1 .1 .1 .1 .1 .1 .0)) ((sliceVal (b·spare, o·spare) (length l·spare)) ∷ [])) ∷ ‵ (MutSlice (named 3) κ·directory u32 .own (slice u32 b·directory o·directory γ·directory (zs·1 .1 .1 .1 .1 .1 .1 .1 .1 .1 .0)) ((sliceVal (b·directory, o·directory) (length l·directory)) ∷ [])) ∷ ‵ (MutSlice (named 4) κ·cache u32 .own (slice u32 b·cache o·cache γ·cache (zs·1 .1 .1 .1 .1 .1 .1 .1 .1 .1 .1 .0)) ((sliceVal (b·cache, o·cache) (length l·cache)) ∷ [])) ∷ ‵ (MutSlice (named 5) κ·words u32 .own (slice u32 b·words o·words γ·words l·words) ((sliceVal (b·words, o·words) (length l·words)) ∷ [])) ∷ ‵ (MutSlice (named 6) κ·answers u32 .own (slice u32 b·answers o·answers γ·answers l·answers) ((sliceVal (b·answers, o·answers) (length l·answers)) ∷ [])) ∷ []
 
   calling·2 : (r·1 : D·Running) (zs·1 : Unit {0} × (Unit {0} × (Unit {0} × (Unit {0} × (Unit {0} × (Unit {0} × (Unit {0} × (List ℕ × (List ℕ × (List ℕ × (List ℕ × (Unit {0})))))))))))) (is·rec : Is T·Record.the-row v·rec ((LL.val T·Record.the-type L·Record.the-laws v·rec) ∷ [])) (is·1 : Is T·Running.the-row r·1 ((LL.val T·Running.the-type L·Running.the-laws r·1) ∷ [])) (did·1 : Did·1 r·1 zs·1) → ent 𝓤 (⋆ 𝓤 H A (gives·2 r·1 zs·1)) (Callee·2 𝓤 H A mm rn .pre (to·2 r·1 zs·1))
   calling·2 r·1 zs·1 is·rec is·1 did·1 =
@@ -210,16 +162,16 @@ module _ {M : Type 1} (𝓤 : URA M) (H : Heap 𝓤) (A : Atoms 𝓤) (W : Given
   Did·3 r·1 zs·1 r·2 zs·2 r·3 zs·3 = Finished r·2 (l·counts) (r·3 .answer) (r·3 .rec) ((zs·3 .1 .0))
 
   abbrev ca·3 : (r·1 : D·Running) (zs·1 : Unit {0} × (Unit {0} × (Unit {0} × (Unit {0} × (Unit {0} × (Unit {0} × (Unit {0} × (List ℕ × (List ℕ × (List ℕ × (List ℕ × (Unit {0})))))))))))) (r·2 : D·Running) (zs·2 : Unit {0} × (Unit {0} × (Unit {0} × (List ℕ × (List ℕ × (List ℕ × (List ℕ × (List ℕ × (List ℕ × (Unit {0})))))))))) → D·Running × (RefT (List ℕ) × (Unit {0}))
-  ca·3 r·1 zs·1 r·2 zs·2 = (r·2, (x·counts γ·counts l·counts, tt))
+  ca·3 r·1 zs·1 r·2 zs·2 = (r·2, (slice u32 b·counts o·counts γ·counts l·counts, tt))
 
   abbrev cv·3 : (r·1 : D·Running) (zs·1 : Unit {0} × (Unit {0} × (Unit {0} × (Unit {0} × (Unit {0} × (Unit {0} × (Unit {0} × (List ℕ × (List ℕ × (List ℕ × (List ℕ × (Unit {0})))))))))))) (r·2 : D·Running) (zs·2 : Unit {0} × (Unit {0} × (Unit {0} × (List ℕ × (List ℕ × (List ℕ × (List ℕ × (List ℕ × (List ℕ × (Unit {0})))))))))) → List Val × (List Val × (Unit {0}))
-  cv·3 r·1 zs·1 r·2 zs·2 = ((LL.val T·Running.the-type L·Running.the-laws r·2) ∷ [], (s·counts ∷ [], tt))
+  cv·3 r·1 zs·1 r·2 zs·2 = ((LL.val T·Running.the-type L·Running.the-laws r·2) ∷ [], ((sliceVal (b·counts, o·counts) (length l·counts)) ∷ [], tt))
 
   abbrev to·3 : (r·1 : D·Running) (zs·1 : Unit {0} × (Unit {0} × (Unit {0} × (Unit {0} × (Unit {0} × (Unit {0} × (Unit {0} × (List ℕ × (List ℕ × (List ℕ × (List ℕ × (Unit {0})))))))))))) (r·2 : D·Running) (zs·2 : Unit {0} × (Unit {0} × (Unit {0} × (List ℕ × (List ℕ × (List ℕ × (List ℕ × (List ℕ × (List ℕ × (Unit {0})))))))))) → Callee·3 𝓤 H A mm rn .Ghost
   to·3 r·1 zs·1 r·2 zs·2 = (((κ·counts, tt), (q·counts, tt), tt, (ca·3 r·1 zs·1 r·2 zs·2), (cv·3 r·1 zs·1 r·2 zs·2)), tt)
 
   abbrev gives·3 : (r·1 : D·Running) (zs·1 : Unit {0} × (Unit {0} × (Unit {0} × (Unit {0} × (Unit {0} × (Unit {0} × (Unit {0} × (List ℕ × (List ℕ × (List ℕ × (List ℕ × (Unit {0})))))))))))) (r·2 : D·Running) (zs·2 : Unit {0} × (Unit {0} × (Unit {0} × (List ℕ × (List ℕ × (List ℕ × (List ℕ × (List ℕ × (List ℕ × (Unit {0})))))))))) → List (Item 𝓤)
-  gives·3 r·1 zs·1 r·2 zs·2 = ‵ (flft κ·counts q·counts) ∷ ‵ (MutSlice (named 0) κ·counts u32 .own (x·counts γ·counts l·counts) (s·counts ∷ [])) ∷ []
+  gives·3 r·1 zs·1 r·2 zs·2 = ‵ (flft κ·counts q·counts) ∷ ‵ (MutSlice (named 0) κ·counts u32 .own (slice u32 b·counts o·counts γ·counts l·counts) ((sliceVal (b·counts, o·counts) (length l·counts)) ∷ [])) ∷ []
 
   calling·3 : (r·1 : D·Running) (zs·1 : Unit {0} × (Unit {0} × (Unit {0} × (Unit {0} × (Unit {0} × (Unit {0} × (Unit {0} × (List ℕ × (List ℕ × (List ℕ × (List ℕ × (Unit {0})))))))))))) (r·2 : D·Running) (zs·2 : Unit {0} × (Unit {0} × (Unit {0} × (List ℕ × (List ℕ × (List ℕ × (List ℕ × (List ℕ × (List ℕ × (Unit {0})))))))))) (is·rec : Is T·Record.the-row v·rec ((LL.val T·Record.the-type L·Record.the-laws v·rec) ∷ [])) (is·1 : Is T·Running.the-row r·1 ((LL.val T·Running.the-type L·Running.the-laws r·1) ∷ [])) (is·2 : Is T·Running.the-row r·2 ((LL.val T·Running.the-type L·Running.the-laws r·2) ∷ [])) → ent 𝓤 (⋆ 𝓤 H A (gives·3 r·1 zs·1 r·2 zs·2)) (Callee·3 𝓤 H A mm rn .pre (to·3 r·1 zs·1 r·2 zs·2))
   calling·3 r·1 zs·1 r·2 zs·2 is·rec is·1 is·2 =
@@ -235,9 +187,9 @@ module _ {M : Type 1} (𝓤 : URA M) (H : Heap 𝓤) (A : Atoms 𝓤) (W : Given
       fsplit ! $ drop ! $ fsplit ! $ fsplit ! $ move ! (1 ∷ []) $ feqL ! (λ d·3·counts. move ! (1 ∷ []) $ drop ! $ move ! (1 ∷ []) $ split ! $ move ! (1 ∷ []) $ peeks ! T·Out.the-row (Is T·Out.the-row) (shows 𝓤 H A T·Out.the-row) r·3 (w·3 ∷ []) (λ was·3. drop ! $
       split ! $ move ! (1 ∷ []) $ drop ! $ so r·3 zs·3 did·3 was·3 d·3·counts)))))
 
-  exits : (r·1 : D·Running) (zs·1 : Unit {0} × (Unit {0} × (Unit {0} × (Unit {0} × (Unit {0} × (Unit {0} × (Unit {0} × (List ℕ × (List ℕ × (List ℕ × (List ℕ × (Unit {0})))))))))))) (did·1 : Did·1 r·1 zs·1) (r·2 : D·Running) (zs·2 : Unit {0} × (Unit {0} × (Unit {0} × (List ℕ × (List ℕ × (List ℕ × (List ℕ × (List ℕ × (List ℕ × (Unit {0})))))))))) (did·2 : Did·2 r·1 zs·1 r·2 zs·2) (r·3 : D·Out) (zs·3 : Unit {0} × (List ℕ × (Unit {0}))) (did·3 : Did·3 r·1 zs·1 r·2 zs·2 r·3 zs·3) (ans : Is u32 (r·3 .answer) ((vint w32 (r·3 .answer)) ∷ [])) (e·chip : length (zs·2 .1 .1 .1 .0) ≡ length l·chip) (e·spare : length (zs·2 .1 .1 .1 .1 .0) ≡ length l·spare) (e·directory : length (zs·2 .1 .1 .1 .1 .1 .0) ≡ length l·directory) (e·cache : length (zs·2 .1 .1 .1 .1 .1 .1 .0) ≡ length l·cache) (e·words : length (zs·2 .1 .1 .1 .1 .1 .1 .1 .0) ≡ length l·words) (e·answers : length (zs·2 .1 .1 .1 .1 .1 .1 .1 .1 .0) ≡ length l·answers) (e·counts : length (zs·3 .1 .0) ≡ length l·counts) → ent 𝓤 (⋆ 𝓤 H A (‵ (fobs γ·rec (T·Record.the-row .coded .code (r·3 .rec))) ∷ ‵ (fbor κ·rec (Body (mem T·Record.the-row) b·rec o·rec γ·rec)) ∷ ‵ (flft κ·rec q·rec) ∷ ‵ (flft κ·requests q·requests) ∷ ‵ (flft κ·chip q·chip) ∷ ‵ (flft κ·spare q·spare) ∷ ‵ (flft κ·directory q·directory) ∷ ‵ (flft κ·cache q·cache) ∷ ‵ (flft κ·words q·words) ∷ ‵ (flft κ·answers q·answers) ∷ ‵ (flft κ·counts q·counts) ∷ ‵ (ShrSlice (named 1) κ·requests T·Request.the-row .own (x·requests γ·requests l·requests) (s·requests ∷ [])) ∷ ‵ (finally u32 γ·chip (zs·2 .1 .1 .1 .0)) ∷ ‵ (finally u32 γ·spare (zs·2 .1 .1 .1 .1 .0)) ∷ ‵ (finally u32 γ·directory (zs·2 .1 .1 .1 .1 .1 .0)) ∷ ‵ (finally u32 γ·cache (zs·2 .1 .1 .1 .1 .1 .1 .0)) ∷ ‵ (finally u32 γ·words (zs·2 .1 .1 .1 .1 .1 .1 .1 .0)) ∷ ‵ (finally u32 γ·answers (zs·2 .1 .1 .1 .1 .1 .1 .1 .1 .0)) ∷ ‵ (finally u32 γ·counts (zs·3 .1 .0)) ∷ [])) (Post (vint w32 (r·3 .answer)))
+  exits : (r·1 : D·Running) (zs·1 : Unit {0} × (Unit {0} × (Unit {0} × (Unit {0} × (Unit {0} × (Unit {0} × (Unit {0} × (List ℕ × (List ℕ × (List ℕ × (List ℕ × (Unit {0})))))))))))) (did·1 : Did·1 r·1 zs·1) (r·2 : D·Running) (zs·2 : Unit {0} × (Unit {0} × (Unit {0} × (List ℕ × (List ℕ × (List ℕ × (List ℕ × (List ℕ × (List ℕ × (Unit {0})))))))))) (did·2 : Did·2 r·1 zs·1 r·2 zs·2) (r·3 : D·Out) (zs·3 : Unit {0} × (List ℕ × (Unit {0}))) (did·3 : Did·3 r·1 zs·1 r·2 zs·2 r·3 zs·3) (ans : Is u32 (r·3 .answer) ((vint w32 (r·3 .answer)) ∷ [])) (e·chip : length (zs·2 .1 .1 .1 .0) ≡ length l·chip) (e·spare : length (zs·2 .1 .1 .1 .1 .0) ≡ length l·spare) (e·directory : length (zs·2 .1 .1 .1 .1 .1 .0) ≡ length l·directory) (e·cache : length (zs·2 .1 .1 .1 .1 .1 .1 .0) ≡ length l·cache) (e·words : length (zs·2 .1 .1 .1 .1 .1 .1 .1 .0) ≡ length l·words) (e·answers : length (zs·2 .1 .1 .1 .1 .1 .1 .1 .1 .0) ≡ length l·answers) (e·counts : length (zs·3 .1 .0) ≡ length l·counts) → ent 𝓤 (⋆ 𝓤 H A (‵ (fobs γ·rec (T·Record.the-row .coded .code (r·3 .rec))) ∷ ‵ (fbor κ·rec (Body (mem T·Record.the-row) b·rec o·rec γ·rec)) ∷ ‵ (flft κ·rec q·rec) ∷ ‵ (flft κ·requests q·requests) ∷ ‵ (flft κ·chip q·chip) ∷ ‵ (flft κ·spare q·spare) ∷ ‵ (flft κ·directory q·directory) ∷ ‵ (flft κ·cache q·cache) ∷ ‵ (flft κ·words q·words) ∷ ‵ (flft κ·answers q·answers) ∷ ‵ (flft κ·counts q·counts) ∷ ‵ (ShrSlice (named 1) κ·requests T·Request.the-row .own (slice T·Request.the-row b·requests o·requests γ·requests l·requests) ((sliceVal (b·requests, o·requests) (length l·requests)) ∷ [])) ∷ ‵ (finally u32 γ·chip (zs·2 .1 .1 .1 .0)) ∷ ‵ (finally u32 γ·spare (zs·2 .1 .1 .1 .1 .0)) ∷ ‵ (finally u32 γ·directory (zs·2 .1 .1 .1 .1 .1 .0)) ∷ ‵ (finally u32 γ·cache (zs·2 .1 .1 .1 .1 .1 .1 .0)) ∷ ‵ (finally u32 γ·words (zs·2 .1 .1 .1 .1 .1 .1 .1 .0)) ∷ ‵ (finally u32 γ·answers (zs·2 .1 .1 .1 .1 .1 .1 .1 .1 .0)) ∷ ‵ (finally u32 γ·counts (zs·3 .1 .0)) ∷ [])) (Post (vint w32 (r·3 .answer)))
   exits r·1 zs·1 did·1 r·2 zs·2 did·2 r·3 zs·3 did·3 ans e·chip e·spare e·directory e·cache e·words e·answers e·counts =
-      qed W (‵ (fobs γ·rec (T·Record.the-row .coded .code (r·3 .rec))) ∷ ‵ (fbor κ·rec (Body (mem T·Record.the-row) b·rec o·rec γ·rec)) ∷ ‵ (flft κ·rec q·rec) ∷ ‵ (flft κ·requests q·requests) ∷ ‵ (flft κ·chip q·chip) ∷ ‵ (flft κ·spare q·spare) ∷ ‵ (flft κ·directory q·directory) ∷ ‵ (flft κ·cache q·cache) ∷ ‵ (flft κ·words q·words) ∷ ‵ (flft κ·answers q·answers) ∷ ‵ (flft κ·counts q·counts) ∷ ‵ (ShrSlice (named 1) κ·requests T·Request.the-row .own (x·requests γ·requests l·requests) (s·requests ∷ [])) ∷ ‵ (finally u32 γ·chip (zs·2 .1 .1 .1 .0)) ∷ ‵ (finally u32 γ·spare (zs·2 .1 .1 .1 .1 .0)) ∷ ‵ (finally u32 γ·directory (zs·2 .1 .1 .1 .1 .1 .0)) ∷ ‵ (finally u32 γ·cache (zs·2 .1 .1 .1 .1 .1 .1 .0)) ∷ ‵ (finally u32 γ·words (zs·2 .1 .1 .1 .1 .1 .1 .1 .0)) ∷ ‵ (finally u32 γ·answers (zs·2 .1 .1 .1 .1 .1 .1 .1 .1 .0)) ∷ ‵ (finally u32 γ·counts (zs·3 .1 .0)) ∷ []) ∵ suffices ! _ (ends-at 𝓤 H A walked·.ended stayed (walked·.clauses 𝓤 H A mm rn) W (((κ·rec, (κ·requests, (κ·chip, (κ·spare, (κ·directory, (κ·cache, (κ·words, (κ·answers, (κ·counts, tt))))))))), (q·rec, (q·requests, (q·chip, (q·spare, (q·directory, (q·cache, (q·words, (q·answers, (q·counts, tt))))))))), tt, a, vals), tt) (vint w32 (r·3 .answer)) (r·3 .answer) ((r·3 .rec), (tt, (tt, ((zs·2 .1 .1 .1 .0), ((zs·2 .1 .1 .1 .1 .0), ((zs·2 .1 .1 .1 .1 .1 .0), ((zs·2 .1 .1 .1 .1 .1 .1 .0), ((zs·2 .1 .1 .1 .1 .1 .1 .1 .0), ((zs·2 .1 .1 .1 .1 .1 .1 .1 .1 .0), ((zs·3 .1 .0), tt)))))))))) (tt, (tt, (tt, (e·chip, (e·spare, (e·directory, (e·cache, (e·words, (e·answers, (e·counts, tt))))))))))) $
+      qed W (‵ (fobs γ·rec (T·Record.the-row .coded .code (r·3 .rec))) ∷ ‵ (fbor κ·rec (Body (mem T·Record.the-row) b·rec o·rec γ·rec)) ∷ ‵ (flft κ·rec q·rec) ∷ ‵ (flft κ·requests q·requests) ∷ ‵ (flft κ·chip q·chip) ∷ ‵ (flft κ·spare q·spare) ∷ ‵ (flft κ·directory q·directory) ∷ ‵ (flft κ·cache q·cache) ∷ ‵ (flft κ·words q·words) ∷ ‵ (flft κ·answers q·answers) ∷ ‵ (flft κ·counts q·counts) ∷ ‵ (ShrSlice (named 1) κ·requests T·Request.the-row .own (slice T·Request.the-row b·requests o·requests γ·requests l·requests) ((sliceVal (b·requests, o·requests) (length l·requests)) ∷ [])) ∷ ‵ (finally u32 γ·chip (zs·2 .1 .1 .1 .0)) ∷ ‵ (finally u32 γ·spare (zs·2 .1 .1 .1 .1 .0)) ∷ ‵ (finally u32 γ·directory (zs·2 .1 .1 .1 .1 .1 .0)) ∷ ‵ (finally u32 γ·cache (zs·2 .1 .1 .1 .1 .1 .1 .0)) ∷ ‵ (finally u32 γ·words (zs·2 .1 .1 .1 .1 .1 .1 .1 .0)) ∷ ‵ (finally u32 γ·answers (zs·2 .1 .1 .1 .1 .1 .1 .1 .1 .0)) ∷ ‵ (finally u32 γ·counts (zs·3 .1 .0)) ∷ []) ∵ suffices ! _ (ends-at 𝓤 H A walked·.ended stayed (walked·.clauses 𝓤 H A mm rn) W (((κ·rec, (κ·requests, (κ·chip, (κ·spare, (κ·directory, (κ·cache, (κ·words, (κ·answers, (κ·counts, tt))))))))), (q·rec, (q·requests, (q·chip, (q·spare, (q·directory, (q·cache, (q·words, (q·answers, (q·counts, tt))))))))), tt, a, vals), tt) (vint w32 (r·3 .answer)) (r·3 .answer) ((r·3 .rec), (tt, (tt, ((zs·2 .1 .1 .1 .0), ((zs·2 .1 .1 .1 .1 .0), ((zs·2 .1 .1 .1 .1 .1 .0), ((zs·2 .1 .1 .1 .1 .1 .1 .0), ((zs·2 .1 .1 .1 .1 .1 .1 .1 .0), ((zs·2 .1 .1 .1 .1 .1 .1 .1 .1 .0), ((zs·3 .1 .0), tt)))))))))) (tt, (tt, (tt, (e·chip, (e·spare, (e·directory, (e·cache, (e·words, (e·answers, (e·counts, tt))))))))))) $
       says ! (run-by did·1 did·2 did·3) $ feqI ! (List Val) ((vptr b·rec o·rec) ∷ []) ((vptr b·rec o·rec) ∷ []) refl $ fjoin3 ! $ nothing ! $ move ! (10 ∷ 0 ∷ []) $ join ! $ move ! (9 ∷ 0 ∷ []) $ join ! $ move ! (8 ∷ 0 ∷ []) $ join ! $ move ! (7 ∷ 0 ∷ []) $ join ! $ move ! (6 ∷ 0 ∷ []) $ join ! $ move ! (5 ∷ 0 ∷ []) $ join ! $ move ! (4 ∷ 0 ∷ []) $ join ! $ move ! (3 ∷ 0 ∷ []) $ join ! $ move ! (2 ∷ 0 ∷ []) $ join ! $ frame ! $ nothing ! $ move ! (9 ∷ 0 ∷ []) $ fjoin ! $ move ! (8 ∷ 0 ∷ []) $ fjoin ! $ move ! (7 ∷ 0 ∷ []) $ fjoin ! $ move ! (6 ∷ 0 ∷ []) $ fjoin ! $ move ! (5 ∷ 0 ∷ []) $ fjoin ! $ move ! (4 ∷ 0 ∷ []) $ fjoin ! $ move ! (3 ∷ 0 ∷ []) $ fjoin ! $ move ! (2 ∷ 0 ∷ []) $ fjoin ! $ owned ! T·Geometry.the-row (Is T·Geometry.the-row) (LL.makes T·Geometry.the-type L·Geometry.the-plain 𝓤 H A) v·g _ is·g $ fjoin ! $ move ! (1 ∷ 0 ∷ []) $ fjoin ! $ owned ! u32 (Is u32) (uint-makes 𝓤 H A W w32) (r·3 .answer) _ ans $ move ! (1 ∷ 0 ∷ []) $ done !
 
   module _ (𝓣 : Tables 𝓤 H) (fm : FmC 𝓤 H (W .laws) (𝓣 .C)) (known·1 : Triple 𝓤 (𝓣 .C #·1) (Callee·1 𝓤 H A mm rn)) (known·2 : Triple 𝓤 (𝓣 .C #·2) (Callee·2 𝓤 H A mm rn)) (known·3 : Triple 𝓤 (𝓣 .C #·3) (Callee·3 𝓤 H A mm rn)) (l·0 l·1 l·2 l·3 l·4 l·5 l·6 l·7 l·8 l·9 l·10 l·11 l·12 l·13 l·14 l·15 l·16 l·17 l·18 l·19 l·20 l·21 l·22 l·23 l·24 l·25 l·26 l·27 l·28 l·29 l·30 l·31 l·32 l·33 l·34 l·35 l·36 l·37 l·38 l·39 l·40 : ℕ) where
@@ -245,8 +197,8 @@ module _ {M : Type 1} (𝓤 : URA M) (H : Heap 𝓤) (A : Atoms 𝓤) (W : Given
     En = ((tyInt w32), l·0) ∷ ((tyRef (named 0) mut (pointee (T·Record.the-row .written))), l·1) ∷ (L·Geometry.mir, l·2) ∷ ((sliceTy (tyRef (named 1) imm (pointee (T·Request.the-row .written)))), l·3) ∷ ((sliceTy (tyRef (named 2) mut (tyInt w32))), l·4) ∷ ((sliceTy (tyRef (named 3) mut (tyInt w32))), l·5) ∷ ((sliceTy (tyRef (named 4) mut (tyInt w32))), l·6) ∷ ((sliceTy (tyRef (named 5) mut (tyInt w32))), l·7) ∷ ((sliceTy (tyRef (named 6) mut (tyInt w32))), l·8) ∷ ((sliceTy (tyRef (named 7) mut (tyInt w32))), l·9) ∷ ((sliceTy (tyRef (named 8) mut (tyInt w32))), l·10) ∷ (L·Record.mir, l·11) ∷ ((tyInt w64), l·12) ∷ ((tyInt w64), l·13) ∷ ((tyInt w64), l·14) ∷ ((tyInt w64), l·15) ∷ (L·Running.mir, l·16) ∷ (L·Running.mir, l·17) ∷ (L·Out.mir, l·18) ∷ ((tyRef erased mut (tyInt w32)), l·19) ∷ ((sliceTy (tyRef erased mut (tyInt w32))), l·20) ∷ ((tyRef erased mut (tyInt w32)), l·21) ∷ ((sliceTy (tyRef erased mut (tyInt w32))), l·22) ∷ ((tyRef erased mut (tyInt w32)), l·23) ∷ ((sliceTy (tyRef erased mut (tyInt w32))), l·24) ∷ ((tyRef erased mut (tyInt w32)), l·25) ∷ ((sliceTy (tyRef erased mut (tyInt w32))), l·26) ∷ ((tyRef erased mut (tyInt w32)), l·27) ∷ ((sliceTy (tyRef erased mut (tyInt w32))), l·28) ∷ ((tyRef erased mut (tyInt w32)), l·29) ∷ ((sliceTy (tyRef erased mut (tyInt w32))), l·30) ∷ ((tyRef erased mut (tyInt w32)), l·31) ∷ ((sliceTy (tyRef erased mut (tyInt w32))), l·32) ∷ ((tyRef erased mut (tyInt w32)), l·33) ∷ ((sliceTy (tyRef erased mut (tyInt w32))), l·34) ∷ ((tyRef erased mut (tyInt w32)), l·35) ∷ ((sliceTy (tyRef erased mut (tyInt w32))), l·36) ∷ ((tyRef erased mut (tyInt w32)), l·37) ∷ ((sliceTy (tyRef erased mut (tyInt w32))), l·38) ∷ ((tyRef erased mut (tyInt w32)), l·39) ∷ ((sliceTy (tyRef erased mut (tyInt w32))), l·40) ∷ []
 
     call·1 : (is·rec : Is T·Record.the-row v·rec ((LL.val T·Record.the-type L·Record.the-laws v·rec) ∷ [])) (Γ : List (Item 𝓤))
-        → ((r·1 : D·Running) (zs·1 : Unit {0} × (Unit {0} × (Unit {0} × (Unit {0} × (Unit {0} × (Unit {0} × (Unit {0} × (List ℕ × (List ℕ × (List ℕ × (List ℕ × (Unit {0})))))))))))) (did·1 : Did·1 r·1 zs·1) (is·1 : Is T·Running.the-row r·1 ((LL.val T·Running.the-type L·Running.the-laws r·1) ∷ [])) (d·1·chip : length (zs·1 .1 .1 .1 .1 .1 .1 .1 .0) ≡ length l·chip) (d·1·spare : length (zs·1 .1 .1 .1 .1 .1 .1 .1 .1 .0) ≡ length l·spare) (d·1·directory : length (zs·1 .1 .1 .1 .1 .1 .1 .1 .1 .1 .0) ≡ length l·directory) (d·1·cache : length (zs·1 .1 .1 .1 .1 .1 .1 .1 .1 .1 .1 .0) ≡ length l·cache) → Sq W (‵ (MutSlice (named 2) κ·chip u32 .own (x·chip γ·chip (zs·1 .1 .1 .1 .1 .1 .1 .1 .0)) (s·chip ∷ [])) ∷ ‵ (MutSlice (named 3) κ·spare u32 .own (x·spare γ·spare (zs·1 .1 .1 .1 .1 .1 .1 .1 .1 .0)) (s·spare ∷ [])) ∷ ‵ (MutSlice (named 4) κ·directory u32 .own (x·directory γ·directory (zs·1 .1 .1 .1 .1 .1 .1 .1 .1 .1 .0)) (s·directory ∷ [])) ∷ ‵ (MutSlice (named 5) κ·cache u32 .own (x·cache γ·cache (zs·1 .1 .1 .1 .1 .1 .1 .1 .1 .1 .1 .0)) (s·cache ∷ [])) ∷ ‵ (flft κ·chip q·chip) ∷ ‵ (flft κ·spare q·spare) ∷ ‵ (flft κ·directory q·directory) ∷ ‵ (flft κ·cache q·cache) ∷ ‵ (fat fullShare L·Record.mir l·11 0 (LL.val T·Record.the-type L·Record.the-laws v·rec)) ∷ ‵ (fat fullShare (tyInt w64) l·12 0 (vint w64 (length l·requests))) ∷ ‵ (fat fullShare L·Geometry.mir l·2 0 (LL.val T·Geometry.the-type L·Geometry.the-laws v·g)) ∷ ‵ (fat fullShare (tyInt w64) l·13 0 (vint w64 (length l·words))) ∷ ‵ (fat fullShare (tyInt w64) l·14 0 (vint w64 (length l·answers))) ∷ ‵ (fat fullShare (tyInt w64) l·15 0 (vint w64 (length l·counts))) ∷ ‵ (fat fullShare (sliceTy (tyRef (named 2) mut (tyInt w32))) l·4 0 s·chip) ∷ ‵ (fat fullShare (sliceTy (tyRef (named 3) mut (tyInt w32))) l·5 0 s·spare) ∷ ‵ (fat fullShare (sliceTy (tyRef (named 4) mut (tyInt w32))) l·6 0 s·directory) ∷ ‵ (fat fullShare (sliceTy (tyRef (named 5) mut (tyInt w32))) l·7 0 s·cache) ∷ ‵ (fat fullShare L·Running.mir l·16 0 (LL.val T·Running.the-type L·Running.the-laws r·1)) ∷ ‵ (froom (tyRef erased mut (tyInt w32)) l·19 0) ∷ ‵ (froom (sliceTy (tyRef erased mut (tyInt w32))) l·20 0) ∷ ‵ (froom (tyRef erased mut (tyInt w32)) l·21 0) ∷ ‵ (froom (sliceTy (tyRef erased mut (tyInt w32))) l·22 0) ∷ ‵ (froom (tyRef erased mut (tyInt w32)) l·23 0) ∷ ‵ (froom (sliceTy (tyRef erased mut (tyInt w32))) l·24 0) ∷ ‵ (froom (tyRef erased mut (tyInt w32)) l·25 0) ∷ ‵ (froom (sliceTy (tyRef erased mut (tyInt w32))) l·26 0) ∷ Γ) (runs (𝓣 .C) (𝓣 .Λ) En piece.t-15 (atRet En Post)))
-        → Sq W (‵ (MutSlice (named 2) κ·chip u32 .own (x·chip γ·chip l·chip) (s·chip ∷ [])) ∷ ‵ (MutSlice (named 3) κ·spare u32 .own (x·spare γ·spare l·spare) (s·spare ∷ [])) ∷ ‵ (MutSlice (named 4) κ·directory u32 .own (x·directory γ·directory l·directory) (s·directory ∷ [])) ∷ ‵ (MutSlice (named 5) κ·cache u32 .own (x·cache γ·cache l·cache) (s·cache ∷ [])) ∷ ‵ (flft κ·chip q·chip) ∷ ‵ (flft κ·spare q·spare) ∷ ‵ (flft κ·directory q·directory) ∷ ‵ (flft κ·cache q·cache) ∷ ‵ (fat fullShare L·Record.mir l·11 0 (LL.val T·Record.the-type L·Record.the-laws v·rec)) ∷ ‵ (fat fullShare (tyInt w64) l·12 0 (vint w64 (length l·requests))) ∷ ‵ (fat fullShare L·Geometry.mir l·2 0 (LL.val T·Geometry.the-type L·Geometry.the-laws v·g)) ∷ ‵ (fat fullShare (tyInt w64) l·13 0 (vint w64 (length l·words))) ∷ ‵ (fat fullShare (tyInt w64) l·14 0 (vint w64 (length l·answers))) ∷ ‵ (fat fullShare (tyInt w64) l·15 0 (vint w64 (length l·counts))) ∷ ‵ (fat fullShare (sliceTy (tyRef (named 2) mut (tyInt w32))) l·4 0 s·chip) ∷ ‵ (fat fullShare (sliceTy (tyRef (named 3) mut (tyInt w32))) l·5 0 s·spare) ∷ ‵ (fat fullShare (sliceTy (tyRef (named 4) mut (tyInt w32))) l·6 0 s·directory) ∷ ‵ (fat fullShare (sliceTy (tyRef (named 5) mut (tyInt w32))) l·7 0 s·cache) ∷ ‵ (froom L·Running.mir l·16 0) ∷ ‵ (froom (tyRef erased mut (tyInt w32)) l·19 0) ∷ ‵ (froom (sliceTy (tyRef erased mut (tyInt w32))) l·20 0) ∷ ‵ (froom (tyRef erased mut (tyInt w32)) l·21 0) ∷ ‵ (froom (sliceTy (tyRef erased mut (tyInt w32))) l·22 0) ∷ ‵ (froom (tyRef erased mut (tyInt w32)) l·23 0) ∷ ‵ (froom (sliceTy (tyRef erased mut (tyInt w32))) l·24 0) ∷ ‵ (froom (tyRef erased mut (tyInt w32)) l·25 0) ∷ ‵ (froom (sliceTy (tyRef erased mut (tyInt w32))) l·26 0) ∷ Γ) (runs (𝓣 .C) (𝓣 .Λ) En piece.t-6 (atRet En Post))
+        → ((r·1 : D·Running) (zs·1 : Unit {0} × (Unit {0} × (Unit {0} × (Unit {0} × (Unit {0} × (Unit {0} × (Unit {0} × (List ℕ × (List ℕ × (List ℕ × (List ℕ × (Unit {0})))))))))))) (did·1 : Did·1 r·1 zs·1) (is·1 : Is T·Running.the-row r·1 ((LL.val T·Running.the-type L·Running.the-laws r·1) ∷ [])) (d·1·chip : length (zs·1 .1 .1 .1 .1 .1 .1 .1 .0) ≡ length l·chip) (d·1·spare : length (zs·1 .1 .1 .1 .1 .1 .1 .1 .1 .0) ≡ length l·spare) (d·1·directory : length (zs·1 .1 .1 .1 .1 .1 .1 .1 .1 .1 .0) ≡ length l·directory) (d·1·cache : length (zs·1 .1 .1 .1 .1 .1 .1 .1 .1 .1 .1 .0) ≡ length l·cache) → Sq W (‵ (MutSlice (named 2) κ·chip u32 .own (slice u32 b·chip o·chip γ·chip (zs·1 .1 .1 .1 .1 .1 .1 .1 .0)) ((sliceVal (b·chip, o·chip) (length l·chip)) ∷ [])) ∷ ‵ (MutSlice (named 3) κ·spare u32 .own (slice u32 b·spare o·spare γ·spare (zs·1 .1 .1 .1 .1 .1 .1 .1 .1 .0)) ((sliceVal (b·spare, o·spare) (length l·spare)) ∷ [])) ∷ ‵ (MutSlice (named 4) κ·directory u32 .own (slice u32 b·directory o·directory γ·directory (zs·1 .1 .1 .1 .1 .1 .1 .1 .1 .1 .0)) ((sliceVal (b·directory, o·directory) (length l·directory)) ∷ [])) ∷ ‵ (MutSlice (named 5) κ·cache u32 .own (slice u32 b·cache o·cache γ·cache (zs·1 .1 .1 .1 .1 .1 .1 .1 .1 .1 .1 .0)) ((sliceVal (b·cache, o·cache) (length l·cache)) ∷ [])) ∷ ‵ (flft κ·chip q·chip) ∷ ‵ (flft κ·spare q·spare) ∷ ‵ (flft κ·directory q·directory) ∷ ‵ (flft κ·cache q·cache) ∷ ‵ (fat fullShare L·Record.mir l·11 0 (LL.val T·Record.the-type L·Record.the-laws v·rec)) ∷ ‵ (fat fullShare (tyInt w64) l·12 0 (vint w64 (length l·requests))) ∷ ‵ (fat fullShare L·Geometry.mir l·2 0 (LL.val T·Geometry.the-type L·Geometry.the-laws v·g)) ∷ ‵ (fat fullShare (tyInt w64) l·13 0 (vint w64 (length l·words))) ∷ ‵ (fat fullShare (tyInt w64) l·14 0 (vint w64 (length l·answers))) ∷ ‵ (fat fullShare (tyInt w64) l·15 0 (vint w64 (length l·counts))) ∷ ‵ (fat fullShare (sliceTy (tyRef (named 2) mut (tyInt w32))) l·4 0 (sliceVal (b·chip, o·chip) (length l·chip))) ∷ ‵ (fat fullShare (sliceTy (tyRef (named 3) mut (tyInt w32))) l·5 0 (sliceVal (b·spare, o·spare) (length l·spare))) ∷ ‵ (fat fullShare (sliceTy (tyRef (named 4) mut (tyInt w32))) l·6 0 (sliceVal (b·directory, o·directory) (length l·directory))) ∷ ‵ (fat fullShare (sliceTy (tyRef (named 5) mut (tyInt w32))) l·7 0 (sliceVal (b·cache, o·cache) (length l·cache))) ∷ ‵ (fat fullShare L·Running.mir l·16 0 (LL.val T·Running.the-type L·Running.the-laws r·1)) ∷ ‵ (froom (tyRef erased mut (tyInt w32)) l·19 0) ∷ ‵ (froom (sliceTy (tyRef erased mut (tyInt w32))) l·20 0) ∷ ‵ (froom (tyRef erased mut (tyInt w32)) l·21 0) ∷ ‵ (froom (sliceTy (tyRef erased mut (tyInt w32))) l·22 0) ∷ ‵ (froom (tyRef erased mut (tyInt w32)) l·23 0) ∷ ‵ (froom (sliceTy (tyRef erased mut (tyInt w32))) l·24 0) ∷ ‵ (froom (tyRef erased mut (tyInt w32)) l·25 0) ∷ ‵ (froom (sliceTy (tyRef erased mut (tyInt w32))) l·26 0) ∷ Γ) (runs (𝓣 .C) (𝓣 .Λ) En piece.t-15 (atRet En Post)))
+        → Sq W (‵ (MutSlice (named 2) κ·chip u32 .own (slice u32 b·chip o·chip γ·chip l·chip) ((sliceVal (b·chip, o·chip) (length l·chip)) ∷ [])) ∷ ‵ (MutSlice (named 3) κ·spare u32 .own (slice u32 b·spare o·spare γ·spare l·spare) ((sliceVal (b·spare, o·spare) (length l·spare)) ∷ [])) ∷ ‵ (MutSlice (named 4) κ·directory u32 .own (slice u32 b·directory o·directory γ·directory l·directory) ((sliceVal (b·directory, o·directory) (length l·directory)) ∷ [])) ∷ ‵ (MutSlice (named 5) κ·cache u32 .own (slice u32 b·cache o·cache γ·cache l·cache) ((sliceVal (b·cache, o·cache) (length l·cache)) ∷ [])) ∷ ‵ (flft κ·chip q·chip) ∷ ‵ (flft κ·spare q·spare) ∷ ‵ (flft κ·directory q·directory) ∷ ‵ (flft κ·cache q·cache) ∷ ‵ (fat fullShare L·Record.mir l·11 0 (LL.val T·Record.the-type L·Record.the-laws v·rec)) ∷ ‵ (fat fullShare (tyInt w64) l·12 0 (vint w64 (length l·requests))) ∷ ‵ (fat fullShare L·Geometry.mir l·2 0 (LL.val T·Geometry.the-type L·Geometry.the-laws v·g)) ∷ ‵ (fat fullShare (tyInt w64) l·13 0 (vint w64 (length l·words))) ∷ ‵ (fat fullShare (tyInt w64) l·14 0 (vint w64 (length l·answers))) ∷ ‵ (fat fullShare (tyInt w64) l·15 0 (vint w64 (length l·counts))) ∷ ‵ (fat fullShare (sliceTy (tyRef (named 2) mut (tyInt w32))) l·4 0 (sliceVal (b·chip, o·chip) (length l·chip))) ∷ ‵ (fat fullShare (sliceTy (tyRef (named 3) mut (tyInt w32))) l·5 0 (sliceVal (b·spare, o·spare) (length l·spare))) ∷ ‵ (fat fullShare (sliceTy (tyRef (named 4) mut (tyInt w32))) l·6 0 (sliceVal (b·directory, o·directory) (length l·directory))) ∷ ‵ (fat fullShare (sliceTy (tyRef (named 5) mut (tyInt w32))) l·7 0 (sliceVal (b·cache, o·cache) (length l·cache))) ∷ ‵ (froom L·Running.mir l·16 0) ∷ ‵ (froom (tyRef erased mut (tyInt w32)) l·19 0) ∷ ‵ (froom (sliceTy (tyRef erased mut (tyInt w32))) l·20 0) ∷ ‵ (froom (tyRef erased mut (tyInt w32)) l·21 0) ∷ ‵ (froom (sliceTy (tyRef erased mut (tyInt w32))) l·22 0) ∷ ‵ (froom (tyRef erased mut (tyInt w32)) l·23 0) ∷ ‵ (froom (sliceTy (tyRef erased mut (tyInt w32))) l·24 0) ∷ ‵ (froom (tyRef erased mut (tyInt w32)) l·25 0) ∷ ‵ (froom (sliceTy (tyRef erased mut (tyInt w32))) l·26 0) ∷ Γ) (runs (𝓣 .C) (𝓣 .Λ) En piece.t-6 (atRet En Post))
     call·1 is·rec Γ so =
         assigns ! (addr ! (from ! (fld ! refl (hop ! (look-in ! 14 (sub ! 0 refl (whole !))) (stop !))))) (from ! (stop !)) (init ! 19 refl (tt, tt)) $
         assigns ! (agg ! (and-then ! (load ! (from ! (stop !)) (look ! 19 refl)) (and-then ! (load ! (from ! (fld ! refl (stop !))) (look-in ! 14 (sub ! 1 refl (whole !)))) (no-more !)))) (from ! (stop !)) (init ! 20 refl (tt, (tt, (record { fits = room·chip .0 }, tt)))) $
@@ -272,8 +224,8 @@ module _ {M : Type 1} (𝓤 : URA M) (H : Heap 𝓤) (A : Atoms 𝓤) (W : Given
         move ! (6 ∷ 4 ∷ 2 ∷ 0 ∷ 7 ∷ 5 ∷ 3 ∷ 1 ∷ 8 ∷ 9 ∷ 10 ∷ 11 ∷ 12 ∷ 13 ∷ 14 ∷ 15 ∷ 16 ∷ 17 ∷ 18 ∷ 19 ∷ 20 ∷ 21 ∷ 22 ∷ 23 ∷ 24 ∷ 25 ∷ 26 ∷ []) $ so r·1 zs·1 did·1 (LL.owes T·Running.the-type L·Running.the-laws r·1 (LL.owed T·Running.the-type L·Running.the-laws r·1 _ was·1)) d·1·chip d·1·spare d·1·directory d·1·cache))))))
 
     call·2 : (is·rec : Is T·Record.the-row v·rec ((LL.val T·Record.the-type L·Record.the-laws v·rec) ∷ [])) (r·1 : D·Running) (zs·1 : Unit {0} × (Unit {0} × (Unit {0} × (Unit {0} × (Unit {0} × (Unit {0} × (Unit {0} × (List ℕ × (List ℕ × (List ℕ × (List ℕ × (Unit {0})))))))))))) (did·1 : Did·1 r·1 zs·1) (is·1 : Is T·Running.the-row r·1 ((LL.val T·Running.the-type L·Running.the-laws r·1) ∷ [])) (d·1·chip : length (zs·1 .1 .1 .1 .1 .1 .1 .1 .0) ≡ length l·chip) (d·1·spare : length (zs·1 .1 .1 .1 .1 .1 .1 .1 .1 .0) ≡ length l·spare) (d·1·directory : length (zs·1 .1 .1 .1 .1 .1 .1 .1 .1 .1 .0) ≡ length l·directory) (d·1·cache : length (zs·1 .1 .1 .1 .1 .1 .1 .1 .1 .1 .1 .0) ≡ length l·cache) (Γ : List (Item 𝓤))
-        → ((r·2 : D·Running) (zs·2 : Unit {0} × (Unit {0} × (Unit {0} × (List ℕ × (List ℕ × (List ℕ × (List ℕ × (List ℕ × (List ℕ × (Unit {0})))))))))) (did·2 : Did·2 r·1 zs·1 r·2 zs·2) (is·2 : Is T·Running.the-row r·2 ((LL.val T·Running.the-type L·Running.the-laws r·2) ∷ [])) (d·2·chip : length (zs·2 .1 .1 .1 .0) ≡ length (zs·1 .1 .1 .1 .1 .1 .1 .1 .0)) (d·2·spare : length (zs·2 .1 .1 .1 .1 .0) ≡ length (zs·1 .1 .1 .1 .1 .1 .1 .1 .1 .0)) (d·2·directory : length (zs·2 .1 .1 .1 .1 .1 .0) ≡ length (zs·1 .1 .1 .1 .1 .1 .1 .1 .1 .1 .0)) (d·2·cache : length (zs·2 .1 .1 .1 .1 .1 .1 .0) ≡ length (zs·1 .1 .1 .1 .1 .1 .1 .1 .1 .1 .1 .0)) (d·2·words : length (zs·2 .1 .1 .1 .1 .1 .1 .1 .0) ≡ length l·words) (d·2·answers : length (zs·2 .1 .1 .1 .1 .1 .1 .1 .1 .0) ≡ length l·answers) → Sq W (‵ (ShrSlice (named 1) κ·requests T·Request.the-row .own (x·requests γ·requests l·requests) (s·requests ∷ [])) ∷ ‵ (finally u32 γ·chip (zs·2 .1 .1 .1 .0)) ∷ ‵ (finally u32 γ·spare (zs·2 .1 .1 .1 .1 .0)) ∷ ‵ (finally u32 γ·directory (zs·2 .1 .1 .1 .1 .1 .0)) ∷ ‵ (finally u32 γ·cache (zs·2 .1 .1 .1 .1 .1 .1 .0)) ∷ ‵ (finally u32 γ·words (zs·2 .1 .1 .1 .1 .1 .1 .1 .0)) ∷ ‵ (finally u32 γ·answers (zs·2 .1 .1 .1 .1 .1 .1 .1 .1 .0)) ∷ ‵ (flft κ·requests q·requests) ∷ ‵ (flft κ·chip q·chip) ∷ ‵ (flft κ·spare q·spare) ∷ ‵ (flft κ·directory q·directory) ∷ ‵ (flft κ·cache q·cache) ∷ ‵ (flft κ·words q·words) ∷ ‵ (flft κ·answers q·answers) ∷ ‵ (fat fullShare L·Running.mir l·16 0 (LL.val T·Running.the-type L·Running.the-laws r·1)) ∷ ‵ (fat fullShare (sliceTy (tyRef (named 1) imm (pointee (T·Request.the-row .written)))) l·3 0 s·requests) ∷ ‵ (fat fullShare L·Geometry.mir l·2 0 (LL.val T·Geometry.the-type L·Geometry.the-laws v·g)) ∷ ‵ (fat fullShare (sliceTy (tyRef (named 2) mut (tyInt w32))) l·4 0 s·chip) ∷ ‵ (fat fullShare (sliceTy (tyRef (named 3) mut (tyInt w32))) l·5 0 s·spare) ∷ ‵ (fat fullShare (sliceTy (tyRef (named 4) mut (tyInt w32))) l·6 0 s·directory) ∷ ‵ (fat fullShare (sliceTy (tyRef (named 5) mut (tyInt w32))) l·7 0 s·cache) ∷ ‵ (fat fullShare (sliceTy (tyRef (named 6) mut (tyInt w32))) l·8 0 s·words) ∷ ‵ (fat fullShare (sliceTy (tyRef (named 7) mut (tyInt w32))) l·9 0 s·answers) ∷ ‵ (fat fullShare L·Running.mir l·17 0 (LL.val T·Running.the-type L·Running.the-laws r·2)) ∷ ‵ (froom (tyRef erased mut (tyInt w32)) l·27 0) ∷ ‵ (froom (sliceTy (tyRef erased mut (tyInt w32))) l·28 0) ∷ ‵ (froom (tyRef erased mut (tyInt w32)) l·29 0) ∷ ‵ (froom (sliceTy (tyRef erased mut (tyInt w32))) l·30 0) ∷ ‵ (froom (tyRef erased mut (tyInt w32)) l·31 0) ∷ ‵ (froom (sliceTy (tyRef erased mut (tyInt w32))) l·32 0) ∷ ‵ (froom (tyRef erased mut (tyInt w32)) l·33 0) ∷ ‵ (froom (sliceTy (tyRef erased mut (tyInt w32))) l·34 0) ∷ ‵ (froom (tyRef erased mut (tyInt w32)) l·35 0) ∷ ‵ (froom (sliceTy (tyRef erased mut (tyInt w32))) l·36 0) ∷ ‵ (froom (tyRef erased mut (tyInt w32)) l·37 0) ∷ ‵ (froom (sliceTy (tyRef erased mut (tyInt w32))) l·38 0) ∷ Γ) (runs (𝓣 .C) (𝓣 .Λ) En piece.t-28 (atRet En Post)))
-        → Sq W (‵ (ShrSlice (named 1) κ·requests T·Request.the-row .own (x·requests γ·requests l·requests) (s·requests ∷ [])) ∷ ‵ (MutSlice (named 2) κ·chip u32 .own (x·chip γ·chip (zs·1 .1 .1 .1 .1 .1 .1 .1 .0)) (s·chip ∷ [])) ∷ ‵ (MutSlice (named 3) κ·spare u32 .own (x·spare γ·spare (zs·1 .1 .1 .1 .1 .1 .1 .1 .1 .0)) (s·spare ∷ [])) ∷ ‵ (MutSlice (named 4) κ·directory u32 .own (x·directory γ·directory (zs·1 .1 .1 .1 .1 .1 .1 .1 .1 .1 .0)) (s·directory ∷ [])) ∷ ‵ (MutSlice (named 5) κ·cache u32 .own (x·cache γ·cache (zs·1 .1 .1 .1 .1 .1 .1 .1 .1 .1 .1 .0)) (s·cache ∷ [])) ∷ ‵ (MutSlice (named 6) κ·words u32 .own (x·words γ·words l·words) (s·words ∷ [])) ∷ ‵ (MutSlice (named 7) κ·answers u32 .own (x·answers γ·answers l·answers) (s·answers ∷ [])) ∷ ‵ (flft κ·requests q·requests) ∷ ‵ (flft κ·chip q·chip) ∷ ‵ (flft κ·spare q·spare) ∷ ‵ (flft κ·directory q·directory) ∷ ‵ (flft κ·cache q·cache) ∷ ‵ (flft κ·words q·words) ∷ ‵ (flft κ·answers q·answers) ∷ ‵ (fat fullShare L·Running.mir l·16 0 (LL.val T·Running.the-type L·Running.the-laws r·1)) ∷ ‵ (fat fullShare (sliceTy (tyRef (named 1) imm (pointee (T·Request.the-row .written)))) l·3 0 s·requests) ∷ ‵ (fat fullShare L·Geometry.mir l·2 0 (LL.val T·Geometry.the-type L·Geometry.the-laws v·g)) ∷ ‵ (fat fullShare (sliceTy (tyRef (named 2) mut (tyInt w32))) l·4 0 s·chip) ∷ ‵ (fat fullShare (sliceTy (tyRef (named 3) mut (tyInt w32))) l·5 0 s·spare) ∷ ‵ (fat fullShare (sliceTy (tyRef (named 4) mut (tyInt w32))) l·6 0 s·directory) ∷ ‵ (fat fullShare (sliceTy (tyRef (named 5) mut (tyInt w32))) l·7 0 s·cache) ∷ ‵ (fat fullShare (sliceTy (tyRef (named 6) mut (tyInt w32))) l·8 0 s·words) ∷ ‵ (fat fullShare (sliceTy (tyRef (named 7) mut (tyInt w32))) l·9 0 s·answers) ∷ ‵ (froom L·Running.mir l·17 0) ∷ ‵ (froom (tyRef erased mut (tyInt w32)) l·27 0) ∷ ‵ (froom (sliceTy (tyRef erased mut (tyInt w32))) l·28 0) ∷ ‵ (froom (tyRef erased mut (tyInt w32)) l·29 0) ∷ ‵ (froom (sliceTy (tyRef erased mut (tyInt w32))) l·30 0) ∷ ‵ (froom (tyRef erased mut (tyInt w32)) l·31 0) ∷ ‵ (froom (sliceTy (tyRef erased mut (tyInt w32))) l·32 0) ∷ ‵ (froom (tyRef erased mut (tyInt w32)) l·33 0) ∷ ‵ (froom (sliceTy (tyRef erased mut (tyInt w32))) l·34 0) ∷ ‵ (froom (tyRef erased mut (tyInt w32)) l·35 0) ∷ ‵ (froom (sliceTy (tyRef erased mut (tyInt w32))) l·36 0) ∷ ‵ (froom (tyRef erased mut (tyInt w32)) l·37 0) ∷ ‵ (froom (sliceTy (tyRef erased mut (tyInt w32))) l·38 0) ∷ Γ) (runs (𝓣 .C) (𝓣 .Λ) En piece.t-15 (atRet En Post))
+        → ((r·2 : D·Running) (zs·2 : Unit {0} × (Unit {0} × (Unit {0} × (List ℕ × (List ℕ × (List ℕ × (List ℕ × (List ℕ × (List ℕ × (Unit {0})))))))))) (did·2 : Did·2 r·1 zs·1 r·2 zs·2) (is·2 : Is T·Running.the-row r·2 ((LL.val T·Running.the-type L·Running.the-laws r·2) ∷ [])) (d·2·chip : length (zs·2 .1 .1 .1 .0) ≡ length (zs·1 .1 .1 .1 .1 .1 .1 .1 .0)) (d·2·spare : length (zs·2 .1 .1 .1 .1 .0) ≡ length (zs·1 .1 .1 .1 .1 .1 .1 .1 .1 .0)) (d·2·directory : length (zs·2 .1 .1 .1 .1 .1 .0) ≡ length (zs·1 .1 .1 .1 .1 .1 .1 .1 .1 .1 .0)) (d·2·cache : length (zs·2 .1 .1 .1 .1 .1 .1 .0) ≡ length (zs·1 .1 .1 .1 .1 .1 .1 .1 .1 .1 .1 .0)) (d·2·words : length (zs·2 .1 .1 .1 .1 .1 .1 .1 .0) ≡ length l·words) (d·2·answers : length (zs·2 .1 .1 .1 .1 .1 .1 .1 .1 .0) ≡ length l·answers) → Sq W (‵ (ShrSlice (named 1) κ·requests T·Request.the-row .own (slice T·Request.the-row b·requests o·requests γ·requests l·requests) ((sliceVal (b·requests, o·requests) (length l·requests)) ∷ [])) ∷ ‵ (finally u32 γ·chip (zs·2 .1 .1 .1 .0)) ∷ ‵ (finally u32 γ·spare (zs·2 .1 .1 .1 .1 .0)) ∷ ‵ (finally u32 γ·directory (zs·2 .1 .1 .1 .1 .1 .0)) ∷ ‵ (finally u32 γ·cache (zs·2 .1 .1 .1 .1 .1 .1 .0)) ∷ ‵ (finally u32 γ·words (zs·2 .1 .1 .1 .1 .1 .1 .1 .0)) ∷ ‵ (finally u32 γ·answers (zs·2 .1 .1 .1 .1 .1 .1 .1 .1 .0)) ∷ ‵ (flft κ·requests q·requests) ∷ ‵ (flft κ·chip q·chip) ∷ ‵ (flft κ·spare q·spare) ∷ ‵ (flft κ·directory q·directory) ∷ ‵ (flft κ·cache q·cache) ∷ ‵ (flft κ·words q·words) ∷ ‵ (flft κ·answers q·answers) ∷ ‵ (fat fullShare L·Running.mir l·16 0 (LL.val T·Running.the-type L·Running.the-laws r·1)) ∷ ‵ (fat fullShare (sliceTy (tyRef (named 1) imm (pointee (T·Request.the-row .written)))) l·3 0 (sliceVal (b·requests, o·requests) (length l·requests))) ∷ ‵ (fat fullShare L·Geometry.mir l·2 0 (LL.val T·Geometry.the-type L·Geometry.the-laws v·g)) ∷ ‵ (fat fullShare (sliceTy (tyRef (named 2) mut (tyInt w32))) l·4 0 (sliceVal (b·chip, o·chip) (length l·chip))) ∷ ‵ (fat fullShare (sliceTy (tyRef (named 3) mut (tyInt w32))) l·5 0 (sliceVal (b·spare, o·spare) (length l·spare))) ∷ ‵ (fat fullShare (sliceTy (tyRef (named 4) mut (tyInt w32))) l·6 0 (sliceVal (b·directory, o·directory) (length l·directory))) ∷ ‵ (fat fullShare (sliceTy (tyRef (named 5) mut (tyInt w32))) l·7 0 (sliceVal (b·cache, o·cache) (length l·cache))) ∷ ‵ (fat fullShare (sliceTy (tyRef (named 6) mut (tyInt w32))) l·8 0 (sliceVal (b·words, o·words) (length l·words))) ∷ ‵ (fat fullShare (sliceTy (tyRef (named 7) mut (tyInt w32))) l·9 0 (sliceVal (b·answers, o·answers) (length l·answers))) ∷ ‵ (fat fullShare L·Running.mir l·17 0 (LL.val T·Running.the-type L·Running.the-laws r·2)) ∷ ‵ (froom (tyRef erased mut (tyInt w32)) l·27 0) ∷ ‵ (froom (sliceTy (tyRef erased mut (tyInt w32))) l·28 0) ∷ ‵ (froom (tyRef erased mut (tyInt w32)) l·29 0) ∷ ‵ (froom (sliceTy (tyRef erased mut (tyInt w32))) l·30 0) ∷ ‵ (froom (tyRef erased mut (tyInt w32)) l·31 0) ∷ ‵ (froom (sliceTy (tyRef erased mut (tyInt w32))) l·32 0) ∷ ‵ (froom (tyRef erased mut (tyInt w32)) l·33 0) ∷ ‵ (froom (sliceTy (tyRef erased mut (tyInt w32))) l·34 0) ∷ ‵ (froom (tyRef erased mut (tyInt w32)) l·35 0) ∷ ‵ (froom (sliceTy (tyRef erased mut (tyInt w32))) l·36 0) ∷ ‵ (froom (tyRef erased mut (tyInt w32)) l·37 0) ∷ ‵ (froom (sliceTy (tyRef erased mut (tyInt w32))) l·38 0) ∷ Γ) (runs (𝓣 .C) (𝓣 .Λ) En piece.t-28 (atRet En Post)))
+        → Sq W (‵ (ShrSlice (named 1) κ·requests T·Request.the-row .own (slice T·Request.the-row b·requests o·requests γ·requests l·requests) ((sliceVal (b·requests, o·requests) (length l·requests)) ∷ [])) ∷ ‵ (MutSlice (named 2) κ·chip u32 .own (slice u32 b·chip o·chip γ·chip (zs·1 .1 .1 .1 .1 .1 .1 .1 .0)) ((sliceVal (b·chip, o·chip) (length l·chip)) ∷ [])) ∷ ‵ (MutSlice (named 3) κ·spare u32 .own (slice u32 b·spare o·spare γ·spare (zs·1 .1 .1 .1 .1 .1 .1 .1 .1 .0)) ((sliceVal (b·spare, o·spare) (length l·spare)) ∷ [])) ∷ ‵ (MutSlice (named 4) κ·directory u32 .own (slice u32 b·directory o·directory γ·directory (zs·1 .1 .1 .1 .1 .1 .1 .1 .1 .1 .0)) ((sliceVal (b·directory, o·directory) (length l·directory)) ∷ [])) ∷ ‵ (MutSlice (named 5) κ·cache u32 .own (slice u32 b·cache o·cache γ·cache (zs·1 .1 .1 .1 .1 .1 .1 .1 .1 .1 .1 .0)) ((sliceVal (b·cache, o·cache) (length l·cache)) ∷ [])) ∷ ‵ (MutSlice (named 6) κ·words u32 .own (slice u32 b·words o·words γ·words l·words) ((sliceVal (b·words, o·words) (length l·words)) ∷ [])) ∷ ‵ (MutSlice (named 7) κ·answers u32 .own (slice u32 b·answers o·answers γ·answers l·answers) ((sliceVal (b·answers, o·answers) (length l·answers)) ∷ [])) ∷ ‵ (flft κ·requests q·requests) ∷ ‵ (flft κ·chip q·chip) ∷ ‵ (flft κ·spare q·spare) ∷ ‵ (flft κ·directory q·directory) ∷ ‵ (flft κ·cache q·cache) ∷ ‵ (flft κ·words q·words) ∷ ‵ (flft κ·answers q·answers) ∷ ‵ (fat fullShare L·Running.mir l·16 0 (LL.val T·Running.the-type L·Running.the-laws r·1)) ∷ ‵ (fat fullShare (sliceTy (tyRef (named 1) imm (pointee (T·Request.the-row .written)))) l·3 0 (sliceVal (b·requests, o·requests) (length l·requests))) ∷ ‵ (fat fullShare L·Geometry.mir l·2 0 (LL.val T·Geometry.the-type L·Geometry.the-laws v·g)) ∷ ‵ (fat fullShare (sliceTy (tyRef (named 2) mut (tyInt w32))) l·4 0 (sliceVal (b·chip, o·chip) (length l·chip))) ∷ ‵ (fat fullShare (sliceTy (tyRef (named 3) mut (tyInt w32))) l·5 0 (sliceVal (b·spare, o·spare) (length l·spare))) ∷ ‵ (fat fullShare (sliceTy (tyRef (named 4) mut (tyInt w32))) l·6 0 (sliceVal (b·directory, o·directory) (length l·directory))) ∷ ‵ (fat fullShare (sliceTy (tyRef (named 5) mut (tyInt w32))) l·7 0 (sliceVal (b·cache, o·cache) (length l·cache))) ∷ ‵ (fat fullShare (sliceTy (tyRef (named 6) mut (tyInt w32))) l·8 0 (sliceVal (b·words, o·words) (length l·words))) ∷ ‵ (fat fullShare (sliceTy (tyRef (named 7) mut (tyInt w32))) l·9 0 (sliceVal (b·answers, o·answers) (length l·answers))) ∷ ‵ (froom L·Running.mir l·17 0) ∷ ‵ (froom (tyRef erased mut (tyInt w32)) l·27 0) ∷ ‵ (froom (sliceTy (tyRef erased mut (tyInt w32))) l·28 0) ∷ ‵ (froom (tyRef erased mut (tyInt w32)) l·29 0) ∷ ‵ (froom (sliceTy (tyRef erased mut (tyInt w32))) l·30 0) ∷ ‵ (froom (tyRef erased mut (tyInt w32)) l·31 0) ∷ ‵ (froom (sliceTy (tyRef erased mut (tyInt w32))) l·32 0) ∷ ‵ (froom (tyRef erased mut (tyInt w32)) l·33 0) ∷ ‵ (froom (sliceTy (tyRef erased mut (tyInt w32))) l·34 0) ∷ ‵ (froom (tyRef erased mut (tyInt w32)) l·35 0) ∷ ‵ (froom (sliceTy (tyRef erased mut (tyInt w32))) l·36 0) ∷ ‵ (froom (tyRef erased mut (tyInt w32)) l·37 0) ∷ ‵ (froom (sliceTy (tyRef erased mut (tyInt w32))) l·38 0) ∷ Γ) (runs (𝓣 .C) (𝓣 .Λ) En piece.t-15 (atRet En Post))
     call·2 is·rec r·1 zs·1 did·1 is·1 d·1·chip d·1·spare d·1·directory d·1·cache Γ so =
         assigns ! (addr ! (from ! (fld ! refl (hop ! (look-in ! 17 (sub ! 0 refl (whole !))) (stop !))))) (from ! (stop !)) (init ! 24 refl (tt, tt)) $
         assigns ! (agg ! (and-then ! (load ! (from ! (stop !)) (look ! 24 refl)) (and-then ! (load ! (from ! (fld ! refl (stop !))) (look-in ! 17 (sub ! 1 refl (whole !)))) (no-more !)))) (from ! (stop !)) (init ! 25 refl (tt, (tt, (record { fits = room·chip .0 }, tt)))) $
@@ -287,7 +239,7 @@ module _ {M : Type 1} (𝓤 : URA M) (H : Heap 𝓤) (A : Atoms 𝓤) (W : Given
         assigns ! (agg ! (and-then ! (load ! (from ! (stop !)) (look ! 32 refl)) (and-then ! (load ! (from ! (fld ! refl (stop !))) (look-in ! 21 (sub ! 1 refl (whole !)))) (no-more !)))) (from ! (stop !)) (init ! 33 refl (tt, (tt, (record { fits = room·words .0 }, tt)))) $
         assigns ! (addr ! (from ! (fld ! refl (hop ! (look-in ! 22 (sub ! 0 refl (whole !))) (stop !))))) (from ! (stop !)) (init ! 34 refl (tt, tt)) $
         assigns ! (agg ! (and-then ! (load ! (from ! (stop !)) (look ! 34 refl)) (and-then ! (load ! (from ! (fld ! refl (stop !))) (look-in ! 22 (sub ! 1 refl (whole !)))) (no-more !)))) (from ! (stop !)) (init ! 35 refl (tt, (tt, (record { fits = room·answers .0 }, tt)))) $
-        use1 W (‵ (ShrSlice (named 1) κ·requests T·Request.the-row .own (x·requests γ·requests l·requests) (s·requests ∷ [])) ⊛ ‵ (ShrSlice (named 1) κ·requests T·Request.the-row .own (x·requests γ·requests l·requests) (s·requests ∷ []))) (shr-slice-copy 𝓤 H A W (named 1) κ·requests T·Request.the-row .twice (x·requests γ·requests l·requests) (s·requests ∷ [])) $ split ! $
+        use1 W (‵ (ShrSlice (named 1) κ·requests T·Request.the-row .own (slice T·Request.the-row b·requests o·requests γ·requests l·requests) ((sliceVal (b·requests, o·requests) (length l·requests)) ∷ [])) ⊛ ‵ (ShrSlice (named 1) κ·requests T·Request.the-row .own (slice T·Request.the-row b·requests o·requests γ·requests l·requests) ((sliceVal (b·requests, o·requests) (length l·requests)) ∷ []))) (shr-slice-copy 𝓤 H A W (named 1) κ·requests T·Request.the-row .twice (slice T·Request.the-row b·requests o·requests γ·requests l·requests) ((sliceVal (b·requests, o·requests) (length l·requests)) ∷ [])) $ split ! $
         move ! (8 ∷ 9 ∷ 10 ∷ 11 ∷ 12 ∷ 13 ∷ 14 ∷ 0 ∷ 2 ∷ 3 ∷ 4 ∷ 5 ∷ 6 ∷ 7 ∷ []) $ cut (gives·2 r·1 zs·1) (raw (Callee·2 𝓤 H A mm rn .pre (to·2 r·1 zs·1)) ∷ []) _ (calling·2 r·1 zs·1 is·rec is·1 did·1) $
         calls-at ! fm (Callee·2 𝓤 H A mm rn) known·2 (to·2 r·1 zs·1) (and-then ! (load ! (from ! (stop !)) (look ! 2 refl)) (and-then ! (load ! (from ! (stop !)) (look ! 3 refl)) (and-then ! (load ! (from ! (stop !)) (look ! 4 refl)) (and-then ! (load ! (from ! (stop !)) (look ! 13 refl)) (and-then ! (load ! (from ! (stop !)) (look ! 15 refl)) (and-then ! (load ! (from ! (stop !)) (look ! 17 refl)) (and-then ! (load ! (from ! (stop !)) (look ! 19 refl)) (and-then ! (load ! (from ! (stop !)) (look ! 21 refl)) (and-then ! (load ! (from ! (stop !)) (look ! 23 refl)) (no-more !)))))))))) (λ w·2.
         come·2 r·1 zs·1 w·2 _ tt (λ r·2 zs·2 did·2 was·2 d·2·chip d·2·spare d·2·directory d·2·cache d·2·words d·2·answers.
@@ -296,8 +248,8 @@ module _ {M : Type 1} (𝓤 : URA M) (H : Heap 𝓤) (A : Atoms 𝓤) (W : Given
         move ! (13 ∷ 7 ∷ 8 ∷ 9 ∷ 10 ∷ 11 ∷ 12 ∷ 0 ∷ 1 ∷ 2 ∷ 3 ∷ 4 ∷ 5 ∷ 6 ∷ 14 ∷ 15 ∷ 16 ∷ 17 ∷ 18 ∷ 19 ∷ 20 ∷ 21 ∷ 22 ∷ 23 ∷ 24 ∷ 25 ∷ 26 ∷ 27 ∷ 28 ∷ 29 ∷ 30 ∷ 31 ∷ 32 ∷ 33 ∷ 34 ∷ 35 ∷ []) $ so r·2 zs·2 did·2 (LL.owes T·Running.the-type L·Running.the-laws r·2 (LL.owed T·Running.the-type L·Running.the-laws r·2 _ was·2)) d·2·chip d·2·spare d·2·directory d·2·cache d·2·words d·2·answers))
 
     call·3 : (is·rec : Is T·Record.the-row v·rec ((LL.val T·Record.the-type L·Record.the-laws v·rec) ∷ [])) (r·1 : D·Running) (zs·1 : Unit {0} × (Unit {0} × (Unit {0} × (Unit {0} × (Unit {0} × (Unit {0} × (Unit {0} × (List ℕ × (List ℕ × (List ℕ × (List ℕ × (Unit {0})))))))))))) (did·1 : Did·1 r·1 zs·1) (is·1 : Is T·Running.the-row r·1 ((LL.val T·Running.the-type L·Running.the-laws r·1) ∷ [])) (d·1·chip : length (zs·1 .1 .1 .1 .1 .1 .1 .1 .0) ≡ length l·chip) (d·1·spare : length (zs·1 .1 .1 .1 .1 .1 .1 .1 .1 .0) ≡ length l·spare) (d·1·directory : length (zs·1 .1 .1 .1 .1 .1 .1 .1 .1 .1 .0) ≡ length l·directory) (d·1·cache : length (zs·1 .1 .1 .1 .1 .1 .1 .1 .1 .1 .1 .0) ≡ length l·cache) (r·2 : D·Running) (zs·2 : Unit {0} × (Unit {0} × (Unit {0} × (List ℕ × (List ℕ × (List ℕ × (List ℕ × (List ℕ × (List ℕ × (Unit {0})))))))))) (did·2 : Did·2 r·1 zs·1 r·2 zs·2) (is·2 : Is T·Running.the-row r·2 ((LL.val T·Running.the-type L·Running.the-laws r·2) ∷ [])) (d·2·chip : length (zs·2 .1 .1 .1 .0) ≡ length (zs·1 .1 .1 .1 .1 .1 .1 .1 .0)) (d·2·spare : length (zs·2 .1 .1 .1 .1 .0) ≡ length (zs·1 .1 .1 .1 .1 .1 .1 .1 .1 .0)) (d·2·directory : length (zs·2 .1 .1 .1 .1 .1 .0) ≡ length (zs·1 .1 .1 .1 .1 .1 .1 .1 .1 .1 .0)) (d·2·cache : length (zs·2 .1 .1 .1 .1 .1 .1 .0) ≡ length (zs·1 .1 .1 .1 .1 .1 .1 .1 .1 .1 .1 .0)) (d·2·words : length (zs·2 .1 .1 .1 .1 .1 .1 .1 .0) ≡ length l·words) (d·2·answers : length (zs·2 .1 .1 .1 .1 .1 .1 .1 .1 .0) ≡ length l·answers) (Γ : List (Item 𝓤))
-        → ((r·3 : D·Out) (zs·3 : Unit {0} × (List ℕ × (Unit {0}))) (did·3 : Did·3 r·1 zs·1 r·2 zs·2 r·3 zs·3) (is·3 : Is T·Out.the-row r·3 ((LL.val T·Out.the-type L·Out.the-laws r·3) ∷ [])) (d·3·counts : length (zs·3 .1 .0) ≡ length l·counts) → Sq W (‵ (finally u32 γ·counts (zs·3 .1 .0)) ∷ ‵ (flft κ·counts q·counts) ∷ ‵ (fat fullShare L·Running.mir l·17 0 (LL.val T·Running.the-type L·Running.the-laws r·2)) ∷ ‵ (fat fullShare (sliceTy (tyRef (named 8) mut (tyInt w32))) l·10 0 s·counts) ∷ ‵ (fat fullShare L·Out.mir l·18 0 (LL.val T·Out.the-type L·Out.the-laws r·3)) ∷ ‵ (froom (tyRef erased mut (tyInt w32)) l·39 0) ∷ ‵ (froom (sliceTy (tyRef erased mut (tyInt w32))) l·40 0) ∷ Γ) (runs (𝓣 .C) (𝓣 .Λ) En piece.t-31 (atRet En Post)))
-        → Sq W (‵ (MutSlice (named 8) κ·counts u32 .own (x·counts γ·counts l·counts) (s·counts ∷ [])) ∷ ‵ (flft κ·counts q·counts) ∷ ‵ (fat fullShare L·Running.mir l·17 0 (LL.val T·Running.the-type L·Running.the-laws r·2)) ∷ ‵ (fat fullShare (sliceTy (tyRef (named 8) mut (tyInt w32))) l·10 0 s·counts) ∷ ‵ (froom L·Out.mir l·18 0) ∷ ‵ (froom (tyRef erased mut (tyInt w32)) l·39 0) ∷ ‵ (froom (sliceTy (tyRef erased mut (tyInt w32))) l·40 0) ∷ Γ) (runs (𝓣 .C) (𝓣 .Λ) En piece.t-28 (atRet En Post))
+        → ((r·3 : D·Out) (zs·3 : Unit {0} × (List ℕ × (Unit {0}))) (did·3 : Did·3 r·1 zs·1 r·2 zs·2 r·3 zs·3) (is·3 : Is T·Out.the-row r·3 ((LL.val T·Out.the-type L·Out.the-laws r·3) ∷ [])) (d·3·counts : length (zs·3 .1 .0) ≡ length l·counts) → Sq W (‵ (finally u32 γ·counts (zs·3 .1 .0)) ∷ ‵ (flft κ·counts q·counts) ∷ ‵ (fat fullShare L·Running.mir l·17 0 (LL.val T·Running.the-type L·Running.the-laws r·2)) ∷ ‵ (fat fullShare (sliceTy (tyRef (named 8) mut (tyInt w32))) l·10 0 (sliceVal (b·counts, o·counts) (length l·counts))) ∷ ‵ (fat fullShare L·Out.mir l·18 0 (LL.val T·Out.the-type L·Out.the-laws r·3)) ∷ ‵ (froom (tyRef erased mut (tyInt w32)) l·39 0) ∷ ‵ (froom (sliceTy (tyRef erased mut (tyInt w32))) l·40 0) ∷ Γ) (runs (𝓣 .C) (𝓣 .Λ) En piece.t-31 (atRet En Post)))
+        → Sq W (‵ (MutSlice (named 8) κ·counts u32 .own (slice u32 b·counts o·counts γ·counts l·counts) ((sliceVal (b·counts, o·counts) (length l·counts)) ∷ [])) ∷ ‵ (flft κ·counts q·counts) ∷ ‵ (fat fullShare L·Running.mir l·17 0 (LL.val T·Running.the-type L·Running.the-laws r·2)) ∷ ‵ (fat fullShare (sliceTy (tyRef (named 8) mut (tyInt w32))) l·10 0 (sliceVal (b·counts, o·counts) (length l·counts))) ∷ ‵ (froom L·Out.mir l·18 0) ∷ ‵ (froom (tyRef erased mut (tyInt w32)) l·39 0) ∷ ‵ (froom (sliceTy (tyRef erased mut (tyInt w32))) l·40 0) ∷ Γ) (runs (𝓣 .C) (𝓣 .Λ) En piece.t-28 (atRet En Post))
     call·3 is·rec r·1 zs·1 did·1 is·1 d·1·chip d·1·spare d·1·directory d·1·cache r·2 zs·2 did·2 is·2 d·2·chip d·2·spare d·2·directory d·2·cache d·2·words d·2·answers Γ so =
         assigns ! (addr ! (from ! (fld ! refl (hop ! (look-in ! 3 (sub ! 0 refl (whole !))) (stop !))))) (from ! (stop !)) (init ! 5 refl (tt, tt)) $
         assigns ! (agg ! (and-then ! (load ! (from ! (stop !)) (look ! 5 refl)) (and-then ! (load ! (from ! (fld ! refl (stop !))) (look-in ! 3 (sub ! 1 refl (whole !)))) (no-more !)))) (from ! (stop !)) (init ! 6 refl (tt, (tt, (record { fits = room·counts .0 }, tt)))) $
@@ -309,9 +261,9 @@ module _ {M : Type 1} (𝓤 : URA M) (H : Heap 𝓤) (A : Atoms 𝓤) (W : Given
         move ! (1 ∷ 0 ∷ 2 ∷ 3 ∷ 4 ∷ 5 ∷ 6 ∷ []) $ so r·3 zs·3 did·3 (LL.owes T·Out.the-type L·Out.the-laws r·3 (LL.owed T·Out.the-type L·Out.the-laws r·3 _ was·3)) d·3·counts))
 
   walk : (𝓣 : Tables 𝓤 H) (fm : FmC 𝓤 H (W .laws) (𝓣 .C)) (known·1 : Triple 𝓤 (𝓣 .C #·1) (Callee·1 𝓤 H A mm rn)) (known·2 : Triple 𝓤 (𝓣 .C #·2) (Callee·2 𝓤 H A mm rn)) (known·3 : Triple 𝓤 (𝓣 .C #·3) (Callee·3 𝓤 H A mm rn))
-      → ent 𝓤 (onEntry 𝓤 H A walked·.signature (κ·rec, (κ·requests, (κ·chip, (κ·spare, (κ·directory, (κ·cache, (κ·words, (κ·answers, (κ·counts, tt))))))))) (q·rec, (q·requests, (q·chip, (q·spare, (q·directory, (q·cache, (q·words, (q·answers, (q·counts, tt))))))))) a vals) (WpFn 𝓤 H (𝓣 .C) (𝓣 .Λ) code.function ((vptr b·rec o·rec) ∷ (LL.val T·Geometry.the-type L·Geometry.the-laws v·g) ∷ s·requests ∷ s·chip ∷ s·spare ∷ s·directory ∷ s·cache ∷ s·words ∷ s·answers ∷ s·counts ∷ []) Post)
+      → ent 𝓤 (onEntry 𝓤 H A walked·.signature (κ·rec, (κ·requests, (κ·chip, (κ·spare, (κ·directory, (κ·cache, (κ·words, (κ·answers, (κ·counts, tt))))))))) (q·rec, (q·requests, (q·chip, (q·spare, (q·directory, (q·cache, (q·words, (q·answers, (q·counts, tt))))))))) a vals) (WpFn 𝓤 H (𝓣 .C) (𝓣 .Λ) code.function ((vptr b·rec o·rec) ∷ (LL.val T·Geometry.the-type L·Geometry.the-laws v·g) ∷ (sliceVal (b·requests, o·requests) (length l·requests)) ∷ (sliceVal (b·chip, o·chip) (length l·chip)) ∷ (sliceVal (b·spare, o·spare) (length l·spare)) ∷ (sliceVal (b·directory, o·directory) (length l·directory)) ∷ (sliceVal (b·cache, o·cache) (length l·cache)) ∷ (sliceVal (b·words, o·words) (length l·words)) ∷ (sliceVal (b·answers, o·answers) (length l·answers)) ∷ (sliceVal (b·counts, o·counts) (length l·counts)) ∷ []) Post)
   walk 𝓣 fm known·1 known·2 known·3 =
-      qed W ((‵ (flft κ·rec q·rec) ⊛ ‵ (flft κ·requests q·requests) ⊛ ‵ (flft κ·chip q·chip) ⊛ ‵ (flft κ·spare q·spare) ⊛ ‵ (flft κ·directory q·directory) ⊛ ‵ (flft κ·cache q·cache) ⊛ ‵ (flft κ·words q·words) ⊛ ‵ (flft κ·answers q·answers) ⊛ ‵ (flft κ·counts q·counts) ⊛ ‵ ftrue) ∷ ‵ (owns (MutRef (named 0) κ·rec T·Record.the-row ∷ T·Geometry.the-row ∷ ShrSlice (named 1) κ·requests T·Request.the-row ∷ MutSlice (named 2) κ·chip u32 ∷ MutSlice (named 3) κ·spare u32 ∷ MutSlice (named 4) κ·directory u32 ∷ MutSlice (named 5) κ·cache u32 ∷ MutSlice (named 6) κ·words u32 ∷ MutSlice (named 7) κ·answers u32 ∷ MutSlice (named 8) κ·counts u32 ∷ []) a vals) ∷ []) ∵ enter ! (𝓣 .C) (𝓣 .Λ) code.function ((vptr b·rec o·rec) ∷ (LL.val T·Geometry.the-type L·Geometry.the-laws v·g) ∷ s·requests ∷ s·chip ∷ s·spare ∷ s·directory ∷ s·cache ∷ s·words ∷ s·answers ∷ s·counts ∷ []) _ $
+      qed W ((‵ (flft κ·rec q·rec) ⊛ ‵ (flft κ·requests q·requests) ⊛ ‵ (flft κ·chip q·chip) ⊛ ‵ (flft κ·spare q·spare) ⊛ ‵ (flft κ·directory q·directory) ⊛ ‵ (flft κ·cache q·cache) ⊛ ‵ (flft κ·words q·words) ⊛ ‵ (flft κ·answers q·answers) ⊛ ‵ (flft κ·counts q·counts) ⊛ ‵ ftrue) ∷ ‵ (owns (MutRef (named 0) κ·rec T·Record.the-row ∷ T·Geometry.the-row ∷ ShrSlice (named 1) κ·requests T·Request.the-row ∷ MutSlice (named 2) κ·chip u32 ∷ MutSlice (named 3) κ·spare u32 ∷ MutSlice (named 4) κ·directory u32 ∷ MutSlice (named 5) κ·cache u32 ∷ MutSlice (named 6) κ·words u32 ∷ MutSlice (named 7) κ·answers u32 ∷ MutSlice (named 8) κ·counts u32 ∷ []) a vals) ∷ []) ∵ enter ! (𝓣 .C) (𝓣 .Λ) code.function ((vptr b·rec o·rec) ∷ (LL.val T·Geometry.the-type L·Geometry.the-laws v·g) ∷ (sliceVal (b·requests, o·requests) (length l·requests)) ∷ (sliceVal (b·chip, o·chip) (length l·chip)) ∷ (sliceVal (b·spare, o·spare) (length l·spare)) ∷ (sliceVal (b·directory, o·directory) (length l·directory)) ∷ (sliceVal (b·cache, o·cache) (length l·cache)) ∷ (sliceVal (b·words, o·words) (length l·words)) ∷ (sliceVal (b·answers, o·answers) (length l·answers)) ∷ (sliceVal (b·counts, o·counts) (length l·counts)) ∷ []) _ $
       alloc1 ! (λ l·0. alloc1 ! (λ l·1. alloc1 ! (λ l·2. alloc1 ! (λ l·3. alloc1 ! (λ l·4. alloc1 ! (λ l·5. alloc1 ! (λ l·6. alloc1 ! (λ l·7. alloc1 ! (λ l·8. alloc1 ! (λ l·9. alloc1 ! (λ l·10. alloc1 ! (λ l·11. alloc1 ! (λ l·12. alloc1 ! (λ l·13. alloc1 ! (λ l·14. alloc1 ! (λ l·15. alloc1 ! (λ l·16. alloc1 ! (λ l·17. alloc1 ! (λ l·18. alloc1 ! (λ l·19. alloc1 ! (λ l·20. alloc1 ! (λ l·21. alloc1 ! (λ l·22. alloc1 ! (λ l·23. alloc1 ! (λ l·24. alloc1 ! (λ l·25. alloc1 ! (λ l·26. alloc1 ! (λ l·27. alloc1 ! (λ l·28. alloc1 ! (λ l·29. alloc1 ! (λ l·30. alloc1 ! (λ l·31. alloc1 ! (λ l·32. alloc1 ! (λ l·33. alloc1 ! (λ l·34. alloc1 ! (λ l·35. alloc1 ! (λ l·36. alloc1 ! (λ l·37. alloc1 ! (λ l·38. alloc1 ! (λ l·39. alloc1 ! (λ l·40. alloc0 ! $ params1 ! $
       pass1 ! (init ! 78 refl (tt, tt)) $ pass1 ! (init ! 76 refl (LL.lawful T·Geometry.the-type L·Geometry.the-laws 𝓤 H A W .typed v·g _ is·g .0)) $ pass1 ! (init ! 74 refl (tt, (tt, (record { fits = room·requests .0 }, tt)))) $ pass1 ! (init ! 72 refl (tt, (tt, (record { fits = room·chip .0 }, tt)))) $ pass1 ! (init ! 70 refl (tt, (tt, (record { fits = room·spare .0 }, tt)))) $ pass1 ! (init ! 68 refl (tt, (tt, (record { fits = room·directory .0 }, tt)))) $ pass1 ! (init ! 66 refl (tt, (tt, (record { fits = room·cache .0 }, tt)))) $ pass1 ! (init ! 64 refl (tt, (tt, (record { fits = room·words .0 }, tt)))) $ pass1 ! (init ! 62 refl (tt, (tt, (record { fits = room·answers .0 }, tt)))) $ pass1 ! (init ! 60 refl (tt, (tt, (record { fits = room·counts .0 }, tt)))) $ pass0 ! $
       move ! (83 ∷ []) $ fsplit ! $ move ! (1 ∷ []) $ fsplit ! $ drop ! $ fsplit ! $ move ! (1 ∷ []) $ fsplit ! $ move ! (1 ∷ []) $ fsplit ! $ move ! (1 ∷ []) $ fsplit ! $ move ! (1 ∷ []) $ fsplit ! $ move ! (1 ∷ []) $ fsplit ! $ move ! (1 ∷ []) $ fsplit ! $ move ! (1 ∷ []) $ fsplit ! $ move ! (92 ∷ []) $ split ! $ move ! (1 ∷ []) $ split ! $ move ! (1 ∷ []) $ split ! $ move ! (1 ∷ []) $ split ! $ move ! (1 ∷ []) $ split ! $ move ! (1 ∷ []) $ split ! $ move ! (1 ∷ []) $ split ! $ move ! (1 ∷ []) $ split ! $ move ! (1 ∷ []) $ split ! $

@@ -64,7 +64,7 @@ use Rattle.face.proofs.served.serve_all.Key.{name as #walked}
 use Rattle.face.proofs.served.serve_all.Statement as stated
 use Rattle.face.proofs.served.serve_all.Code as code
 use Rattle.face.proofs.served.serve_all.Code.Mir as piece
-use Rattle.face.proofs.Rules.{lends-again, comes-back, holds, bare, frees-all}
+use Rattle.face.proofs.Rules.{slice, lends-again, comes-back, holds, bare, frees-all}
 use Rattle.face.specs.Served.{serve-all-ready, serve-all-more, serve-all-none}
 use Rattle.lent.specs.Model.{geometry, state}
 use Rattle.scope.specs.Replies.{DONE}
@@ -80,53 +80,11 @@ abbrev Callee·1 : {M : Type 1} (𝓤 : URA M) (H : Heap 𝓤) (A : Atoms 𝓤) 
 Callee·1 𝓤 H A mm rn = tripleOf 𝓤 H A callee·1.signature (callee·1.spec 𝓤 H A mm rn)
 
 module _ {M : Type 1} (𝓤 : URA M) (H : Heap 𝓤) (A : Atoms 𝓤) (W : Given 𝓤 H A) (mm : Memory → SProp 𝓤) (rn : Routine → Fun 𝓤) (v·first : D·Running) (is·first : Is T·Running.the-row v·first ((LL.val T·Running.the-type L·Running.the-laws v·first) ∷ [])) (κ·requests : Lft) (q·requests : Share) (b·requests o·requests : ℕ) (γ·requests : GName) (l·requests : List D·Request) (room·requests : Room T·Request.the-row (length l·requests)) (v·g : D·Geometry) (is·g : Is T·Geometry.the-row v·g ((LL.val T·Geometry.the-type L·Geometry.the-laws v·g) ∷ [])) (κ·chip : Lft) (q·chip : Share) (b·chip o·chip : ℕ) (γ·chip : GName) (l·chip : List ℕ) (room·chip : Room u32 (length l·chip)) (κ·spare : Lft) (q·spare : Share) (b·spare o·spare : ℕ) (γ·spare : GName) (l·spare : List ℕ) (room·spare : Room u32 (length l·spare)) (κ·directory : Lft) (q·directory : Share) (b·directory o·directory : ℕ) (γ·directory : GName) (l·directory : List ℕ) (room·directory : Room u32 (length l·directory)) (κ·cache : Lft) (q·cache : Share) (b·cache o·cache : ℕ) (γ·cache : GName) (l·cache : List ℕ) (room·cache : Room u32 (length l·cache)) (κ·words : Lft) (q·words : Share) (b·words o·words : ℕ) (γ·words : GName) (l·words : List ℕ) (room·words : Room u32 (length l·words)) (κ·answers : Lft) (q·answers : Share) (b·answers o·answers : ℕ) (γ·answers : GName) (l·answers : List ℕ) (room·answers : Room u32 (length l·answers)) (needed : (v·first .answer ≡ DONE → Admitted (geometry v·g) (length (l·requests)) v·first (state (l·chip) (l·spare) (l·directory) (l·cache) (v·first .rec)) (l·words) (l·answers))) where
-  abbrev x·requests : GName → List D·Request → RefT (List D·Request)
-  x·requests δ z = record { ptr = (b·requests, o·requests); name = δ; now = z }
-
-  abbrev s·requests : Val
-  s·requests = sliceVal (b·requests, o·requests) (length l·requests)
-
-  abbrev x·chip : GName → List ℕ → RefT (List ℕ)
-  x·chip δ z = record { ptr = (b·chip, o·chip); name = δ; now = z }
-
-  abbrev s·chip : Val
-  s·chip = sliceVal (b·chip, o·chip) (length l·chip)
-
-  abbrev x·spare : GName → List ℕ → RefT (List ℕ)
-  x·spare δ z = record { ptr = (b·spare, o·spare); name = δ; now = z }
-
-  abbrev s·spare : Val
-  s·spare = sliceVal (b·spare, o·spare) (length l·spare)
-
-  abbrev x·directory : GName → List ℕ → RefT (List ℕ)
-  x·directory δ z = record { ptr = (b·directory, o·directory); name = δ; now = z }
-
-  abbrev s·directory : Val
-  s·directory = sliceVal (b·directory, o·directory) (length l·directory)
-
-  abbrev x·cache : GName → List ℕ → RefT (List ℕ)
-  x·cache δ z = record { ptr = (b·cache, o·cache); name = δ; now = z }
-
-  abbrev s·cache : Val
-  s·cache = sliceVal (b·cache, o·cache) (length l·cache)
-
-  abbrev x·words : GName → List ℕ → RefT (List ℕ)
-  x·words δ z = record { ptr = (b·words, o·words); name = δ; now = z }
-
-  abbrev s·words : Val
-  s·words = sliceVal (b·words, o·words) (length l·words)
-
-  abbrev x·answers : GName → List ℕ → RefT (List ℕ)
-  x·answers δ z = record { ptr = (b·answers, o·answers); name = δ; now = z }
-
-  abbrev s·answers : Val
-  s·answers = sliceVal (b·answers, o·answers) (length l·answers)
-
   abbrev a : D·Running × (RefT (List D·Request) × (D·Geometry × (RefT (List ℕ) × (RefT (List ℕ) × (RefT (List ℕ) × (RefT (List ℕ) × (RefT (List ℕ) × (RefT (List ℕ) × (Unit {0})))))))))
-  a = (v·first, (x·requests γ·requests l·requests, (v·g, (x·chip γ·chip l·chip, (x·spare γ·spare l·spare, (x·directory γ·directory l·directory, (x·cache γ·cache l·cache, (x·words γ·words l·words, (x·answers γ·answers l·answers, tt)))))))))
+  a = (v·first, (slice T·Request.the-row b·requests o·requests γ·requests l·requests, (v·g, (slice u32 b·chip o·chip γ·chip l·chip, (slice u32 b·spare o·spare γ·spare l·spare, (slice u32 b·directory o·directory γ·directory l·directory, (slice u32 b·cache o·cache γ·cache l·cache, (slice u32 b·words o·words γ·words l·words, (slice u32 b·answers o·answers γ·answers l·answers, tt)))))))))
 
   abbrev vals : List Val × (List Val × (List Val × (List Val × (List Val × (List Val × (List Val × (List Val × (List Val × (Unit {0})))))))))
-  vals = ((LL.val T·Running.the-type L·Running.the-laws v·first) ∷ [], (s·requests ∷ [], ((LL.val T·Geometry.the-type L·Geometry.the-laws v·g) ∷ [], (s·chip ∷ [], (s·spare ∷ [], (s·directory ∷ [], (s·cache ∷ [], (s·words ∷ [], (s·answers ∷ [], tt)))))))))
+  vals = ((LL.val T·Running.the-type L·Running.the-laws v·first) ∷ [], ((sliceVal (b·requests, o·requests) (length l·requests)) ∷ [], ((LL.val T·Geometry.the-type L·Geometry.the-laws v·g) ∷ [], ((sliceVal (b·chip, o·chip) (length l·chip)) ∷ [], ((sliceVal (b·spare, o·spare) (length l·spare)) ∷ [], ((sliceVal (b·directory, o·directory) (length l·directory)) ∷ [], ((sliceVal (b·cache, o·cache) (length l·cache)) ∷ [], ((sliceVal (b·words, o·words) (length l·words)) ∷ [], ((sliceVal (b·answers, o·answers) (length l·answers)) ∷ [], tt)))))))))
 
   abbrev Post : Val → SProp 𝓤
   Post = walkOf 𝓤 H A walked·.ended stayed (walked·.clauses 𝓤 H A mm rn) .post (((κ·requests, (κ·chip, (κ·spare, (κ·directory, (κ·cache, (κ·words, (κ·answers, tt))))))), (q·requests, (q·chip, (q·spare, (q·directory, (q·cache, (q·words, (q·answers, tt))))))), tt, a, vals), tt)
@@ -172,16 +130,16 @@ module _ {M : Type 1} (𝓤 : URA M) (H : Heap 𝓤) (A : Atoms 𝓤) (W : Given
   Did·1 st r·1 zs·1 = Runs (serve-record (geometry v·g) (st .i) (request (getD l·requests (st .i) no-request))) (st .cur) (state ((st .z·chip)) ((st .z·spare)) ((st .z·directory)) ((st .z·cache)) ((st .cur) .rec)) ((st .z·words)) ((st .z·answers)) r·1 (state ((zs·1 .1 .1 .1 .1 .0)) ((zs·1 .1 .1 .1 .1 .1 .0)) ((zs·1 .1 .1 .1 .1 .1 .1 .0)) ((zs·1 .1 .1 .1 .1 .1 .1 .1 .0)) (r·1 .rec)) ((zs·1 .1 .1 .1 .1 .1 .1 .1 .1 .0)) ((zs·1 .1 .1 .1 .1 .1 .1 .1 .1 .1 .0))
 
   abbrev ca·1 : (st : St) (ν·1·chip : ℕ) (δ·1·chip : GName) (ν·1·spare : ℕ) (δ·1·spare : GName) (ν·1·directory : ℕ) (δ·1·directory : GName) (ν·1·cache : ℕ) (δ·1·cache : GName) (ν·1·words : ℕ) (δ·1·words : GName) (ν·1·answers : ℕ) (δ·1·answers : GName) → D·Running × (ℕ × (D·Request × (D·Geometry × (RefT (List ℕ) × (RefT (List ℕ) × (RefT (List ℕ) × (RefT (List ℕ) × (RefT (List ℕ) × (RefT (List ℕ) × (Unit {0}))))))))))
-  ca·1 st ν·1·chip δ·1·chip ν·1·spare δ·1·spare ν·1·directory δ·1·directory ν·1·cache δ·1·cache ν·1·words δ·1·words ν·1·answers δ·1·answers = ((st .cur), ((st .i), ((getD l·requests (st .i) no-request), (v·g, (x·chip δ·1·chip (st .z·chip), (x·spare δ·1·spare (st .z·spare), (x·directory δ·1·directory (st .z·directory), (x·cache δ·1·cache (st .z·cache), (x·words δ·1·words (st .z·words), (x·answers δ·1·answers (st .z·answers), tt))))))))))
+  ca·1 st ν·1·chip δ·1·chip ν·1·spare δ·1·spare ν·1·directory δ·1·directory ν·1·cache δ·1·cache ν·1·words δ·1·words ν·1·answers δ·1·answers = ((st .cur), ((st .i), ((getD l·requests (st .i) no-request), (v·g, (slice u32 b·chip o·chip δ·1·chip (st .z·chip), (slice u32 b·spare o·spare δ·1·spare (st .z·spare), (slice u32 b·directory o·directory δ·1·directory (st .z·directory), (slice u32 b·cache o·cache δ·1·cache (st .z·cache), (slice u32 b·words o·words δ·1·words (st .z·words), (slice u32 b·answers o·answers δ·1·answers (st .z·answers), tt))))))))))
 
   abbrev cv·1 : (st : St) (ν·1·chip : ℕ) (δ·1·chip : GName) (ν·1·spare : ℕ) (δ·1·spare : GName) (ν·1·directory : ℕ) (δ·1·directory : GName) (ν·1·cache : ℕ) (δ·1·cache : GName) (ν·1·words : ℕ) (δ·1·words : GName) (ν·1·answers : ℕ) (δ·1·answers : GName) → List Val × (List Val × (List Val × (List Val × (List Val × (List Val × (List Val × (List Val × (List Val × (List Val × (Unit {0}))))))))))
-  cv·1 st ν·1·chip δ·1·chip ν·1·spare δ·1·spare ν·1·directory δ·1·directory ν·1·cache δ·1·cache ν·1·words δ·1·words ν·1·answers δ·1·answers = ((LL.val T·Running.the-type L·Running.the-laws (st .cur)) ∷ [], ((vint w64 (st .i)) ∷ [], ((LL.val T·Request.the-type L·Request.the-laws (getD l·requests (st .i) no-request)) ∷ [], ((LL.val T·Geometry.the-type L·Geometry.the-laws v·g) ∷ [], (s·chip ∷ [], (s·spare ∷ [], (s·directory ∷ [], (s·cache ∷ [], (s·words ∷ [], (s·answers ∷ [], tt))))))))))
+  cv·1 st ν·1·chip δ·1·chip ν·1·spare δ·1·spare ν·1·directory δ·1·directory ν·1·cache δ·1·cache ν·1·words δ·1·words ν·1·answers δ·1·answers = ((LL.val T·Running.the-type L·Running.the-laws (st .cur)) ∷ [], ((vint w64 (st .i)) ∷ [], ((LL.val T·Request.the-type L·Request.the-laws (getD l·requests (st .i) no-request)) ∷ [], ((LL.val T·Geometry.the-type L·Geometry.the-laws v·g) ∷ [], ((sliceVal (b·chip, o·chip) (length l·chip)) ∷ [], ((sliceVal (b·spare, o·spare) (length l·spare)) ∷ [], ((sliceVal (b·directory, o·directory) (length l·directory)) ∷ [], ((sliceVal (b·cache, o·cache) (length l·cache)) ∷ [], ((sliceVal (b·words, o·words) (length l·words)) ∷ [], ((sliceVal (b·answers, o·answers) (length l·answers)) ∷ [], tt))))))))))
 
   abbrev to·1 : (st : St) (ν·1·chip : ℕ) (δ·1·chip : GName) (ν·1·spare : ℕ) (δ·1·spare : GName) (ν·1·directory : ℕ) (δ·1·directory : GName) (ν·1·cache : ℕ) (δ·1·cache : GName) (ν·1·words : ℕ) (δ·1·words : GName) (ν·1·answers : ℕ) (δ·1·answers : GName) → Callee·1 𝓤 H A mm rn .Ghost
   to·1 st ν·1·chip δ·1·chip ν·1·spare δ·1·spare ν·1·directory δ·1·directory ν·1·cache δ·1·cache ν·1·words δ·1·words ν·1·answers δ·1·answers = ((((ν·1·chip ∷ []), ((ν·1·spare ∷ []), ((ν·1·directory ∷ []), ((ν·1·cache ∷ []), ((ν·1·words ∷ []), ((ν·1·answers ∷ []), tt)))))), (fullShare, (fullShare, (fullShare, (fullShare, (fullShare, (fullShare, tt)))))), tt, (ca·1 st ν·1·chip δ·1·chip ν·1·spare δ·1·spare ν·1·directory δ·1·directory ν·1·cache δ·1·cache ν·1·words δ·1·words ν·1·answers δ·1·answers), (cv·1 st ν·1·chip δ·1·chip ν·1·spare δ·1·spare ν·1·directory δ·1·directory ν·1·cache δ·1·cache ν·1·words δ·1·words ν·1·answers δ·1·answers)), tt)
 
   abbrev gives·1 : (st : St) (ν·1·chip : ℕ) (δ·1·chip : GName) (ν·1·spare : ℕ) (δ·1·spare : GName) (ν·1·directory : ℕ) (δ·1·directory : GName) (ν·1·cache : ℕ) (δ·1·cache : GName) (ν·1·words : ℕ) (δ·1·words : GName) (ν·1·answers : ℕ) (δ·1·answers : GName) → List (Item 𝓤)
-  gives·1 st ν·1·chip δ·1·chip ν·1·spare δ·1·spare ν·1·directory δ·1·directory ν·1·cache δ·1·cache ν·1·words δ·1·words ν·1·answers δ·1·answers = ‵ (flft (ν·1·chip ∷ []) fullShare) ∷ ‵ (flft (ν·1·spare ∷ []) fullShare) ∷ ‵ (flft (ν·1·directory ∷ []) fullShare) ∷ ‵ (flft (ν·1·cache ∷ []) fullShare) ∷ ‵ (flft (ν·1·words ∷ []) fullShare) ∷ ‵ (flft (ν·1·answers ∷ []) fullShare) ∷ ‵ (MutSlice (named 0) (ν·1·chip ∷ []) u32 .own (x·chip δ·1·chip (st .z·chip)) (s·chip ∷ [])) ∷ ‵ (MutSlice (named 1) (ν·1·spare ∷ []) u32 .own (x·spare δ·1·spare (st .z·spare)) (s·spare ∷ [])) ∷ ‵ (MutSlice (named 2) (ν·1·directory ∷ []) u32 .own (x·directory δ·1·directory (st .z·directory)) (s·directory ∷ [])) ∷ ‵ (MutSlice (named 3) (ν·1·cache ∷ []) u32 .own (x·cache δ·1·cache (st .z·cache)) (s·cache ∷ [])) ∷ ‵ (MutSlice (named 4) (ν·1·words ∷ []) u32 .own (x·words δ·1·words (st .z·words)) (s·words ∷ [])) ∷ ‵ (MutSlice (named 5) (ν·1·answers ∷ []) u32 .own (x·answers δ·1·answers (st .z·answers)) (s·answers ∷ [])) ∷ []
+  gives·1 st ν·1·chip δ·1·chip ν·1·spare δ·1·spare ν·1·directory δ·1·directory ν·1·cache δ·1·cache ν·1·words δ·1·words ν·1·answers δ·1·answers = ‵ (flft (ν·1·chip ∷ []) fullShare) ∷ ‵ (flft (ν·1·spare ∷ []) fullShare) ∷ ‵ (flft (ν·1·directory ∷ []) fullShare) ∷ ‵ (flft (ν·1·cache ∷ []) fullShare) ∷ ‵ (flft (ν·1·words ∷ []) fullShare) ∷ ‵ (flft (ν·1·answers ∷ []) fullShare) ∷ ‵ (MutSlice (named 0) (ν·1·chip ∷ []) u32 .own (slice u32 b·chip o·chip δ·1·chip (st .z·chip)) ((sliceVal (b·chip, o·chip) (length l·chip)) ∷ [])) ∷ ‵ (MutSlice (named 1) (ν·1·spare ∷ []) u32 .own (slice u32 b·spare o·spare δ·1·spare (st .z·spare)) ((sliceVal (b·spare, o·spare) (length l·spare)) ∷ [])) ∷ ‵ (MutSlice (named 2) (ν·1·directory ∷ []) u32 .own (slice u32 b·directory o·directory δ·1·directory (st .z·directory)) ((sliceVal (b·directory, o·directory) (length l·directory)) ∷ [])) ∷ ‵ (MutSlice (named 3) (ν·1·cache ∷ []) u32 .own (slice u32 b·cache o·cache δ·1·cache (st .z·cache)) ((sliceVal (b·cache, o·cache) (length l·cache)) ∷ [])) ∷ ‵ (MutSlice (named 4) (ν·1·words ∷ []) u32 .own (slice u32 b·words o·words δ·1·words (st .z·words)) ((sliceVal (b·words, o·words) (length l·words)) ∷ [])) ∷ ‵ (MutSlice (named 5) (ν·1·answers ∷ []) u32 .own (slice u32 b·answers o·answers δ·1·answers (st .z·answers)) ((sliceVal (b·answers, o·answers) (length l·answers)) ∷ [])) ∷ []
 
   calling·1 : (st : St) (ν·1·chip : ℕ) (δ·1·chip : GName) (ν·1·spare : ℕ) (δ·1·spare : GName) (ν·1·directory : ℕ) (δ·1·directory : GName) (ν·1·cache : ℕ) (δ·1·cache : GName) (ν·1·words : ℕ) (δ·1·words : GName) (ν·1·answers : ℕ) (δ·1·answers : GName) (less : st .i < length l·requests) (g : Is T·Request.the-row (getD l·requests (st .i) no-request) ((LL.val T·Request.the-type L·Request.the-laws (getD l·requests (st .i) no-request)) ∷ [])) → ent 𝓤 (⋆ 𝓤 H A (gives·1 st ν·1·chip δ·1·chip ν·1·spare δ·1·spare ν·1·directory δ·1·directory ν·1·cache δ·1·cache ν·1·words δ·1·words ν·1·answers δ·1·answers)) (Callee·1 𝓤 H A mm rn .pre (to·1 st ν·1·chip δ·1·chip ν·1·spare δ·1·spare ν·1·directory δ·1·directory ν·1·cache δ·1·cache ν·1·words δ·1·words ν·1·answers δ·1·answers))
   calling·1 st ν·1·chip δ·1·chip ν·1·spare δ·1·spare ν·1·directory δ·1·directory ν·1·cache δ·1·cache ν·1·words δ·1·words ν·1·answers δ·1·answers less g =
@@ -197,9 +155,9 @@ module _ {M : Type 1} (𝓤 : URA M) (H : Heap 𝓤) (A : Atoms 𝓤) (W : Given
       fsplit ! $ drop ! $ fsplit ! $ drop ! $ fsplit ! $ drop ! $ fsplit ! $ drop ! $ fsplit ! $ fsplit ! $ move ! (1 ∷ []) $ feqL ! (λ d·1·chip. move ! (1 ∷ []) $ fsplit ! $ fsplit ! $ move ! (1 ∷ []) $ feqL ! (λ d·1·spare. move ! (1 ∷ []) $ fsplit ! $ fsplit ! $ move ! (1 ∷ []) $ feqL ! (λ d·1·directory. move ! (1 ∷ []) $ fsplit ! $ fsplit ! $ move ! (1 ∷ []) $ feqL ! (λ d·1·cache. move ! (1 ∷ []) $ fsplit ! $ fsplit ! $ move ! (1 ∷ []) $ feqL ! (λ d·1·words. move ! (1 ∷ []) $ fsplit ! $ fsplit ! $ move ! (1 ∷ []) $ feqL ! (λ d·1·answers. move ! (1 ∷ []) $ drop ! $ move ! (6 ∷ []) $ split ! $ move ! (1 ∷ []) $ peeks ! T·Running.the-row (Is T·Running.the-row) (shows 𝓤 H A T·Running.the-row) r·1 (w·1 ∷ []) (λ was·1. drop ! $
       split ! $ move ! (1 ∷ []) $ split ! $ move ! (1 ∷ []) $ split ! $ move ! (1 ∷ []) $ split ! $ move ! (1 ∷ []) $ split ! $ move ! (1 ∷ []) $ split ! $ move ! (1 ∷ []) $ drop ! $ move ! (5 ∷ 4 ∷ 3 ∷ 2 ∷ 1 ∷ 0 ∷ 11 ∷ 10 ∷ 9 ∷ 8 ∷ 7 ∷ 6 ∷ []) $ so r·1 zs·1 did·1 was·1 d·1·chip d·1·spare d·1·directory d·1·cache d·1·words d·1·answers))))))))))
 
-  exits : (st : St) → st .i ≡ length l·requests → ent 𝓤 (⋆ 𝓤 H A (‵ (ShrSlice (named 0) κ·requests T·Request.the-row .own (x·requests γ·requests l·requests) (s·requests ∷ [])) ∷ ‵ (MutSlice (named 1) κ·chip u32 .own (x·chip γ·chip (st .z·chip)) (s·chip ∷ [])) ∷ ‵ (MutSlice (named 2) κ·spare u32 .own (x·spare γ·spare (st .z·spare)) (s·spare ∷ [])) ∷ ‵ (MutSlice (named 3) κ·directory u32 .own (x·directory γ·directory (st .z·directory)) (s·directory ∷ [])) ∷ ‵ (MutSlice (named 4) κ·cache u32 .own (x·cache γ·cache (st .z·cache)) (s·cache ∷ [])) ∷ ‵ (MutSlice (named 5) κ·words u32 .own (x·words γ·words (st .z·words)) (s·words ∷ [])) ∷ ‵ (MutSlice (named 6) κ·answers u32 .own (x·answers γ·answers (st .z·answers)) (s·answers ∷ [])) ∷ ‵ (flft κ·requests q·requests) ∷ ‵ (flft κ·chip q·chip) ∷ ‵ (flft κ·spare q·spare) ∷ ‵ (flft κ·directory q·directory) ∷ ‵ (flft κ·cache q·cache) ∷ ‵ (flft κ·words q·words) ∷ ‵ (flft κ·answers q·answers) ∷ [])) (Post (LL.val T·Running.the-type L·Running.the-laws (st .cur)))
+  exits : (st : St) → st .i ≡ length l·requests → ent 𝓤 (⋆ 𝓤 H A (‵ (ShrSlice (named 0) κ·requests T·Request.the-row .own (slice T·Request.the-row b·requests o·requests γ·requests l·requests) ((sliceVal (b·requests, o·requests) (length l·requests)) ∷ [])) ∷ ‵ (MutSlice (named 1) κ·chip u32 .own (slice u32 b·chip o·chip γ·chip (st .z·chip)) ((sliceVal (b·chip, o·chip) (length l·chip)) ∷ [])) ∷ ‵ (MutSlice (named 2) κ·spare u32 .own (slice u32 b·spare o·spare γ·spare (st .z·spare)) ((sliceVal (b·spare, o·spare) (length l·spare)) ∷ [])) ∷ ‵ (MutSlice (named 3) κ·directory u32 .own (slice u32 b·directory o·directory γ·directory (st .z·directory)) ((sliceVal (b·directory, o·directory) (length l·directory)) ∷ [])) ∷ ‵ (MutSlice (named 4) κ·cache u32 .own (slice u32 b·cache o·cache γ·cache (st .z·cache)) ((sliceVal (b·cache, o·cache) (length l·cache)) ∷ [])) ∷ ‵ (MutSlice (named 5) κ·words u32 .own (slice u32 b·words o·words γ·words (st .z·words)) ((sliceVal (b·words, o·words) (length l·words)) ∷ [])) ∷ ‵ (MutSlice (named 6) κ·answers u32 .own (slice u32 b·answers o·answers γ·answers (st .z·answers)) ((sliceVal (b·answers, o·answers) (length l·answers)) ∷ [])) ∷ ‵ (flft κ·requests q·requests) ∷ ‵ (flft κ·chip q·chip) ∷ ‵ (flft κ·spare q·spare) ∷ ‵ (flft κ·directory q·directory) ∷ ‵ (flft κ·cache q·cache) ∷ ‵ (flft κ·words q·words) ∷ ‵ (flft κ·answers q·answers) ∷ [])) (Post (LL.val T·Running.the-type L·Running.the-laws (st .cur)))
   exits st all =
-      qed W (‵ (ShrSlice (named 0) κ·requests T·Request.the-row .own (x·requests γ·requests l·requests) (s·requests ∷ [])) ∷ ‵ (MutSlice (named 1) κ·chip u32 .own (x·chip γ·chip (st .z·chip)) (s·chip ∷ [])) ∷ ‵ (MutSlice (named 2) κ·spare u32 .own (x·spare γ·spare (st .z·spare)) (s·spare ∷ [])) ∷ ‵ (MutSlice (named 3) κ·directory u32 .own (x·directory γ·directory (st .z·directory)) (s·directory ∷ [])) ∷ ‵ (MutSlice (named 4) κ·cache u32 .own (x·cache γ·cache (st .z·cache)) (s·cache ∷ [])) ∷ ‵ (MutSlice (named 5) κ·words u32 .own (x·words γ·words (st .z·words)) (s·words ∷ [])) ∷ ‵ (MutSlice (named 6) κ·answers u32 .own (x·answers γ·answers (st .z·answers)) (s·answers ∷ [])) ∷ ‵ (flft κ·requests q·requests) ∷ ‵ (flft κ·chip q·chip) ∷ ‵ (flft κ·spare q·spare) ∷ ‵ (flft κ·directory q·directory) ∷ ‵ (flft κ·cache q·cache) ∷ ‵ (flft κ·words q·words) ∷ ‵ (flft κ·answers q·answers) ∷ []) ∵ suffices ! _ (ends-at 𝓤 H A walked·.ended stayed (walked·.clauses 𝓤 H A mm rn) W (((κ·requests, (κ·chip, (κ·spare, (κ·directory, (κ·cache, (κ·words, (κ·answers, tt))))))), (q·requests, (q·chip, (q·spare, (q·directory, (q·cache, (q·words, (q·answers, tt))))))), tt, a, vals), tt) (LL.val T·Running.the-type L·Running.the-laws (st .cur)) (st .cur) (tt, (tt, (tt, ((st .z·chip), ((st .z·spare), ((st .z·directory), ((st .z·cache), ((st .z·words), ((st .z·answers), tt))))))))) (tt, (tt, (tt, ((st .e·chip), ((st .e·spare), ((st .e·directory), ((st .e·cache), ((st .e·words), ((st .e·answers), tt)))))))))) $
+      qed W (‵ (ShrSlice (named 0) κ·requests T·Request.the-row .own (slice T·Request.the-row b·requests o·requests γ·requests l·requests) ((sliceVal (b·requests, o·requests) (length l·requests)) ∷ [])) ∷ ‵ (MutSlice (named 1) κ·chip u32 .own (slice u32 b·chip o·chip γ·chip (st .z·chip)) ((sliceVal (b·chip, o·chip) (length l·chip)) ∷ [])) ∷ ‵ (MutSlice (named 2) κ·spare u32 .own (slice u32 b·spare o·spare γ·spare (st .z·spare)) ((sliceVal (b·spare, o·spare) (length l·spare)) ∷ [])) ∷ ‵ (MutSlice (named 3) κ·directory u32 .own (slice u32 b·directory o·directory γ·directory (st .z·directory)) ((sliceVal (b·directory, o·directory) (length l·directory)) ∷ [])) ∷ ‵ (MutSlice (named 4) κ·cache u32 .own (slice u32 b·cache o·cache γ·cache (st .z·cache)) ((sliceVal (b·cache, o·cache) (length l·cache)) ∷ [])) ∷ ‵ (MutSlice (named 5) κ·words u32 .own (slice u32 b·words o·words γ·words (st .z·words)) ((sliceVal (b·words, o·words) (length l·words)) ∷ [])) ∷ ‵ (MutSlice (named 6) κ·answers u32 .own (slice u32 b·answers o·answers γ·answers (st .z·answers)) ((sliceVal (b·answers, o·answers) (length l·answers)) ∷ [])) ∷ ‵ (flft κ·requests q·requests) ∷ ‵ (flft κ·chip q·chip) ∷ ‵ (flft κ·spare q·spare) ∷ ‵ (flft κ·directory q·directory) ∷ ‵ (flft κ·cache q·cache) ∷ ‵ (flft κ·words q·words) ∷ ‵ (flft κ·answers q·answers) ∷ []) ∵ suffices ! _ (ends-at 𝓤 H A walked·.ended stayed (walked·.clauses 𝓤 H A mm rn) W (((κ·requests, (κ·chip, (κ·spare, (κ·directory, (κ·cache, (κ·words, (κ·answers, tt))))))), (q·requests, (q·chip, (q·spare, (q·directory, (q·cache, (q·words, (q·answers, tt))))))), tt, a, vals), tt) (LL.val T·Running.the-type L·Running.the-laws (st .cur)) (st .cur) (tt, (tt, (tt, ((st .z·chip), ((st .z·spare), ((st .z·directory), ((st .z·cache), ((st .z·words), ((st .z·answers), tt))))))))) (tt, (tt, (tt, ((st .e·chip), ((st .e·spare), ((st .e·directory), ((st .e·cache), ((st .e·words), ((st .e·answers), tt)))))))))) $
       says ! (subst (λ (m : ℕ). Ran (geometry v·g) (l·requests) m v·first (state (l·chip) (l·spare) (l·directory) (l·cache) (v·first .rec)) (l·words) (l·answers) (st .cur) (state ((st .z·chip)) ((st .z·spare)) ((st .z·directory)) ((st .z·cache)) ((st .cur) .rec)) ((st .z·words)) ((st .z·answers))) all (st .ran)) $ nothing ! $ move ! (14 ∷ 0 ∷ []) $ join ! $ move ! (13 ∷ 0 ∷ []) $ join ! $ move ! (12 ∷ 0 ∷ []) $ join ! $ move ! (11 ∷ 0 ∷ []) $ join ! $ move ! (10 ∷ 0 ∷ []) $ join ! $ move ! (9 ∷ 0 ∷ []) $ join ! $ move ! (8 ∷ 0 ∷ []) $ join ! $ frame ! $ nothing ! $ move ! (7 ∷ 0 ∷ []) $ fjoin ! $ move ! (6 ∷ 0 ∷ []) $ fjoin ! $ move ! (5 ∷ 0 ∷ []) $ fjoin ! $ move ! (4 ∷ 0 ∷ []) $ fjoin ! $ move ! (3 ∷ 0 ∷ []) $ fjoin ! $ move ! (2 ∷ 0 ∷ []) $ fjoin ! $ owned ! T·Geometry.the-row (Is T·Geometry.the-row) (LL.makes T·Geometry.the-type L·Geometry.the-plain 𝓤 H A) v·g _ is·g $ fjoin ! $ move ! (1 ∷ 0 ∷ []) $ fjoin ! $ owned ! T·Running.the-row (Is T·Running.the-row) (LL.makes T·Running.the-type L·Running.the-plain 𝓤 H A) v·first _ is·first $ fjoin ! $ owned ! T·Running.the-row (Is T·Running.the-row) (LL.makes T·Running.the-type L·Running.the-plain 𝓤 H A) (st .cur) _ (st .is) $ move ! (1 ∷ 0 ∷ []) $ done !
 
   module _ (𝓣 : Tables 𝓤 H) (fm : FmC 𝓤 H (W .laws) (𝓣 .C)) (known·1 : Triple 𝓤 (𝓣 .C #·1) (Callee·1 𝓤 H A mm rn)) (l·0 l·1 l·2 l·3 l·4 l·5 l·6 l·7 l·8 l·9 l·10 l·11 l·12 l·13 l·14 l·15 l·16 l·17 l·18 l·19 l·20 l·21 l·22 l·23 l·24 l·25 l·26 l·27 : ℕ) where
@@ -207,7 +165,7 @@ module _ {M : Type 1} (𝓤 : URA M) (H : Heap 𝓤) (A : Atoms 𝓤) (W : Given
     En = (L·Running.mir, l·0) ∷ (L·Running.mir, l·1) ∷ ((sliceTy (tyRef (named 0) imm (pointee (T·Request.the-row .written)))), l·2) ∷ (L·Geometry.mir, l·3) ∷ ((sliceTy (tyRef (named 1) mut (tyInt w32))), l·4) ∷ ((sliceTy (tyRef (named 2) mut (tyInt w32))), l·5) ∷ ((sliceTy (tyRef (named 3) mut (tyInt w32))), l·6) ∷ ((sliceTy (tyRef (named 4) mut (tyInt w32))), l·7) ∷ ((sliceTy (tyRef (named 5) mut (tyInt w32))), l·8) ∷ ((sliceTy (tyRef (named 6) mut (tyInt w32))), l·9) ∷ ((tyInt w64), l·10) ∷ (L·Running.mir, l·11) ∷ ((tyInt w64), l·12) ∷ (tyBool, l·13) ∷ (tyPtr, l·14) ∷ (L·Request.mir, l·15) ∷ ((tyRef erased mut (tyInt w32)), l·16) ∷ ((sliceTy (tyRef erased mut (tyInt w32))), l·17) ∷ ((tyRef erased mut (tyInt w32)), l·18) ∷ ((sliceTy (tyRef erased mut (tyInt w32))), l·19) ∷ ((tyRef erased mut (tyInt w32)), l·20) ∷ ((sliceTy (tyRef erased mut (tyInt w32))), l·21) ∷ ((tyRef erased mut (tyInt w32)), l·22) ∷ ((sliceTy (tyRef erased mut (tyInt w32))), l·23) ∷ ((tyRef erased mut (tyInt w32)), l·24) ∷ ((sliceTy (tyRef erased mut (tyInt w32))), l·25) ∷ ((tyRef erased mut (tyInt w32)), l·26) ∷ ((sliceTy (tyRef erased mut (tyInt w32))), l·27) ∷ []
 
     abbrev At : St → List (Item 𝓤)
-    At st = ‵ (ShrSlice (named 0) κ·requests T·Request.the-row .own (x·requests γ·requests l·requests) (s·requests ∷ [])) ∷ ‵ (MutSlice (named 1) κ·chip u32 .own (x·chip γ·chip (st .z·chip)) (s·chip ∷ [])) ∷ ‵ (MutSlice (named 2) κ·spare u32 .own (x·spare γ·spare (st .z·spare)) (s·spare ∷ [])) ∷ ‵ (MutSlice (named 3) κ·directory u32 .own (x·directory γ·directory (st .z·directory)) (s·directory ∷ [])) ∷ ‵ (MutSlice (named 4) κ·cache u32 .own (x·cache γ·cache (st .z·cache)) (s·cache ∷ [])) ∷ ‵ (MutSlice (named 5) κ·words u32 .own (x·words γ·words (st .z·words)) (s·words ∷ [])) ∷ ‵ (MutSlice (named 6) κ·answers u32 .own (x·answers γ·answers (st .z·answers)) (s·answers ∷ [])) ∷ ‵ (flft κ·requests q·requests) ∷ ‵ (flft κ·chip q·chip) ∷ ‵ (flft κ·spare q·spare) ∷ ‵ (flft κ·directory q·directory) ∷ ‵ (flft κ·cache q·cache) ∷ ‵ (flft κ·words q·words) ∷ ‵ (flft κ·answers q·answers) ∷ ‵ (froom (sliceTy (tyRef erased mut (tyInt w32))) l·27 0) ∷ ‵ (fdies (sliceTy (tyRef erased mut (tyInt w32))) l·27) ∷ ‵ (froom (tyRef erased mut (tyInt w32)) l·26 0) ∷ ‵ (fdies (tyRef erased mut (tyInt w32)) l·26) ∷ ‵ (froom (sliceTy (tyRef erased mut (tyInt w32))) l·25 0) ∷ ‵ (fdies (sliceTy (tyRef erased mut (tyInt w32))) l·25) ∷ ‵ (froom (tyRef erased mut (tyInt w32)) l·24 0) ∷ ‵ (fdies (tyRef erased mut (tyInt w32)) l·24) ∷ ‵ (froom (sliceTy (tyRef erased mut (tyInt w32))) l·23 0) ∷ ‵ (fdies (sliceTy (tyRef erased mut (tyInt w32))) l·23) ∷ ‵ (froom (tyRef erased mut (tyInt w32)) l·22 0) ∷ ‵ (fdies (tyRef erased mut (tyInt w32)) l·22) ∷ ‵ (froom (sliceTy (tyRef erased mut (tyInt w32))) l·21 0) ∷ ‵ (fdies (sliceTy (tyRef erased mut (tyInt w32))) l·21) ∷ ‵ (froom (tyRef erased mut (tyInt w32)) l·20 0) ∷ ‵ (fdies (tyRef erased mut (tyInt w32)) l·20) ∷ ‵ (froom (sliceTy (tyRef erased mut (tyInt w32))) l·19 0) ∷ ‵ (fdies (sliceTy (tyRef erased mut (tyInt w32))) l·19) ∷ ‵ (froom (tyRef erased mut (tyInt w32)) l·18 0) ∷ ‵ (fdies (tyRef erased mut (tyInt w32)) l·18) ∷ ‵ (froom (sliceTy (tyRef erased mut (tyInt w32))) l·17 0) ∷ ‵ (fdies (sliceTy (tyRef erased mut (tyInt w32))) l·17) ∷ ‵ (froom (tyRef erased mut (tyInt w32)) l·16 0) ∷ ‵ (fdies (tyRef erased mut (tyInt w32)) l·16) ∷ ‵ (froom L·Request.mir l·15 0) ∷ ‵ (fdies L·Request.mir l·15) ∷ ‵ (froom tyPtr l·14 0) ∷ ‵ (fdies tyPtr l·14) ∷ ‵ (froom tyBool l·13 0) ∷ ‵ (fdies tyBool l·13) ∷ ‵ (froom (tyInt w64) l·12 0) ∷ ‵ (fdies (tyInt w64) l·12) ∷ ‵ (fat fullShare L·Running.mir l·11 0 (LL.val T·Running.the-type L·Running.the-laws (st .cur))) ∷ ‵ (fdies L·Running.mir l·11) ∷ ‵ (fat fullShare (tyInt w64) l·10 0 (vint w64 (st .i))) ∷ ‵ (fdies (tyInt w64) l·10) ∷ ‵ (fat fullShare (sliceTy (tyRef (named 6) mut (tyInt w32))) l·9 0 s·answers) ∷ ‵ (fdies (sliceTy (tyRef (named 6) mut (tyInt w32))) l·9) ∷ ‵ (fat fullShare (sliceTy (tyRef (named 5) mut (tyInt w32))) l·8 0 s·words) ∷ ‵ (fdies (sliceTy (tyRef (named 5) mut (tyInt w32))) l·8) ∷ ‵ (fat fullShare (sliceTy (tyRef (named 4) mut (tyInt w32))) l·7 0 s·cache) ∷ ‵ (fdies (sliceTy (tyRef (named 4) mut (tyInt w32))) l·7) ∷ ‵ (fat fullShare (sliceTy (tyRef (named 3) mut (tyInt w32))) l·6 0 s·directory) ∷ ‵ (fdies (sliceTy (tyRef (named 3) mut (tyInt w32))) l·6) ∷ ‵ (fat fullShare (sliceTy (tyRef (named 2) mut (tyInt w32))) l·5 0 s·spare) ∷ ‵ (fdies (sliceTy (tyRef (named 2) mut (tyInt w32))) l·5) ∷ ‵ (fat fullShare (sliceTy (tyRef (named 1) mut (tyInt w32))) l·4 0 s·chip) ∷ ‵ (fdies (sliceTy (tyRef (named 1) mut (tyInt w32))) l·4) ∷ ‵ (fat fullShare L·Geometry.mir l·3 0 (LL.val T·Geometry.the-type L·Geometry.the-laws v·g)) ∷ ‵ (fdies L·Geometry.mir l·3) ∷ ‵ (fat fullShare (sliceTy (tyRef (named 0) imm (pointee (T·Request.the-row .written)))) l·2 0 s·requests) ∷ ‵ (fdies (sliceTy (tyRef (named 0) imm (pointee (T·Request.the-row .written)))) l·2) ∷ ‵ (fat fullShare L·Running.mir l·1 0 (LL.val T·Running.the-type L·Running.the-laws v·first)) ∷ ‵ (fdies L·Running.mir l·1) ∷ ‵ (froom L·Running.mir l·0 0) ∷ ‵ (fdies L·Running.mir l·0) ∷ []
+    At st = ‵ (ShrSlice (named 0) κ·requests T·Request.the-row .own (slice T·Request.the-row b·requests o·requests γ·requests l·requests) ((sliceVal (b·requests, o·requests) (length l·requests)) ∷ [])) ∷ ‵ (MutSlice (named 1) κ·chip u32 .own (slice u32 b·chip o·chip γ·chip (st .z·chip)) ((sliceVal (b·chip, o·chip) (length l·chip)) ∷ [])) ∷ ‵ (MutSlice (named 2) κ·spare u32 .own (slice u32 b·spare o·spare γ·spare (st .z·spare)) ((sliceVal (b·spare, o·spare) (length l·spare)) ∷ [])) ∷ ‵ (MutSlice (named 3) κ·directory u32 .own (slice u32 b·directory o·directory γ·directory (st .z·directory)) ((sliceVal (b·directory, o·directory) (length l·directory)) ∷ [])) ∷ ‵ (MutSlice (named 4) κ·cache u32 .own (slice u32 b·cache o·cache γ·cache (st .z·cache)) ((sliceVal (b·cache, o·cache) (length l·cache)) ∷ [])) ∷ ‵ (MutSlice (named 5) κ·words u32 .own (slice u32 b·words o·words γ·words (st .z·words)) ((sliceVal (b·words, o·words) (length l·words)) ∷ [])) ∷ ‵ (MutSlice (named 6) κ·answers u32 .own (slice u32 b·answers o·answers γ·answers (st .z·answers)) ((sliceVal (b·answers, o·answers) (length l·answers)) ∷ [])) ∷ ‵ (flft κ·requests q·requests) ∷ ‵ (flft κ·chip q·chip) ∷ ‵ (flft κ·spare q·spare) ∷ ‵ (flft κ·directory q·directory) ∷ ‵ (flft κ·cache q·cache) ∷ ‵ (flft κ·words q·words) ∷ ‵ (flft κ·answers q·answers) ∷ ‵ (froom (sliceTy (tyRef erased mut (tyInt w32))) l·27 0) ∷ ‵ (fdies (sliceTy (tyRef erased mut (tyInt w32))) l·27) ∷ ‵ (froom (tyRef erased mut (tyInt w32)) l·26 0) ∷ ‵ (fdies (tyRef erased mut (tyInt w32)) l·26) ∷ ‵ (froom (sliceTy (tyRef erased mut (tyInt w32))) l·25 0) ∷ ‵ (fdies (sliceTy (tyRef erased mut (tyInt w32))) l·25) ∷ ‵ (froom (tyRef erased mut (tyInt w32)) l·24 0) ∷ ‵ (fdies (tyRef erased mut (tyInt w32)) l·24) ∷ ‵ (froom (sliceTy (tyRef erased mut (tyInt w32))) l·23 0) ∷ ‵ (fdies (sliceTy (tyRef erased mut (tyInt w32))) l·23) ∷ ‵ (froom (tyRef erased mut (tyInt w32)) l·22 0) ∷ ‵ (fdies (tyRef erased mut (tyInt w32)) l·22) ∷ ‵ (froom (sliceTy (tyRef erased mut (tyInt w32))) l·21 0) ∷ ‵ (fdies (sliceTy (tyRef erased mut (tyInt w32))) l·21) ∷ ‵ (froom (tyRef erased mut (tyInt w32)) l·20 0) ∷ ‵ (fdies (tyRef erased mut (tyInt w32)) l·20) ∷ ‵ (froom (sliceTy (tyRef erased mut (tyInt w32))) l·19 0) ∷ ‵ (fdies (sliceTy (tyRef erased mut (tyInt w32))) l·19) ∷ ‵ (froom (tyRef erased mut (tyInt w32)) l·18 0) ∷ ‵ (fdies (tyRef erased mut (tyInt w32)) l·18) ∷ ‵ (froom (sliceTy (tyRef erased mut (tyInt w32))) l·17 0) ∷ ‵ (fdies (sliceTy (tyRef erased mut (tyInt w32))) l·17) ∷ ‵ (froom (tyRef erased mut (tyInt w32)) l·16 0) ∷ ‵ (fdies (tyRef erased mut (tyInt w32)) l·16) ∷ ‵ (froom L·Request.mir l·15 0) ∷ ‵ (fdies L·Request.mir l·15) ∷ ‵ (froom tyPtr l·14 0) ∷ ‵ (fdies tyPtr l·14) ∷ ‵ (froom tyBool l·13 0) ∷ ‵ (fdies tyBool l·13) ∷ ‵ (froom (tyInt w64) l·12 0) ∷ ‵ (fdies (tyInt w64) l·12) ∷ ‵ (fat fullShare L·Running.mir l·11 0 (LL.val T·Running.the-type L·Running.the-laws (st .cur))) ∷ ‵ (fdies L·Running.mir l·11) ∷ ‵ (fat fullShare (tyInt w64) l·10 0 (vint w64 (st .i))) ∷ ‵ (fdies (tyInt w64) l·10) ∷ ‵ (fat fullShare (sliceTy (tyRef (named 6) mut (tyInt w32))) l·9 0 (sliceVal (b·answers, o·answers) (length l·answers))) ∷ ‵ (fdies (sliceTy (tyRef (named 6) mut (tyInt w32))) l·9) ∷ ‵ (fat fullShare (sliceTy (tyRef (named 5) mut (tyInt w32))) l·8 0 (sliceVal (b·words, o·words) (length l·words))) ∷ ‵ (fdies (sliceTy (tyRef (named 5) mut (tyInt w32))) l·8) ∷ ‵ (fat fullShare (sliceTy (tyRef (named 4) mut (tyInt w32))) l·7 0 (sliceVal (b·cache, o·cache) (length l·cache))) ∷ ‵ (fdies (sliceTy (tyRef (named 4) mut (tyInt w32))) l·7) ∷ ‵ (fat fullShare (sliceTy (tyRef (named 3) mut (tyInt w32))) l·6 0 (sliceVal (b·directory, o·directory) (length l·directory))) ∷ ‵ (fdies (sliceTy (tyRef (named 3) mut (tyInt w32))) l·6) ∷ ‵ (fat fullShare (sliceTy (tyRef (named 2) mut (tyInt w32))) l·5 0 (sliceVal (b·spare, o·spare) (length l·spare))) ∷ ‵ (fdies (sliceTy (tyRef (named 2) mut (tyInt w32))) l·5) ∷ ‵ (fat fullShare (sliceTy (tyRef (named 1) mut (tyInt w32))) l·4 0 (sliceVal (b·chip, o·chip) (length l·chip))) ∷ ‵ (fdies (sliceTy (tyRef (named 1) mut (tyInt w32))) l·4) ∷ ‵ (fat fullShare L·Geometry.mir l·3 0 (LL.val T·Geometry.the-type L·Geometry.the-laws v·g)) ∷ ‵ (fdies L·Geometry.mir l·3) ∷ ‵ (fat fullShare (sliceTy (tyRef (named 0) imm (pointee (T·Request.the-row .written)))) l·2 0 (sliceVal (b·requests, o·requests) (length l·requests))) ∷ ‵ (fdies (sliceTy (tyRef (named 0) imm (pointee (T·Request.the-row .written)))) l·2) ∷ ‵ (fat fullShare L·Running.mir l·1 0 (LL.val T·Running.the-type L·Running.the-laws v·first)) ∷ ‵ (fdies L·Running.mir l·1) ∷ ‵ (froom L·Running.mir l·0 0) ∷ ‵ (fdies L·Running.mir l·0) ∷ []
 
     abbrev Turned : St → Out → SProp 𝓤
     Turned st = afterTurn 𝓤 H (Below 𝓤 H A Nearer At st) (afterBlock 𝓤 H (afterSeq 𝓤 H (Wp 𝓤 H (𝓣 .C) (𝓣 .Λ) En piece.t-4 (atReturn 𝓤 H En Post)) (atReturn 𝓤 H En Post)))
@@ -284,9 +242,9 @@ module _ {M : Type 1} (𝓤 : URA M) (H : Heap 𝓤) (A : Atoms 𝓤) (W : Given
     looping = first ! $ blocks ! $ loops ! 𝓣 Nearer Nearer-wf At turns begin
 
   walk : (𝓣 : Tables 𝓤 H) (fm : FmC 𝓤 H (W .laws) (𝓣 .C)) (known·1 : Triple 𝓤 (𝓣 .C #·1) (Callee·1 𝓤 H A mm rn))
-      → ent 𝓤 (onEntry 𝓤 H A walked·.signature (κ·requests, (κ·chip, (κ·spare, (κ·directory, (κ·cache, (κ·words, (κ·answers, tt))))))) (q·requests, (q·chip, (q·spare, (q·directory, (q·cache, (q·words, (q·answers, tt))))))) a vals) (WpFn 𝓤 H (𝓣 .C) (𝓣 .Λ) code.function ((LL.val T·Running.the-type L·Running.the-laws v·first) ∷ s·requests ∷ (LL.val T·Geometry.the-type L·Geometry.the-laws v·g) ∷ s·chip ∷ s·spare ∷ s·directory ∷ s·cache ∷ s·words ∷ s·answers ∷ []) Post)
+      → ent 𝓤 (onEntry 𝓤 H A walked·.signature (κ·requests, (κ·chip, (κ·spare, (κ·directory, (κ·cache, (κ·words, (κ·answers, tt))))))) (q·requests, (q·chip, (q·spare, (q·directory, (q·cache, (q·words, (q·answers, tt))))))) a vals) (WpFn 𝓤 H (𝓣 .C) (𝓣 .Λ) code.function ((LL.val T·Running.the-type L·Running.the-laws v·first) ∷ (sliceVal (b·requests, o·requests) (length l·requests)) ∷ (LL.val T·Geometry.the-type L·Geometry.the-laws v·g) ∷ (sliceVal (b·chip, o·chip) (length l·chip)) ∷ (sliceVal (b·spare, o·spare) (length l·spare)) ∷ (sliceVal (b·directory, o·directory) (length l·directory)) ∷ (sliceVal (b·cache, o·cache) (length l·cache)) ∷ (sliceVal (b·words, o·words) (length l·words)) ∷ (sliceVal (b·answers, o·answers) (length l·answers)) ∷ []) Post)
   walk 𝓣 fm known·1 =
-      qed W ((‵ (flft κ·requests q·requests) ⊛ ‵ (flft κ·chip q·chip) ⊛ ‵ (flft κ·spare q·spare) ⊛ ‵ (flft κ·directory q·directory) ⊛ ‵ (flft κ·cache q·cache) ⊛ ‵ (flft κ·words q·words) ⊛ ‵ (flft κ·answers q·answers) ⊛ ‵ ftrue) ∷ ‵ (owns (T·Running.the-row ∷ ShrSlice (named 0) κ·requests T·Request.the-row ∷ T·Geometry.the-row ∷ MutSlice (named 1) κ·chip u32 ∷ MutSlice (named 2) κ·spare u32 ∷ MutSlice (named 3) κ·directory u32 ∷ MutSlice (named 4) κ·cache u32 ∷ MutSlice (named 5) κ·words u32 ∷ MutSlice (named 6) κ·answers u32 ∷ []) a vals) ∷ []) ∵ enter ! (𝓣 .C) (𝓣 .Λ) code.function ((LL.val T·Running.the-type L·Running.the-laws v·first) ∷ s·requests ∷ (LL.val T·Geometry.the-type L·Geometry.the-laws v·g) ∷ s·chip ∷ s·spare ∷ s·directory ∷ s·cache ∷ s·words ∷ s·answers ∷ []) _ $
+      qed W ((‵ (flft κ·requests q·requests) ⊛ ‵ (flft κ·chip q·chip) ⊛ ‵ (flft κ·spare q·spare) ⊛ ‵ (flft κ·directory q·directory) ⊛ ‵ (flft κ·cache q·cache) ⊛ ‵ (flft κ·words q·words) ⊛ ‵ (flft κ·answers q·answers) ⊛ ‵ ftrue) ∷ ‵ (owns (T·Running.the-row ∷ ShrSlice (named 0) κ·requests T·Request.the-row ∷ T·Geometry.the-row ∷ MutSlice (named 1) κ·chip u32 ∷ MutSlice (named 2) κ·spare u32 ∷ MutSlice (named 3) κ·directory u32 ∷ MutSlice (named 4) κ·cache u32 ∷ MutSlice (named 5) κ·words u32 ∷ MutSlice (named 6) κ·answers u32 ∷ []) a vals) ∷ []) ∵ enter ! (𝓣 .C) (𝓣 .Λ) code.function ((LL.val T·Running.the-type L·Running.the-laws v·first) ∷ (sliceVal (b·requests, o·requests) (length l·requests)) ∷ (LL.val T·Geometry.the-type L·Geometry.the-laws v·g) ∷ (sliceVal (b·chip, o·chip) (length l·chip)) ∷ (sliceVal (b·spare, o·spare) (length l·spare)) ∷ (sliceVal (b·directory, o·directory) (length l·directory)) ∷ (sliceVal (b·cache, o·cache) (length l·cache)) ∷ (sliceVal (b·words, o·words) (length l·words)) ∷ (sliceVal (b·answers, o·answers) (length l·answers)) ∷ []) _ $
       alloc1 ! (λ l·0. alloc1 ! (λ l·1. alloc1 ! (λ l·2. alloc1 ! (λ l·3. alloc1 ! (λ l·4. alloc1 ! (λ l·5. alloc1 ! (λ l·6. alloc1 ! (λ l·7. alloc1 ! (λ l·8. alloc1 ! (λ l·9. alloc1 ! (λ l·10. alloc1 ! (λ l·11. alloc1 ! (λ l·12. alloc1 ! (λ l·13. alloc1 ! (λ l·14. alloc1 ! (λ l·15. alloc1 ! (λ l·16. alloc1 ! (λ l·17. alloc1 ! (λ l·18. alloc1 ! (λ l·19. alloc1 ! (λ l·20. alloc1 ! (λ l·21. alloc1 ! (λ l·22. alloc1 ! (λ l·23. alloc1 ! (λ l·24. alloc1 ! (λ l·25. alloc1 ! (λ l·26. alloc1 ! (λ l·27. alloc0 ! $ params1 ! $
       pass1 ! (init ! 52 refl (LL.lawful T·Running.the-type L·Running.the-laws 𝓤 H A W .typed v·first _ is·first .0)) $ pass1 ! (init ! 50 refl (tt, (tt, (record { fits = room·requests .0 }, tt)))) $ pass1 ! (init ! 48 refl (LL.lawful T·Geometry.the-type L·Geometry.the-laws 𝓤 H A W .typed v·g _ is·g .0)) $ pass1 ! (init ! 46 refl (tt, (tt, (record { fits = room·chip .0 }, tt)))) $ pass1 ! (init ! 44 refl (tt, (tt, (record { fits = room·spare .0 }, tt)))) $ pass1 ! (init ! 42 refl (tt, (tt, (record { fits = room·directory .0 }, tt)))) $ pass1 ! (init ! 40 refl (tt, (tt, (record { fits = room·cache .0 }, tt)))) $ pass1 ! (init ! 38 refl (tt, (tt, (record { fits = room·words .0 }, tt)))) $ pass1 ! (init ! 36 refl (tt, (tt, (record { fits = room·answers .0 }, tt)))) $ pass0 ! $
       move ! (57 ∷ []) $ fsplit ! $ drop ! $ fsplit ! $ move ! (1 ∷ []) $ fsplit ! $ drop ! $ fsplit ! $ move ! (1 ∷ []) $ fsplit ! $ move ! (1 ∷ []) $ fsplit ! $ move ! (1 ∷ []) $ fsplit ! $ move ! (1 ∷ []) $ fsplit ! $ move ! (1 ∷ []) $ fsplit ! $ move ! (64 ∷ []) $ split ! $ move ! (1 ∷ []) $ split ! $ move ! (1 ∷ []) $ split ! $ move ! (1 ∷ []) $ split ! $ move ! (1 ∷ []) $ split ! $ move ! (1 ∷ []) $ split ! $ move ! (1 ∷ []) $ split ! $
