@@ -84,14 +84,21 @@ abbrev pub sum : List ℕ → ℕ
 sum [] = 0
 sum (k ∷ ks) = k + sum ks
 
+-- A read, and a write, by its answer and its counts.
+abbrev pub Read-in-bounds : Geometry → Back → Type 0
+Read-in-bounds g b = ((b .reply ≡ DONE) ⊎ (b .reply ≡ UNWRITTEN)) × (sum (b .counts) ≤ read-bound g)
+
+abbrev pub Write-in-bounds : Geometry → Back → Type 0
+Write-in-bounds g b = (b .reply ≡ DONE) × (sum (b .counts) ≤ write-bound g)
+
 -- Of a call with right lengths, of a page below the limit where it names one. That the counts' slice has three words is among
 -- the lengths.
 pub record Demand-3-of (F : Face) (g : Geometry) (n : F .Node) (x : F .Lent) (counts : List ℕ) (b : Back) : Type 0 where
   pub reads-well : (l : ℕ) (buffer : List ℕ) → F .call n x counts ≡ Read-page true l buffer
       → l < g .L → Right (buffer-sizes g buffer)
-      → ((b .reply ≡ DONE) ⊎ (b .reply ≡ UNWRITTEN)) × (sum (b .counts) ≤ read-bound g)
+      → Read-in-bounds g b
   pub writes-well : (l : ℕ) (buffer : List ℕ) → F .call n x counts ≡ Write-page true l buffer
-      → l < g .L → Right (buffer-sizes g buffer) → (b .reply ≡ DONE) × (sum (b .counts) ≤ write-bound g)
+      → l < g .L → Right (buffer-sizes g buffer) → Write-in-bounds g b
   pub checks-well : F .call n x counts ≡ Check true → b .reply ≡ DONE
   pub runs-well : (requests : List Request) (words answers : List ℕ) → F .call n x counts ≡ Run true requests words answers
       → Right (run-sizes g requests words answers) → length requests ≤ most-requests → b .reply ≡ DONE

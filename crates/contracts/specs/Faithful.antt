@@ -2,20 +2,21 @@
 -- words come down to those on numbers and lists, so that the demands are proved once.
 use Prim.Native.Nat.{ℕ, _%_}
 use mathlib.Core.Path.{_≡_, refl, sym, _∙_, ap}
+use mathlib.Core.Logic.{_↔_}
 use mathlib.Core.Bool.{Bool, true}
 use mathlib.Core.List.{List, [], _∷_}
 use native.Mathlib.Omega.{arith}
 use lib.Dec.{eqb}
 use lib.ListN.{length}
 use lib.Seq.{sets, length-sets}
-use borrow.Author.Tests.{eqb-true}
+use borrow.Author.Tests.{eqb-true, eq-eqb}
 use Rattle.scope.specs.Geometry.{Geometry}
 use Rattle.scope.specs.SmallRecord.{SmallRecord, record-words, record-of, words-from}
 use Rattle.scope.specs.Lent.{State}
 use Rattle.scope.specs.Operations.{Step, Outcome}
 use Rattle.scope.specs.Boundary.{Words, counts-words, in-words, right-words, tf-format, tf-check, tf-read, tf-write, tf-run}
 use Rattle.scope.specs.Contracts.{Answers, Gives, right-lengths}
-use Rattle.flash.specs.Cases.{and-true}
+use Rattle.flash.specs.Cases.{and-true, true-and}
 use Rattle.promises.specs.Demands.{Call, Format, Check, Read-page, Write-page, Run, make}
 use Rattle.contracts.specs.Faces.{Back, Face, Answered, with-counts, rattle-face, Slices, lend, In-words, Tf-format, Tf-check, Tf-read, Tf-write, Tf-run, call-in-words, Given, state-of-slices, c-face}
 
@@ -81,6 +82,16 @@ rattle-faithful g =
 
 -- ---- C
 
+-- The Bool of a call in words: five words of the record, three of the counts.
+pub right-words-exactly : (n : Slices) (counts : List ℕ)
+    → (right-words (lend n counts) ≡ true) ↔ ((length (n .small) ≡ record-words) × (length counts ≡ counts-words))
+right-words-exactly n counts = (
+  λ e.
+      let (five, three) = and-true (eqb (length (n .small)) record-words) (eqb (length counts) counts-words) e in
+      (eqb-true (length (n .small)) record-words five, eqb-true (length counts) counts-words three),
+  λ h. true-and (eq-eqb (length (n .small)) record-words (h .0)) (eq-eqb (length counts) counts-words (h .1)),
+)
+
 -- Five words hold a record; the words of a record stored where they were read leave a slice of any length as it was.
 record-stored : (small : List ℕ) (r : SmallRecord) → length small ≡ record-words → record-of (sets small 0 (words-from r)) ≡ r
 record-stored [] r e = absurd (omega arith)
@@ -140,13 +151,12 @@ given-down g (Tf-run requests words answers) counts n b n′ a = let d = comes-d
 
 words-tested : (x : In-words) (counts : List ℕ) (n : Slices) → fits-of (call-in-words n x counts) ≡ true
     → length counts ≡ counts-words
-words-tested Tf-format counts n e = counts-tested (eqb (length (n .small)) record-words) counts e
-words-tested Tf-check counts n e = counts-tested (eqb (length (n .small)) record-words) counts e
-words-tested (Tf-read l buffer) counts n e = counts-tested (eqb (length (n .small)) record-words) counts e
-words-tested (Tf-write l buffer) counts n e = counts-tested (eqb (length (n .small)) record-words) counts e
+words-tested Tf-format counts n e = right-words-exactly n counts .0 e .1
+words-tested Tf-check counts n e = right-words-exactly n counts .0 e .1
+words-tested (Tf-read l buffer) counts n e = right-words-exactly n counts .0 e .1
+words-tested (Tf-write l buffer) counts n e = right-words-exactly n counts .0 e .1
 words-tested (Tf-run requests words answers) counts n e =
-    counts-tested (eqb (length (n .small)) record-words) counts
-    (and-true (right-words (lend n counts)) (eqb (length requests % 2) 0) e .0)
+    right-words-exactly n counts .0 (and-true (right-words (lend n counts)) (eqb (length requests % 2) 0) e .0) .1
 
 state-is : (n : Slices) (s : State) → length (n .small) ≡ record-words → s ≡ state-of-slices (state-stored n s)
 state-is n s five =

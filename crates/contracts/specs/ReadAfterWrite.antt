@@ -13,7 +13,6 @@ use lib.Dec.{eqb}
 use lib.ListN.{length, getD}
 use borrow.Author.Tests.{eq-eqb, ne-eqb}
 use Rattle.scope.specs.Geometry.{Geometry, Accepted}
-use Rattle.scope.specs.SmallRecord.{record-words}
 use Rattle.scope.specs.Lent.{none, Request}
 use Rattle.scope.specs.Operations.{counted}
 use Rattle.scope.specs.Requests.{replied}
@@ -25,13 +24,8 @@ use Rattle.flash.specs.Cases.{true-and}
 use Rattle.promises.specs.Demands.{Right, Refusal, Held, Words, Nothing, held, Tells, Read-page, Write-page, Run, write-bound, read-bound}
 use Rattle.contracts.specs.Faces.{Back, Slices, lend, state-of-slices, Tf-read, Tf-write, Tf-run, c-face}
 use Rattle.contracts.specs.ContractDemands.{sum, Node-kept, Demands-after, Demand-3-of}
+use Rattle.contracts.specs.Faithful.{right-words-exactly}
 use Rattle.contracts.specs.Theorems.{c-calls-meet}
-
--- The lengths that only C lends are right.
-lengths-right : (n : Slices) (counts : List ℕ) → length (n .small) ≡ record-words → length counts ≡ counts-words
-    → right-words (lend n counts) ≡ true
-lengths-right n counts five three =
-    true-and (eq-eqb (length (n .small)) record-words five) (eq-eqb (length counts) counts-words three)
 
 -- What tells of words that were written is DONE, with those words.
 abbrev words-in : List ℕ → Held → List ℕ
@@ -60,7 +54,7 @@ module _ {g : Geometry} (ok : Accepted g) where
   module _ (n : Slices) (kept : Node-kept c-face g n) (l : ℕ) (below : l < g .L) (buffer counts : List ℕ)
       (long : length buffer ≡ g .W) (three : length counts ≡ counts-words) (reply : ℕ) (n′ : Slices) (counts′ : List ℕ) where
     fits : right-words (lend n counts) ≡ true
-    fits = lengths-right n counts (kept .formed) three
+    fits = right-words-exactly n counts .1 (kept .formed, three)
 
     write-meets : Gives (tf-write g l (lend n counts) buffer) (replied buffer reply) (lend n′ counts′)
         → Demand-3-of c-face g n (Tf-write l buffer) counts (handed reply [] [] counts′)
@@ -128,7 +122,7 @@ module _ {g : Geometry} (ok : Accepted g) where
     requests = requests-of (1 ∷ l ∷ 0 ∷ l ∷ [])
 
     run-fits : (right-words (lend n counts) && true) ≡ true
-    run-fits = true-and (lengths-right n counts (kept .formed) three) refl
+    run-fits = true-and (right-words-exactly n counts .1 (kept .formed, three)) refl
 
     after-nothing : Demands-after c-face g n []
     after-nothing = c-calls-meet g .demands-after ok n kept [] tt

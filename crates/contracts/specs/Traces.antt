@@ -1,6 +1,6 @@
 -- Demands 2 and 3 after any trace of a face: the trace is a list of the definitions' calls with their answers, so what the demands say
 -- of the state after these is said of the node that the trace left.
-use Prim.Native.Nat.{ℕ, _≤_, _<_}
+use Prim.Native.Nat.{ℕ, _<_}
 use mathlib.Core.Path.{_≡_, refl, sym, _∙_, ap, ap₂, subst}
 use mathlib.Core.Logic.{_⊎_}
 use mathlib.Core.Bool.{Bool, true}
@@ -18,12 +18,12 @@ use Rattle.scope.specs.Calls.{state-sizes, buffer-sizes, RunReplied, part, no-r
 use Rattle.scope.specs.Boundary.{counts-words, put, words-of-counts}
 use Rattle.flash.specs.Listed.{total, Allowed}
 use Rattle.flash.specs.Clearing.{Clears-each}
-use Rattle.promises.specs.Demands.{Right, Refusal, own, own-operations, Call, Format, Check, Read-page, Write-page, Run, make, after-calls, history, Event, remembered, noted-records, Store, Nothing, held, Tells, One-for-each, Demand-3, Reads-well, Writes-well, read-bound, write-bound}
+use Rattle.promises.specs.Demands.{Right, Refusal, own, own-operations, Call, Format, Check, Read-page, Write-page, Run, make, after-calls, history, Event, remembered, noted-records, Store, Nothing, held, Tells, One-for-each, Demand-3, Reads-well, Writes-well}
 use Rattle.promises.specs.Refusals.{check-tested}
 use Rattle.promises.specs.Demand1.{demand-1}
 use Rattle.promises.specs.Sequences.{demand-2, demand-3, formats}
 use Rattle.contracts.specs.Faces.{Back, Face, Answered, Made, Trace, left-by, seen}
-use Rattle.contracts.specs.ContractDemands.{sum, Demand-2-of, Demand-3-of, Node-kept, Demands-after, Formats-of}
+use Rattle.contracts.specs.ContractDemands.{sum, Read-in-bounds, Write-in-bounds, Demand-2-of, Demand-3-of, Node-kept, Demands-after, Formats-of}
 use Rattle.contracts.specs.Faithful.{Faithful, fits-of}
 use Rattle.contracts.specs.AnyOutcome.{answer-is, counts-are, known}
 
@@ -144,8 +144,7 @@ module _ {F : Face} {g : Geometry} (faithful : Faithful F g) where
           }
 
       module _ (l : ℕ) (buffer : List ℕ) (below : l < g .L) (long : Right (buffer-sizes g buffer)) where
-        reads-well : call ≡ Read-page true l buffer
-            → ((b .reply ≡ DONE) ⊎ (b .reply ≡ UNWRITTEN)) × (sum (b .counts) ≤ read-bound g)
+        reads-well : call ≡ Read-page true l buffer → Read-in-bounds g b
         reads-well e =
             let (replies, bound) =
             subst (λ (t : State). Reads-well g (read g true l buffer t .value .reply) (read g true l buffer t .did)) ends
@@ -154,7 +153,7 @@ module _ {F : Face} {g : Geometry} (faithful : Faithful F g) where
               omega (arith, costs e refl, bound),
             )
 
-        writes-well : call ≡ Write-page true l buffer → (b .reply ≡ DONE) × (sum (b .counts) ≤ write-bound g)
+        writes-well : call ≡ Write-page true l buffer → Write-in-bounds g b
         writes-well e =
             let (replies, bound) =
             subst (λ (t : State). Writes-well g (write g true l buffer t .value .reply) (write g true l buffer t .did)) ends
