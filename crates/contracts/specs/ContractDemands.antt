@@ -48,7 +48,7 @@ pub record Demand-1-of (F : Face) (g : Geometry) (n : F .Node) (x : F .Lent) (co
   pub refuses : Refuses (b .reply) (grounds g (F .call n x counts) (F .state n))
   pub unwritten-by-read : b .reply ≡ UNWRITTEN
       → (fits : Bool) × (l : ℕ) × (buffer : List ℕ) × (F .call n x counts ≡ Read-page fits l buffer)
-  -- "Lent memory after: unchanged", and the counts 0, 0, 0, "written whenever it has three".
+  -- The table's "lent memory after" is "unchanged" and its counts are 0, 0, 0, "written whenever it has three".
   pub unchanged : Refusal (b .reply) → (n′ ≡ n) × (b .counts ≡ put counts no-counts)
   -- "Read DONE fills the page buffer", and nothing else does: not UNWRITTEN, and no refusal.
   pub read-keeps : (fits : Bool) (l : ℕ) (buffer : List ℕ) → F .call n x counts ≡ Read-page fits l buffer

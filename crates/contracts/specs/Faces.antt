@@ -1,5 +1,6 @@
 -- The two faces of the library, as contracts: the calls of Rattle, on numbers and lists, and the calls of C, in words. Each call's
--- contract here is the predicate of its `ensures` (scope's Contracts.antt), over any outcome whatever; nothing else is known of a call.
+-- contract here is the predicate of its `ensures` (scope's Contracts.antt; crates face and trianglefire), over any outcome whatever;
+-- nothing else is known of a call.
 use Prim.Native.Nat.{ℕ, _%_}
 use mathlib.Core.Path.{_≡_}
 use mathlib.Core.Bool.{_&&_}
@@ -30,7 +31,7 @@ pub record Face : Type 1 where
   -- The state that a node is, and the call as the demands know it, with all lengths tested that no state has.
   pub state : Node → State
   pub call : Node → Lent → List ℕ → Call
-  -- The lengths in the node that no state has are right.
+  -- The lengths in the node that no state has are right. A trace begins so and stays so; demand 1 doesn't ask for it.
   pub Formed : Node → Type 0
   -- The call, with the counts' slice lent, may go from the one node to the other and hand this back.
   pub Contract : Geometry → Lent → List ℕ → Node → Back → Node → Type 0
@@ -140,6 +141,7 @@ pub record Made (F : Face) : Type 0 where
   pub after : F .Node
 
 -- Each call begins with the node that the one before left, and its outcome is one that its contract allows; refusals are among them.
+-- A call that lends other slices is not about this node.
 abbrev pub Trace : (F : Face) → Geometry → F .Node → List (Made F) → Type 0
 Trace F g n [] = Unit {0}
 Trace F g n (m ∷ ms) = F .Contract g (m .lent) (m .counts) n (m .back) (m .after) × Trace F g (m .after) ms
