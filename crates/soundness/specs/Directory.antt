@@ -16,15 +16,15 @@ use Rattle.scope.specs.Lent.{none, is-valid, directory-size}
 use Rattle.scope.specs.Regions.{Translation, first-page, region-pages}
 use Rattle.flash.specs.Counting.{count-same}
 use Rattle.soundness.specs.Counted.{decided-same}
-use Rattle.soundness.specs.Named.{Owners-fit, region-small, by-counts, owns, names-page}
-use Rattle.soundness.specs.Tally.{nothing, Tallied, word-named, word-good}
+use Rattle.soundness.specs.Named.{Owners-fit, region-small, by-counts, owns, is-none}
+use Rattle.soundness.specs.Tally.{nothing, Tallied, word-none, word-good}
 use Rattle.soundness.specs.declared.tally.Tally.{Tally}
 
 module _ (g : Geometry) (spare directory : List ℕ) (ok : Accepted g) (fit : Owners-fit g Translation spare)
     (long : length directory ≡ directory-size g) (sum : Tally)
-    (counted : Tallied nothing sum (length directory) (word-named directory) (word-good directory 0 spare (first-page g Translation) (region-pages g Translation))) where
-  named-is : sum .named ≡ count (M g) (λ t. names-page (getD directory t none))
-  named-is = omega (arith, counted .named-more, ap (λ (k : ℕ). count k (word-named directory)) long)
+    (counted : Tallied nothing sum (length directory) (word-none directory) (word-good directory 0 spare (first-page g Translation) (region-pages g Translation))) where
+  nones-is : sum .nones ≡ count (M g) (λ t. is-none (getD directory t none))
+  nones-is = omega (arith, counted .nones-more, ap (λ (k : ℕ). count k (word-none directory)) long)
 
   good-is : sum .good ≡ count (M g) (λ t. owns (first-page g Translation) (region-pages g Translation) spare t (getD directory t none))
   good-is =
@@ -33,9 +33,9 @@ module _ (g : Geometry) (spare directory : List ℕ) (ok : Accepted g) (fit : Ow
       ∙ count-same (M g) _ _ (λ t h. ap (λ (k : ℕ). owns (first-page g Translation) (region-pages g Translation) spare k (getD directory t none)) (zero-add t))
 
   pub directory-counts : (pages : ℕ) → pages ≡ count (region-pages g Translation) (λ i. is-valid (first-page g Translation + i) spare)
-      → eqb (sum .named) (sum .good) && eqb (sum .good) pages ≡ owners-differ g Translation spare && directory-names g spare directory
+      → eqb (sum .nones + sum .good) (length directory) && eqb (sum .good) pages ≡ owners-differ g Translation spare && directory-names g spare directory
   directory-counts pages e =
-      rw (named-is, good-is, e)
+      rw (nones-is, good-is, e, long)
       (decided-same
       (by-counts g Translation spare (region-small g Translation ok) (λ t. getD directory t none) fit)
       (by-and (owners-differ-decided g Translation spare) (directory-names-decided g spare directory)))

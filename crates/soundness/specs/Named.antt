@@ -17,7 +17,7 @@ use Rattle.scope.specs.Regions.{Region, Data, Translation, owners, first-page, 
 use Rattle.scope.specs.Sound.{Pages-fit, Owners-differ, Names}
 use Rattle.scope.specs.Laws.Decides.{Decides, by-equal, by-below, by-most, by-same, by-and}
 use Rattle.flash.specs.Cases.{on, same?, clash, and-true, true-and, not-of-false, is-false}
-use Rattle.flash.specs.Counting.{count-same}
+use Rattle.flash.specs.Counting.{count-same, count-not}
 use Rattle.soundness.specs.Counted.{count-into, count-less, count-tight}
 
 -- What rule 1 says of the owners of valid pages.
@@ -31,9 +31,9 @@ owners-fit g r chip spare fit p h v = fit p h .owned (λ e. omega arith)
 abbrev pub owns : ℕ → ℕ → List ℕ → ℕ → ℕ → Bool
 owns first n spare k p = leb first p && ltb p (first + n) && is-valid p spare && eqb (owner-of p spare) k
 
--- A word names a page: it is no *none*.
-abbrev pub names-page : ℕ → Bool
-names-page x = not (eqb x none)
+-- A word names no page.
+abbrev pub is-none : ℕ → Bool
+is-none x = eqb x none
 
 -- A region's pages have numbers far below *none*, and so have its owners.
 pub region-small : (g : Geometry) (r : Region) → Accepted g → first-page g r + region-pages g r ≤ most-pages
@@ -51,10 +51,12 @@ owners-small g Data acc =
 owners-small g Translation acc =
     omega (arith, acc .M-to, region-small g Translation acc, mul-le-mul-right {m = g .T - 1} {n = g .T} (g .P) (omega arith))
 
--- *none* is no page of a region.
+-- A word past the pages of a row names none of them, and *none* is such a word.
+pub past-owned : (first n : ℕ) (spare : List ℕ) (k x : ℕ) → first + n ≤ x → owns first n spare k x ≡ false
+past-owned first n spare k x past = rw (le-leb first x (omega arith), le-ltb x (first + n) past)
+
 pub none-owned : (first n : ℕ) (spare : List ℕ) (k x : ℕ) → first + n ≤ most-pages → x ≡ none → owns first n spare k x ≡ false
-none-owned first n spare k x small is =
-    rw (le-leb first x (omega arith), le-ltb x (first + n) (omega arith))
+none-owned first n spare k x small is = past-owned first n spare k x (omega arith)
 
 module _ (g : Geometry) (r : Region) (spare : List ℕ) where
   pub owns-decided : (k p : ℕ) → Decides (owns (first-page g r) (region-pages g r) spare k p) (Names g r spare k (Place p))
@@ -67,8 +69,11 @@ module _ (g : Geometry) (r : Region) (spare : List ℕ) where
       (by-equal (owner-of p spare) k))
 
   -- The tests that are counted: of an owner's word, and of a page of the region.
+  abbrev none-at : (ℕ → ℕ) → ℕ → Bool
+  none-at place k = is-none (place k)
+
   abbrev named-at : (ℕ → ℕ) → ℕ → Bool
-  named-at place k = names-page (place k)
+  named-at place k = not (none-at place k)
 
   abbrev good-at : (ℕ → ℕ) → ℕ → Bool
   good-at place k = owns (first-page g r) (region-pages g r) spare k (place k)
@@ -191,16 +196,24 @@ module _ (g : Geometry) (r : Region) (spare : List ℕ) where
           (λ e. rw e (no-page k (eqb-true (place k) none e)))
           (λ e. rw e (owns-decided k (place k) .holds (good-of-word k l (not-of-false e))))
 
+    -- The words that are *none* and the good ones are all of them: every word that names a page is good.
+    all-told : count (owners g r) (none-at place) + count (owners g r) (named-at place) ≡ owners g r
+    all-told = count-not (owners g r) (none-at place)
+
     -- Rule 2 and the rule for a whole map are decided by the two comparisons.
     pub by-counts : Owners-fit g r spare
         → Decides
-        (eqb (count (owners g r) (named-at place)) (count (owners g r) (good-at place))
+        (eqb (count (owners g r) (none-at place) + count (owners g r) (good-at place)) (owners g r)
         && eqb (count (owners g r) (good-at place)) (count (region-pages g r) valid-at))
         (Owners-differ g r spare × ((k : ℕ) → k < owners g r → Names g r spare k (decode (place k))))
     by-counts fit =
         by-same
-        (λ x. (differ-of-counts (x .0) (x .1), names-of-counts (x .0) (x .1)))
-        (λ n. counts-of-names fit (n .0) (n .1))
+        (λ x.
+        let all-good : count (owners g r) (named-at place) ≡ count (owners g r) (good-at place) = omega (arith, all-told, x .0) in
+        (differ-of-counts all-good (x .1), names-of-counts all-good (x .1)))
+        (λ n.
+        let counts = counts-of-names fit (n .0) (n .1) in
+        (omega (arith, all-told, counts .0), counts .1))
         (by-and
-        (by-equal (count (owners g r) (named-at place)) (count (owners g r) (good-at place)))
+        (by-equal (count (owners g r) (none-at place) + count (owners g r) (good-at place)) (owners g r))
         (by-equal (count (owners g r) (good-at place)) (count (region-pages g r) valid-at)))

@@ -22,9 +22,9 @@ use Rattle.flash.specs.Counting.{count-same, count-split}
 use Rattle.cache.specs.Ranks.{rank-found, rank-is}
 use Rattle.soundness.specs.Bools.{same-test}
 use Rattle.soundness.specs.Counted.{decided-same, count-into}
-use Rattle.soundness.specs.Named.{Owners-fit, owns, names-page, region-small, by-counts}
+use Rattle.soundness.specs.Named.{Owners-fit, owns, is-none, region-small, by-counts}
 use Rattle.soundness.specs.Tally.{nothing, Tallied}
-use Rattle.soundness.specs.Translated.{stored-named, stored-good, cached-named, cached-good, hidden-named, hidden-good}
+use Rattle.soundness.specs.Translated.{stored-none, stored-good, cached-none, cached-good, hidden-none, hidden-good}
 use Rattle.soundness.specs.declared.tally.Tally.{Tally}
 
 -- The two halves of the rule, the first with rule 2 of the data region.
@@ -126,49 +126,50 @@ module _ (g : Geometry) (s : State) (fits : Entries-fit g (s .cache) (s .small .
       and-none false true = refl
       and-none false false = refl
 
--- The sums that are compared: of the counts over flash, over the cache's places and over what it hides, and of the valid data pages.
-abbrev pub sums-agree : Tally → Tally → Tally → ℕ → Bool
-sums-agree held has hides valid =
-    eqb (held .named + has .named + hides .good) (held .good + has .good + hides .named)
+-- The sums that are compared: of the counts over flash, over the cache's places and over what it hides, of all logical pages, and of the
+-- valid data pages.
+abbrev pub sums-agree : Tally → Tally → Tally → ℕ → ℕ → Bool
+sums-agree held has hides pages valid =
+    eqb (held .nones + has .nones + (held .good + has .good)) (pages + hides .nones + hides .good)
     && eqb (held .good + has .good) (valid + hides .good)
 
--- With x + a ≡ b and y + c ≡ d: x is y, and y is v, exactly where these agree.
-sums-tell : (x y v a b c d : ℕ) → x + a ≡ b → y + c ≡ d → (eqb x y && eqb y v) ≡ (eqb (b + c) (d + a) && eqb d (v + c))
-sums-tell x y v a b c d e f =
-    same-test (eqb x y && eqb y v) (eqb (b + c) (d + a) && eqb d (v + c))
+-- With x + a ≡ b and y + c ≡ d: x and y are all of l, and y is v, exactly where these agree.
+sums-tell : (x y l v a b c d : ℕ) → x + a ≡ b → y + c ≡ d → (eqb (x + y) l && eqb y v) ≡ (eqb (b + d) (l + a + c) && eqb d (v + c))
+sums-tell x y l v a b c d e f =
+    same-test (eqb (x + y) l && eqb y v) (eqb (b + d) (l + a + c) && eqb d (v + c))
     (λ h.
-    let both = and-true (eqb x y) (eqb y v) h in
-    let p = eqb-true x y (both .0) in
+    let both = and-true (eqb (x + y) l) (eqb y v) h in
+    let p = eqb-true (x + y) l (both .0) in
     let q = eqb-true y v (both .1) in
-    true-and (eq-eqb (b + c) (d + a) (omega arith)) (eq-eqb d (v + c) (omega arith)))
+    true-and (eq-eqb (b + d) (l + a + c) (omega arith)) (eq-eqb d (v + c) (omega arith)))
     (λ h.
-    let both = and-true (eqb (b + c) (d + a)) (eqb d (v + c)) h in
-    let p = eqb-true (b + c) (d + a) (both .0) in
+    let both = and-true (eqb (b + d) (l + a + c)) (eqb d (v + c)) h in
+    let p = eqb-true (b + d) (l + a + c) (both .0) in
     let q = eqb-true d (v + c) (both .1) in
-    true-and (eq-eqb x y (omega arith)) (eq-eqb y v (omega arith)))
+    true-and (eq-eqb (x + y) l (omega arith)) (eq-eqb y v (omega arith)))
 
 module _ (g : Geometry) (s : State) (ok : Accepted g) (fit : Owners-fit g Data (s .spare))
-    (entries : Entries-fit g (s .cache) (s .small .used)) (held has hides : Tally) (pages : ℕ)
-    (of-flash : Tallied nothing held (g .L) (stored-named g (s .chip) (s .directory)) (stored-good g (s .chip) (s .spare) (s .directory)))
-    (of-cache : Tallied nothing has (s .small .used) (cached-named (s .cache)) (cached-good (g .D * g .P) (s .cache) (s .spare)))
-    (of-hidden : Tallied nothing hides (s .small .used) (hidden-named g (s .chip) (s .directory) (s .cache))
+    (entries : Entries-fit g (s .cache) (s .small .used)) (held has hides : Tally) (valid : ℕ)
+    (of-flash : Tallied nothing held (g .L) (stored-none g (s .chip) (s .directory)) (stored-good g (s .chip) (s .spare) (s .directory)))
+    (of-cache : Tallied nothing has (s .small .used) (cached-none (s .cache)) (cached-good (g .D * g .P) (s .cache) (s .spare)))
+    (of-hidden : Tallied nothing hides (s .small .used) (hidden-none g (s .chip) (s .directory) (s .cache))
     (hidden-good g (s .chip) (s .spare) (s .directory) (s .cache)))
-    (of-pages : pages ≡ count (g .D * g .P) (λ i. is-valid (0 + i) (s .spare))) where
-  pub places-by-sums : Decides (sums-agree held has hides pages) (Current-places g s)
+    (of-pages : valid ≡ count (g .D * g .P) (λ i. is-valid (0 + i) (s .spare))) where
+  pub places-by-sums : Decides (sums-agree held has hides (g .L) valid) (Current-places g s)
   places-by-sums =
       let at-zero : 0 * g .P ≡ 0 = zero-mul (g .P) in
-      let named-now : ℕ = count (g .L) (λ l. names-page (current g s l)) in
+      let nones-now : ℕ = count (g .L) (λ l. is-none (current g s l)) in
       let good-now : ℕ = count (g .L) (λ l. owns 0 (g .D * g .P) (s .spare) l (current g s l)) in
-      let named-sum : named-now + hides .named ≡ held .named + has .named =
-      omega (arith, exchanged g s entries (λ l x. names-page x), of-flash .named-more, of-cache .named-more, of-hidden .named-more) in
+      let nones-sum : nones-now + hides .nones ≡ held .nones + has .nones =
+      omega (arith, exchanged g s entries (λ l x. is-none x), of-flash .nones-more, of-cache .nones-more, of-hidden .nones-more) in
       let good-sum : good-now + hides .good ≡ held .good + has .good =
       omega (arith, exchanged g s entries (λ l x. owns 0 (g .D * g .P) (s .spare) l x), of-flash .good-more, of-cache .good-more, of-hidden .good-more) in
       subst (λ (b : Bool). Decides b (Current-places g s))
-      (sums-tell named-now good-now pages (hides .named) (held .named + has .named) (hides .good) (held .good + has .good) named-sum good-sum)
-      (subst (λ (n : ℕ). Decides (eqb named-now good-now && eqb good-now n) (Current-places g s)) (sym of-pages)
+      (sums-tell nones-now good-now (g .L) valid (hides .nones) (held .nones + has .nones) (hides .good) (held .good + has .good) nones-sum good-sum)
+      (subst (λ (n : ℕ). Decides (eqb (nones-now + good-now) (g .L) && eqb good-now n) (Current-places g s)) (sym of-pages)
       (subst
       (λ (first : ℕ). Decides
-      (eqb named-now (count (g .L) (λ l. owns first (g .D * g .P) (s .spare) l (current g s l)))
+      (eqb (nones-now + count (g .L) (λ l. owns first (g .D * g .P) (s .spare) l (current g s l))) (g .L)
       && eqb (count (g .L) (λ l. owns first (g .D * g .P) (s .spare) l (current g s l))) (count (g .D * g .P) (λ i. is-valid (first + i) (s .spare))))
       (Current-places g s))
       at-zero

@@ -3,104 +3,99 @@ use Prim.Native.Nat.{ℕ, _+_, _≤_}
 use native.Mathlib.Omega.{arith}
 use native.Mathlib.Numerals.{add-one}
 use mathlib.Core.Path.{_≡_, subst}
+use mathlib.Core.Logic.{_≢_}
 use mathlib.Core.Bool.{Bool, cond}
 use mathlib.Core.List.{List}
 use lib.ListN.{length, getD}
 use borrow.Author.Tests.{eq-eqb, ne-eqb}
 use Rattle.scope.specs.Counting.{count}
 use Rattle.scope.specs.Geometry.{most-pages}
-use Rattle.scope.specs.Lent.{none, Place, Nowhere, decode}
-use Rattle.lent.specs.Decoded.{of-place, of-nowhere}
+use Rattle.scope.specs.Lent.{none}
 use Rattle.flash.specs.Counting.{count-le}
-use Rattle.soundness.specs.Named.{owns, names-page, none-owned}
+use Rattle.soundness.specs.Named.{owns, is-none, none-owned}
 use Rattle.soundness.specs.declared.tally.Tally.{Tally}
 
 -- Both counts can grow by n.
 pub record Room (t : Tally) (n : ℕ) : Type 0 where
-  pub named-fits : t .named + n ≤ 4294967295
-  pub good-fits : t .good + n ≤ 4294967295
+  pub nones-fit : t .nones + n ≤ 4294967295
+  pub good-fit : t .good + n ≤ 4294967295
 
 -- Neither count is above n.
 pub record Counted (t : Tally) (n : ℕ) : Type 0 where
-  pub named-most : t .named ≤ n
+  pub nones-most : t .nones ≤ n
   pub good-most : t .good ≤ n
 
 -- The counts of t with one word more; with n words more.
-pub record Tallied-word (t r : Tally) (named good : Bool) : Type 0 where
-  pub named-more : r .named ≡ t .named + cond named 1 0
+pub record Tallied-word (t r : Tally) (nowhere good : Bool) : Type 0 where
+  pub nones-more : r .nones ≡ t .nones + cond nowhere 1 0
   pub good-more : r .good ≡ t .good + cond good 1 0
 
-pub record Tallied (t r : Tally) (n : ℕ) (named good : ℕ → Bool) : Type 0 where
-  pub named-more : r .named ≡ t .named + count n named
+pub record Tallied (t r : Tally) (n : ℕ) (nowhere good : ℕ → Bool) : Type 0 where
+  pub nones-more : r .nones ≡ t .nones + count n nowhere
   pub good-more : r .good ≡ t .good + count n good
 
 -- Nothing counted yet.
 abbrev pub nothing : Tally
-nothing = record { named = 0; good = 0 }
+nothing = record { nones = 0; good = 0 }
 
 pub room-enough : Room nothing 4294967295
-room-enough = record { named-fits = omega arith; good-fits = omega arith }
+room-enough = record { nones-fit = omega arith; good-fit = omega arith }
 
--- The tests of word i of a list: it names a page; it names the page of the owner `from + i`.
-abbrev pub word-named : List ℕ → ℕ → Bool
-word-named words i = names-page (getD words i none)
+-- The tests of word i of a list: it is *none*; it names the page of the owner `from + i`.
+abbrev pub word-none : List ℕ → ℕ → Bool
+word-none words i = is-none (getD words i none)
 
 abbrev pub word-good : List ℕ → ℕ → List ℕ → ℕ → ℕ → ℕ → Bool
 word-good words from spare first n i = owns first n spare (from + i) (getD words i none)
 
 -- The counts of t with the words of a list more, for the owners from `from` on, of the n pages from page 0 on.
 abbrev pub Tallied-words : List ℕ → ℕ → List ℕ → ℕ → Tally → Tally → Type 0
-Tallied-words words from spare n t r = Tallied t r (length words) (word-named words) (word-good words from spare 0 n)
+Tallied-words words from spare n t r = Tallied t r (length words) (word-none words) (word-good words from spare 0 n)
 
--- *none* counts as neither; a word that is a page's number counts as named, and as good where the page is its owner's.
-pub word-nowhere : (t : Tally) (x k : ℕ) (spare : List ℕ) (first n : ℕ) → first + n ≤ most-pages → Nowhere ≡ decode x
-    → Tallied-word t t (names-page x) (owns first n spare k x)
-word-nowhere t x k spare first n small e =
-    let is : x ≡ none = of-nowhere x e in
+-- *none* counts as such and is no page; any other word counts as good where it names its owner's page.
+pub word-nowhere : (t r : Tally) (x k : ℕ) (spare : List ℕ) (first n : ℕ) → first + n ≤ most-pages → x ≡ none
+    → r .nones ≡ t .nones + 1 → r .good ≡ t .good → Tallied-word t r (is-none x) (owns first n spare k x)
+word-nowhere t r x k spare first n small is nones good =
     record {
-      named-more = rw (eq-eqb x none is) (omega arith);
+      nones-more = rw (eq-eqb x none is) nones;
       good-more = rw (none-owned first n spare k x small is) (omega arith);
     }
 
-pub word-place : (t r : Tally) (x k : ℕ) (spare : List ℕ) (first n p : ℕ) → Place p ≡ decode x
-    → r .named ≡ t .named + 1 → r .good ≡ t .good + cond (owns first n spare k p) 1 0
-    → Tallied-word t r (names-page x) (owns first n spare k x)
-word-place t r x k spare first n p e named good =
-    let is = of-place x p e in
-    record {
-      named-more = rw (ne-eqb x none (is .is-some)) named;
-      good-more = rw (is .is-page) good;
-    }
+pub word-place : (t r : Tally) (x k : ℕ) (spare : List ℕ) (first n : ℕ) → x ≢ none
+    → r .nones ≡ t .nones → r .good ≡ t .good + cond (owns first n spare k x) 1 0
+    → Tallied-word t r (is-none x) (owns first n spare k x)
+word-place t r x k spare first n some nones good =
+    record { nones-more = rw (ne-eqb x none some) (omega arith); good-more = good }
 
 -- From no words to n, a word at a time.
-pub tallied-start : (t : Tally) (named good : ℕ → Bool) → Tallied t t 0 named good
-tallied-start t named good = record { named-more = omega arith; good-more = omega arith }
+pub tallied-start : (t : Tally) (nowhere good : ℕ → Bool) → Tallied t t 0 nowhere good
+tallied-start t nowhere good = record { nones-more = omega arith; good-more = omega arith }
 
-pub tallied-more : (t s r : Tally) (i : ℕ) (named good : ℕ → Bool) → Tallied t s i named good → Tallied-word s r (named i) (good i)
-    → Tallied t r (i + 1) named good
-tallied-more t s r i named good h w =
+pub tallied-more : (t s r : Tally) (i : ℕ) (nowhere good : ℕ → Bool) → Tallied t s i nowhere good → Tallied-word s r (nowhere i) (good i)
+    → Tallied t r (i + 1) nowhere good
+tallied-more t s r i nowhere good h w =
     record {
-      named-more = rw (add-one i) (omega (arith, h .named-more, w .named-more));
+      nones-more = rw (add-one i) (omega (arith, h .nones-more, w .nones-more));
       good-more = rw (add-one i) (omega (arith, h .good-more, w .good-more));
     }
 
 -- What was counted leaves room for the rest.
-pub tallied-room : (t s : Tally) (i m n : ℕ) (named good : ℕ → Bool) → Tallied t s i named good → Room t n → i + m ≤ n → Room s m
-tallied-room t s i m n named good h room fits =
+pub tallied-room : (t s : Tally) (i m n : ℕ) (nowhere good : ℕ → Bool) → Tallied t s i nowhere good → Room t n → i + m ≤ n → Room s m
+tallied-room t s i m n nowhere good h room fits =
     record {
-      named-fits = omega (arith, h .named-more, count-le i named, room .named-fits);
-      good-fits = omega (arith, h .good-more, count-le i good, room .good-fits);
+      nones-fit = omega (arith, h .nones-more, count-le i nowhere, room .nones-fit);
+      good-fit = omega (arith, h .good-more, count-le i good, room .good-fit);
     }
 
 -- The walk's end.
-pub tallied-done : {t s : Tally} {named good : ℕ → Bool} (i n : ℕ) → Tallied t s i named good → i ≤ n → n ≤ i → Tallied t s n named good
-tallied-done {t} {s} {named} {good} i n h low high =
+pub tallied-done : {t s : Tally} {nowhere good : ℕ → Bool} (i n : ℕ) → Tallied t s i nowhere good → i ≤ n → n ≤ i → Tallied t s n nowhere good
+tallied-done {t} {s} {nowhere} {good} i n h low high =
     let done : i ≡ n = omega arith in
-    subst (λ (k : ℕ). Tallied t s k named good) done h
+    subst (λ (k : ℕ). Tallied t s k nowhere good) done h
 
-pub tallied-most : (s : Tally) (i n : ℕ) (named good : ℕ → Bool) → Tallied nothing s i named good → i ≤ n → Counted s n
-tallied-most s i n named good h most =
+pub tallied-most : (s : Tally) (i n : ℕ) (nowhere good : ℕ → Bool) → Tallied nothing s i nowhere good → i ≤ n → Counted s n
+tallied-most s i n nowhere good h most =
     record {
-      named-most = omega (arith, h .named-more, count-le i named);
+      nones-most = omega (arith, h .nones-more, count-le i nowhere);
       good-most = omega (arith, h .good-more, count-le i good);
     }

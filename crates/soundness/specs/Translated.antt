@@ -9,17 +9,18 @@ use mathlib.Core.Bool.{Bool}
 use mathlib.Core.List.{List}
 use lib.ListN.{length, getD, take, drop, length-take, length-drop}
 use lib.Seq.{getD-take, getD-drop}
+use borrow.Author.Tests.{eq-eqb}
 use Rattle.scope.specs.Counting.{all, count}
 use Rattle.scope.specs.Geometry.{Geometry, Accepted, M, pages, most-pages}
 use Rattle.scope.specs.Lent.{none, Place, Nowhere, decode, word-of, named, chip-size, directory-size, logical-at, physical-at}
 use Rattle.scope.specs.Regions.{Translation}
 use Rattle.scope.specs.Sound.{stored, Names, Directory-names}
-use Rattle.flash.specs.Counting.{count-same, count-none, count-add}
+use Rattle.flash.specs.Counting.{count-same, count-none, count-each, count-add}
 use Rattle.flash.specs.Places.{page-on-chip}
 use Rattle.words.specs.Runs.{getD-any}
-use Rattle.soundness.specs.Named.{owns, names-page, none-owned}
+use Rattle.soundness.specs.Named.{owns, is-none, none-owned}
 use Rattle.soundness.specs.Stored.{stored-nowhere, stored-place}
-use Rattle.soundness.specs.Tally.{Tallied, Tallied-words, word-named, word-good, tallied-start}
+use Rattle.soundness.specs.Tally.{Tallied, Tallied-words, word-none, word-good, tallied-start}
 use Rattle.soundness.specs.declared.tally.Tally.{Tally}
 
 -- How many logical pages translation page t holds.
@@ -71,21 +72,21 @@ module _ (g : Geometry) (W-from : 1 ≤ g .W) where
         sym (stored-nowhere g chip directory (t * g .W + i) (e ∙ ap (λ (k : ℕ). named k directory) (sym (page-of t i h))))
 
 -- What is counted of the words that flash stores: of logical page l.
-abbrev pub stored-named : Geometry → List ℕ → List ℕ → ℕ → Bool
-stored-named g chip directory l = names-page (stored g chip directory l)
+abbrev pub stored-none : Geometry → List ℕ → List ℕ → ℕ → Bool
+stored-none g chip directory l = is-none (stored g chip directory l)
 
 abbrev pub stored-good : Geometry → List ℕ → List ℕ → List ℕ → ℕ → Bool
 stored-good g chip spare directory l = owns 0 (g .D * g .P) spare l (stored g chip directory l)
 
 -- Of the entry at rank i: the place that the cache has, and the word of flash that it hides.
-abbrev pub cached-named : List ℕ → ℕ → Bool
-cached-named cache i = names-page (physical-at i cache)
+abbrev pub cached-none : List ℕ → ℕ → Bool
+cached-none cache i = is-none (physical-at i cache)
 
 abbrev pub cached-good : ℕ → List ℕ → List ℕ → ℕ → Bool
 cached-good n cache spare i = owns 0 n spare (logical-at i cache) (physical-at i cache)
 
-abbrev pub hidden-named : Geometry → List ℕ → List ℕ → List ℕ → ℕ → Bool
-hidden-named g chip directory cache i = stored-named g chip directory (logical-at i cache)
+abbrev pub hidden-none : Geometry → List ℕ → List ℕ → List ℕ → ℕ → Bool
+hidden-none g chip directory cache i = stored-none g chip directory (logical-at i cache)
 
 abbrev pub hidden-good : Geometry → List ℕ → List ℕ → List ℕ → List ℕ → ℕ → Bool
 hidden-good g chip spare directory cache i = stored-good g chip spare directory (logical-at i cache)
@@ -94,16 +95,22 @@ hidden-good g chip spare directory cache i = stored-good g chip spare directory 
 abbrev pub Tallied-page : Geometry → List ℕ → List ℕ → List ℕ → ℕ → Tally → Tally → Type 0
 Tallied-page g chip spare directory t s r =
     Tallied s r (held g t)
-    (λ i. stored-named g chip directory (t * g .W + i))
+    (λ i. stored-none g chip directory (t * g .W + i))
     (λ i. stored-good g chip spare directory (t * g .W + i))
 
 module _ (g : Geometry) (ok : Accepted g) (small : 0 + g .D * g .P ≤ most-pages) (chip spare directory : List ℕ) (t : ℕ) where
-  pub page-nowhere : (s : Tally) → Nowhere ≡ named t directory → Tallied-page g chip spare directory t s s
-  page-nowhere s e =
+  -- A page that doesn't exist counts as so many times *none* as it holds logical pages.
+  pub page-nowhere : (s r : Tally) → Nowhere ≡ named t directory → r .nones ≡ s .nones + held g t → r .good ≡ s .good
+      → Tallied-page g chip spare directory t s r
+  page-nowhere s r e nones good =
       let is : (i : ℕ) → i < held g t → stored g chip directory (t * g .W + i) ≡ none =
       λ i h. stored-in-none g (ok .W-from) chip directory t i (omega arith) e in
       record {
-        named-more = omega (arith, count-none (held g t) (λ i. stored-named g chip directory (t * g .W + i)) (λ i h. rw (is i h)));
+        nones-more = omega (
+          arith,
+          count-each (held g t) (λ i. stored-none g chip directory (t * g .W + i)) (λ i h.
+              eq-eqb (stored g chip directory (t * g .W + i)) none (is i h)),
+        );
         good-more = omega (
           arith,
           count-none (held g t) (λ i. stored-good g chip spare directory (t * g .W + i)) (λ i h.
@@ -122,9 +129,9 @@ module _ (g : Geometry) (ok : Accepted g) (small : 0 + g .D * g .P ≤ most-page
       getD-take (held g t) (drop (q * g .W) chip) i none k ∙ getD-drop (q * g .W) chip i none
       ∙ sym (stored-in-page g (ok .W-from) chip directory t q i (omega arith) e) in
       record {
-        named-more = h .named-more ∙ ap (λ (k : ℕ). s .named + k)
-            (ap (λ (k : ℕ). count k (word-named words)) long
-            ∙ count-same (held g t) _ _ (λ i k. ap names-page (at i k)));
+        nones-more = h .nones-more ∙ ap (λ (k : ℕ). s .nones + k)
+            (ap (λ (k : ℕ). count k (word-none words)) long
+            ∙ count-same (held g t) _ _ (λ i k. ap is-none (at i k)));
         good-more = h .good-more ∙ ap (λ (k : ℕ). s .good + k)
             (ap (λ (k : ℕ). count k (word-good words (t * g .W) spare 0 (g .D * g .P))) long
             ∙ count-same (held g t) _ _ (λ i k. ap (owns 0 (g .D * g .P) spare (t * g .W + i)) (at i k)));
@@ -133,12 +140,12 @@ module _ (g : Geometry) (ok : Accepted g) (small : 0 + g .D * g .P ≤ most-page
 -- The first t translation pages' words counted, and one page's more.
 abbrev pub Tallied-pages : Geometry → List ℕ → List ℕ → List ℕ → ℕ → Tally → Tally → Type 0
 Tallied-pages g chip spare directory t s r =
-    Tallied s r (min (t * g .W) (g .L)) (stored-named g chip directory) (stored-good g chip spare directory)
+    Tallied s r (min (t * g .W) (g .L)) (stored-none g chip directory) (stored-good g chip spare directory)
 
 pub pages-start : (g : Geometry) (chip spare directory : List ℕ) (s : Tally) → Tallied-pages g chip spare directory 0 s s
 pages-start g chip spare directory s =
     let none-yet : 0 ≡ min (0 * g .W) (g .L) = omega arith in
-    subst (λ (n : ℕ). Tallied s s n (stored-named g chip directory) (stored-good g chip spare directory)) none-yet (tallied-start s _ _)
+    subst (λ (n : ℕ). Tallied s s n (stored-none g chip directory) (stored-good g chip spare directory)) none-yet (tallied-start s _ _)
 
 module _ (g : Geometry) (ok : Accepted g) (chip spare directory : List ℕ) where
   pub pages-more : (t : ℕ) (s₀ s r : Tally) → t < M g → Tallied-pages g chip spare directory t s₀ s
@@ -148,19 +155,19 @@ module _ (g : Geometry) (ok : Accepted g) (chip spare directory : List ℕ) wher
       let at : min (t * g .W) (g .L) ≡ t * g .W = omega arith in
       let next : min ((t + 1) * g .W) (g .L) ≡ t * g .W + held g t = omega (arith, ap (λ (k : ℕ). k * g .W) (add-one t), suc-mul t (g .W)) in
       record {
-        named-more = rw (next, count-add (t * g .W) (held g t) (stored-named g chip directory))
-            (omega (arith, page .named-more, subst (λ (k : ℕ). s .named ≡ s₀ .named + count k (stored-named g chip directory)) at (before .named-more)));
+        nones-more = rw (next, count-add (t * g .W) (held g t) (stored-none g chip directory))
+            (omega (arith, page .nones-more, subst (λ (k : ℕ). s .nones ≡ s₀ .nones + count k (stored-none g chip directory)) at (before .nones-more)));
         good-more = rw (next, count-add (t * g .W) (held g t) (stored-good g chip spare directory))
             (omega (arith, page .good-more, subst (λ (k : ℕ). s .good ≡ s₀ .good + count k (stored-good g chip spare directory)) at (before .good-more)));
       }
 
   -- All of them: the words of every logical page.
   pub pages-done : (s r : Tally) (t : ℕ) → M g ≤ t → t ≤ M g → Tallied-pages g chip spare directory t s r
-      → Tallied s r (g .L) (stored-named g chip directory) (stored-good g chip spare directory)
+      → Tallied s r (g .L) (stored-none g chip directory) (stored-good g chip spare directory)
   pages-done s r t h k done =
       let is : t ≡ M g = omega arith in
       let all : min (t * g .W) (g .L) ≡ g .L = omega (arith, pages-cover g (ok .W-from), ap (λ (x : ℕ). x * g .W) is) in
-      subst (λ (n : ℕ). Tallied s r n (stored-named g chip directory) (stored-good g chip spare directory)) all done
+      subst (λ (n : ℕ). Tallied s r n (stored-none g chip directory) (stored-good g chip spare directory)) all done
 
 -- The pages that the directory names are on the chip, with all their words: by rule 4.
 abbrev pub Names-on-chip : Geometry → List ℕ → Type 0

@@ -15,7 +15,7 @@ use crate::tally::tally_words;
 use lent::Geometry;
 use words::states::count_state;
 
-// By three counts: the words that name a page all name a valid page of their own, and there are as many as valid pages. What rule 1
+// By three counts: the words are none or name a valid page of their own, and of these there are as many as valid pages. What rule 1
 // says of the owners makes that both rules.
 pub fn directory_names(g: Geometry, spare: &[u32], directory: &[u32]) -> bool
     requires { ⌜ Accepted (geometry g) ⌝ }
@@ -28,8 +28,8 @@ pub fn directory_names(g: Geometry, spare: &[u32], directory: &[u32]) -> bool
     let p = g.p as usize;
     let first = g.d as usize * p;
     let n = g.t as usize * p;
-    let sum = tally_words(Tally { named: 0, good: 0 }, directory, 0, spare, first, n);
-    if sum.named != sum.good {
+    let sum = tally_words(Tally { nones: 0, good: 0 }, directory, 0, spare, first, n);
+    if sum.nones + sum.good != directory.len() {
         return false;
     }
     sum.good == count_state(spare, first, n, VALID)

@@ -1,7 +1,7 @@
 // Rule 6: the current place of each logical page is the valid data page that it owns, or none where there isn't one; words past L are
-// none. Rule 2 of the data region comes with it. By counts, in one pass over the translation pages and two over the cache: nothing is kept for each logical page. What flash
-// stores is counted for every logical page; then the words that cached entries hide are taken out of the counts, and the entries'
-// places put in. specs/Places.antt says why the sums decide the rule.
+// none. Rule 2 of the data region comes with it. By counts, in one pass over the translation pages and two over the cache: nothing is kept
+// for each logical page. What flash stores is counted for every logical page; then the words that cached entries hide are taken out of the
+// counts, and the entries' places put in. specs/Places.antt says why the sums decide both rules.
 ghost use mathlib.Core.Path.{_≡_};
 ghost use mathlib.Core.Bool.{_&&_};
 ghost use Prim.Native.Nat.{_+_, _*_, _≤_, _<_, min};
@@ -20,7 +20,7 @@ ghost use Rattle.soundness.specs.Places.{Current-places, None-past, sums
 ghost use Rattle.soundness.specs.Named.{Owners-fit};
 ghost use Rattle.soundness.specs.Stored.{parts};
 ghost use Rattle.soundness.specs.Tally.{nothing, Counted, Room, Tallied, Tallied-word, Tallied-words};
-ghost use Rattle.soundness.specs.Translated.{Names-on-chip, held-words, Tallied-page, stored-named, stored-good, cached-named, cached-good, hidden-named, hidden-good};
+ghost use Rattle.soundness.specs.Translated.{Names-on-chip, held-words, Tallied-page, stored-none, stored-good, cached-none, cached-good, hidden-none, hidden-good};
 use crate::erased::only_erased;
 use crate::stored::stored;
 use crate::tally::Tally;
@@ -72,13 +72,17 @@ fn tally_page(
     requires { ⌜ Names-on-chip (geometry g) (now directory) × (t < M (geometry g)) × Room sum (g .w) ⌝ }
     ensures { λ r. ⌜ Tallied-page (geometry g) (now (chip .entry)) (now (spare .entry)) (now (directory .entry)) t sum r ⌝ }
 {
+    let w = g.w as usize;
+    let from = t * w;
     let e = lent::decode(directory[t]);
     let Entry::Place(q) = e else {
-        return sum;
+        let lacks = least(w, g.l as usize - from);
+        return Tally {
+            nones: sum.nones + lacks,
+            good: sum.good,
+        };
     };
-    let w = g.w as usize;
     let at = q as usize * w;
-    let from = t * w;
     tally_held(sum, g, chip, at, from, spare)
 }
 
@@ -90,10 +94,10 @@ fn tally_stored(g: Geometry, chip: &[u32], spare: &[u32], directory: &[u32]) -> 
     requires { ⌜ length (now directory) ≡ directory-size (geometry g) ⌝ }
     requires { ⌜ Names-on-chip (geometry g) (now directory) ⌝ }
     ensures { λ r. ⌜ Tallied nothing r (g .l)
-        (stored-named (geometry g) (now (chip .entry)) (now (directory .entry)))
+        (stored-none (geometry g) (now (chip .entry)) (now (directory .entry)))
         (stored-good (geometry g) (now (chip .entry)) (now (spare .entry)) (now (directory .entry))) ⌝ }
 {
-    let mut sum = Tally { named: 0, good: 0 };
+    let mut sum = Tally { nones: 0, good: 0 };
     let mut t = 0;
     while t < directory.len() {
         sum = tally_page(sum, g, chip, spare, directory, t);
@@ -106,9 +110,9 @@ fn tally_stored(g: Geometry, chip: &[u32], spare: &[u32], directory: &[u32]) -> 
 fn tally_cached(cache: &[u32], used: usize, spare: &[u32], n: usize) -> Tally
     requires { ⌜ (used * 3 ≤ length (now cache)) × (used ≤ 4096) ⌝ }
     requires { ⌜ ((0 + n) * 2 ≤ length (now spare)) × (0 + n ≤ most-pages) ⌝ }
-    ensures { λ r. ⌜ Tallied nothing r used (cached-named (now (cache .entry))) (cached-good n (now (cache .entry)) (now (spare .entry))) ⌝ }
+    ensures { λ r. ⌜ Tallied nothing r used (cached-none (now (cache .entry))) (cached-good n (now (cache .entry)) (now (spare .entry))) ⌝ }
 {
-    let mut sum = Tally { named: 0, good: 0 };
+    let mut sum = Tally { nones: 0, good: 0 };
     let mut i = 0;
     while i < used {
         sum = tallied(sum, cache[i * 3 + 1], cache[i * 3], spare, 0, n);
@@ -123,7 +127,7 @@ fn hidden(sum: Tally, g: Geometry, chip: &[u32], spare: &[u32], directory: &[u32
     requires { ⌜ length (now spare) ≡ spare-size (geometry g) ⌝ }
     requires { ⌜ Room sum 1 ⌝ }
     ensures { λ r. ⌜ Tallied-word sum r
-        (stored-named (geometry g) (now (chip .entry)) (now (directory .entry)) l)
+        (stored-none (geometry g) (now (chip .entry)) (now (directory .entry)) l)
         (stored-good (geometry g) (now (chip .entry)) (now (spare .entry)) (now (directory .entry)) l) ⌝ }
 {
     let x = stored(g, chip, directory, l);
@@ -143,10 +147,10 @@ fn tally_hidden(
     requires { ⌜ length (now spare) ≡ spare-size (geometry g) ⌝ }
     requires { ⌜ (used * 3 ≤ length (now cache)) × (used ≤ 4096) ⌝ }
     ensures { λ r. ⌜ Tallied nothing r used
-        (hidden-named (geometry g) (now (chip .entry)) (now (directory .entry)) (now (cache .entry)))
+        (hidden-none (geometry g) (now (chip .entry)) (now (directory .entry)) (now (cache .entry)))
         (hidden-good (geometry g) (now (chip .entry)) (now (spare .entry)) (now (directory .entry)) (now (cache .entry))) ⌝ }
 {
-    let mut sum = Tally { named: 0, good: 0 };
+    let mut sum = Tally { nones: 0, good: 0 };
     let mut i = 0;
     while i < used {
         sum = hidden(sum, g, chip, spare, directory, cache[i * 3]);
@@ -184,16 +188,17 @@ fn none_past(g: Geometry, chip: &[u32], directory: &[u32]) -> bool
     none_behind(chip, page, n, w)
 }
 
-// Whether the counts say that each word which names a page names the one of its owner, and that these are all the valid ones. What the
-// cache hides stands on the other side, so that nothing is subtracted.
-fn sums_agree(held: Tally, has: Tally, hides: Tally, valid: usize) -> bool
-    requires { ⌜ (Counted held 65536 × Counted has 65536 × Counted hides 65536) × (valid ≤ 65536) ⌝ }
-    ensures { λ r. ⌜ r ≡ sums-agree held has hides valid ⌝ }
+// Whether the counts say that each of the `pages` current places is none or the valid page of its owner, and that these are all the valid
+// ones. What the cache hides stands on the other side, so that nothing is subtracted.
+fn sums_agree(held: Tally, has: Tally, hides: Tally, pages: usize, valid: usize) -> bool
+    requires { ⌜ (Counted held 65536 × Counted has 65536 × Counted hides 65536) × (pages ≤ 65536) × (valid ≤ 65536) ⌝ }
+    ensures { λ r. ⌜ r ≡ sums-agree held has hides pages valid ⌝ }
 {
-    if held.named + has.named + hides.good != held.good + has.good + hides.named {
+    let good = held.good + has.good;
+    if held.nones + has.nones + good != pages + hides.nones + hides.good {
         return false;
     }
-    held.good + has.good == valid + hides.good
+    good == valid + hides.good
 }
 
 // The first half of the rule, each current place, with rule 2.
@@ -218,7 +223,7 @@ fn current_places(
     let has = tally_cached(cache, used as usize, spare, n);
     let hides = tally_hidden(g, chip, spare, directory, cache, used as usize);
     let valid = count_state(spare, 0, n, VALID);
-    sums_agree(held, has, hides, valid)
+    sums_agree(held, has, hides, g.l as usize, valid)
 }
 
 // Rule 6 with rule 2 of the data region, where rules 1, 4 and 5 hold.

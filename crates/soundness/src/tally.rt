@@ -1,58 +1,63 @@
-// A map from owners to pages, held to the pages of a region by counting its words: those that name a page, and those that name the
-// valid page of their owner. With the number of valid pages the two decide rules 4 and 6 (specs/Named.antt).
+// A map from owners to pages, held to the pages of a region by counting its words: those that are none, and those that name the valid
+// page of their owner. With the number of valid pages the two decide rules 4 and 6 (specs/Named.antt).
 ghost use mathlib.Core.Path.{_≡_};
-ghost use Prim.Native.Nat.{_+_, _*_, _≤_};
+ghost use mathlib.Core.Bool.{cond};
+ghost use Prim.Native.Nat.{_+_, _*_, _≤_, _<_};
 ghost use lib.ListN.{length};
 ghost use Rattle.scope.specs.Geometry.{most-pages};
-ghost use Rattle.soundness.specs.Named.{owns, names-page};
-ghost use Rattle.soundness.specs.Tally.{Room, Tallied-word, Tallied, word-named, word-good};
-use lent::Entry;
+ghost use Rattle.soundness.specs.Named.{owns, is-none};
+ghost use Rattle.soundness.specs.Tally.{Room, Tallied-word, Tallied, word-none, word-good};
 
 // The state of a valid page.
 pub const VALID: u32 = 65535;
 
+const NONE: u32 = 4294967295;
+
 pub struct Tally {
-    pub named: usize,
+    pub nones: usize,
     pub good: usize,
 }
 
-// Whether p is one of the n pages from `first` on, valid and owned by k.
-fn owns(spare: &[u32], first: usize, n: usize, k: u32, p: u32) -> bool
-    requires { ⌜ (first + n) * 2 ≤ length (now spare) ⌝ }
-    ensures { λ r. ⌜ r ≡ owns first n (now (spare .entry)) k p ⌝ }
+// 1 where page `at` is one of the n pages from `first` on, valid and owned by k, else 0. Both words are read before they are looked at,
+// so that no branch hangs on them: which words of a full chip are stale, nobody can guess.
+fn owned(spare: &[u32], first: usize, n: usize, k: u32, at: usize) -> usize
+    requires { ⌜ ((first + n) * 2 ≤ length (now spare)) × (at < first + n) ⌝ }
+    ensures { λ r. ⌜ r ≡ cond (owns first n (now (spare .entry)) k at) 1 0 ⌝ }
 {
-    let at = p as usize;
+    let state = spare[at * 2];
+    let owner = spare[at * 2 + 1];
     if at < first {
-        return false;
+        return 0;
     }
-    if first + n <= at {
-        return false;
+    if state != VALID {
+        return 0;
     }
-    if spare[at * 2] != VALID {
-        return false;
+    if owner != k {
+        return 0;
     }
-    spare[at * 2 + 1] == k
+    1
 }
 
-// The counts with one word more, x, whose owner is k.
+// The counts with one word more, x, whose owner is k. A page comes first: where there are many words they name pages.
 pub fn tallied(t: Tally, x: u32, k: u32, spare: &[u32], first: usize, n: usize) -> Tally
     requires { ⌜ Room t 1 ⌝ }
     requires { ⌜ (first + n) * 2 ≤ length (now spare) ⌝ }
     requires { ⌜ first + n ≤ most-pages ⌝ }
-    ensures { λ r. ⌜ Tallied-word t r (names-page x) (owns first n (now (spare .entry)) k x) ⌝ }
+    ensures { λ r. ⌜ Tallied-word t r (is-none x) (owns first n (now (spare .entry)) k x) ⌝ }
 {
-    let e = lent::decode(x);
-    let Entry::Place(p) = e else {
-        return t;
-    };
-    if owns(spare, first, n, k, p) {
+    let at = x as usize;
+    if at < first + n {
+        let good = owned(spare, first, n, k, at);
         return Tally {
-            named: t.named + 1,
-            good: t.good + 1,
+            nones: t.nones,
+            good: t.good + good,
         };
     }
+    if x != NONE {
+        return t;
+    }
     Tally {
-        named: t.named + 1,
+        nones: t.nones + 1,
         good: t.good,
     }
 }
@@ -71,7 +76,7 @@ pub fn tally_words(
     requires { ⌜ (first + n) * 2 ≤ length (now spare) ⌝ }
     requires { ⌜ first + n ≤ most-pages ⌝ }
     ensures { λ r. ⌜ Tallied t r (length (now (words .entry)))
-        (word-named (now (words .entry)))
+        (word-none (now (words .entry)))
         (word-good (now (words .entry)) from (now (spare .entry)) first n) ⌝ }
 {
     let mut sum = t;

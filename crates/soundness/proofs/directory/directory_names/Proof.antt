@@ -9,6 +9,7 @@ use Rattle.lent.specs.Model.{geometry}
 use Rattle.scope.specs.Regions.{Translation}
 use Rattle.soundness.specs.Named.{region-small, owners-small}
 use Rattle.soundness.specs.Directory.{directory-counts}
+use Rattle.soundness.specs.Tally.{tallied-most}
 use Rattle.soundness.proofs.directory.directory_names.Statement.{statement}
 use Rattle.soundness.proofs.directory.directory_names.Tie as tie
 
@@ -32,7 +33,7 @@ tally-words-requires c κs =
     let g = geometry (c .before .before .before .before .before .args .g) in
     let pre = c .before .before .before .before .before .pre in
     let few = owners-small g Translation (pre .0) in (
-      record { named-fits = omega (arith, pre .1 .1 .0); good-fits = omega (arith, pre .1 .1 .0) },
+      record { nones-fit = omega (arith, pre .1 .1 .0); good-fit = omega (arith, pre .1 .1 .0) },
       (
         omega (arith, pre .1 .1 .0),
         (
@@ -41,6 +42,12 @@ tally-words-requires c κs =
         ),
       ),
     )
+
+add-if1 : tie.Need-add-if1
+add-if1 c =
+    let pre = c .before .before .before .before .before .before .before .pre in
+    let most = tallied-most _ _ 65536 _ _ (c .before .tally-words .ensures) (omega (arith, pre .1 .1 .0, owners-small (geometry (c .before .before .before .before .before .before .before .args .g)) Translation (pre .0))) in
+    omega (arith, most .nones-most, most .good-most)
 
 returns : tie.Need-returns
 returns c =
@@ -71,6 +78,7 @@ directory-names-spec =
     cast-n
     mul-n
     tally-words-requires
+    add-if1
     returns
     count-state-requires
     returns-2)

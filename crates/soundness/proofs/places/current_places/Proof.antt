@@ -52,28 +52,32 @@ count-state-requires c κs =
     let g = geometry (c .before .before .before .before .before .before .before .before .before .args .g) in
     omega (arith, c .before .before .before .before .before .before .before .before .before .pre .1 .0 .spare-fits, add-mul (g .D) (g .T) (g .P))
 
+cast-sums-agree : tie.Need-cast-sums-agree
+cast-sums-agree c = search needs
+
 sums-agree-requires : tie.Need-sums-agree-requires
 sums-agree-requires c κs =
-    let g = geometry (c .before .before .before .before .before .before .before .before .before .before .args .g) in
-    let pre = c .before .before .before .before .before .before .before .before .before .before .pre in
+    let g = geometry (c .before .before .before .before .before .before .before .before .before .before .before .args .g) in
+    let pre = c .before .before .before .before .before .before .before .before .before .before .before .pre in
     let few = pre .1 .1 .1 .1 .at-most in (
       (
-        tallied-most _ _ 65536 _ _ (c .before .before .before .tally-stored .ensures) (owners-small g Data (pre .0)),
-        tallied-most _ _ 65536 _ _ (c .before .before .tally-cached .ensures) (omega (arith, few, pre .0 .C-to)),
-        tallied-most _ _ 65536 _ _ (c .before .tally-hidden .ensures) (omega (arith, few, pre .0 .C-to)),
+        tallied-most _ _ 65536 _ _ (c .before .before .before .before .tally-stored .ensures) (owners-small g Data (pre .0)),
+        tallied-most _ _ 65536 _ _ (c .before .before .before .tally-cached .ensures) (omega (arith, few, pre .0 .C-to)),
+        tallied-most _ _ 65536 _ _ (c .before .before .tally-hidden .ensures) (omega (arith, few, pre .0 .C-to)),
       ),
-      omega (arith, c .count-state .ensures, count-le (g .D * g .P) (λ i. is-valid (0 + i) (now (c .before .before .before .before .before .before .before .before .before .before .args .spare))), data-small g (pre .0)),
+      owners-small g Data (pre .0),
+      omega (arith, c .before .count-state .ensures, count-le (g .D * g .P) (λ i. is-valid (0 + i) (now (c .before .before .before .before .before .before .before .before .before .before .before .args .spare))), data-small g (pre .0)),
     )
 
 returns : tie.Need-returns
 returns c =
-    let a = c .before .before .before .before .before .before .before .before .before .before .before .args in
-    let pre = c .before .before .before .before .before .before .before .before .before .before .before .pre in
+    let a = c .before .before .before .before .before .before .before .before .before .before .before .before .args in
+    let pre = c .before .before .before .before .before .before .before .before .before .before .before .before .pre in
     let s = parts (now (a .chip)) (now (a .spare)) (now (a .directory)) (now (a .cache)) (a .used) in
     subst (λ (b : Bool). Decides b (Current-places (geometry (a .g)) s)) (sym (c .sums-agree .ensures))
     (places-by-sums (geometry (a .g)) s (pre .0) (pre .1 .1 .0) (pre .1 .1 .1 .1)
-    (c .before .before .before .before .tally-stored .result) (c .before .before .before .tally-cached .result) (c .before .before .tally-hidden .result) (c .before .count-state .result)
-    (c .before .before .before .before .tally-stored .ensures) (c .before .before .before .tally-cached .ensures) (c .before .before .tally-hidden .ensures) (c .before .count-state .ensures))
+    (c .before .before .before .before .before .tally-stored .result) (c .before .before .before .before .tally-cached .result) (c .before .before .before .tally-hidden .result) (c .before .before .count-state .result)
+    (c .before .before .before .before .before .tally-stored .ensures) (c .before .before .before .before .tally-cached .ensures) (c .before .before .before .tally-hidden .ensures) (c .before .before .count-state .ensures))
 
 pub current-places-spec : {M : Type 1} → statement M
 current-places-spec =
@@ -86,5 +90,6 @@ current-places-spec =
     tally-cached-requires
     tally-hidden-requires
     count-state-requires
+    cast-sums-agree
     sums-agree-requires
     returns)

@@ -6,7 +6,7 @@ use Prim.Native.Nat.{ℕ, _*_}
 use borrow.Author.Needs.{needs}
 use denote.Ref.{now}
 use Rattle.lent.specs.Model.{geometry}
-use Rattle.soundness.specs.Named.{data-small, owns, names-page}
+use Rattle.soundness.specs.Named.{data-small, owns, is-none}
 use Rattle.soundness.specs.Tally.{Tallied-word}
 use Rattle.soundness.proofs.places.hidden.Statement.{statement}
 use Rattle.soundness.proofs.places.hidden.Tie as tie
@@ -35,7 +35,7 @@ returns : tie.Need-returns
 returns c =
     let a = c .before .before .before .before .before .before .before .args in
     subst
-    (λ (x : ℕ). Tallied-word (a .sum) (c .tallied .result) (names-page x) (owns 0 (a .g .d * a .g .p) (now (a .spare)) (a .l) x))
+    (λ (x : ℕ). Tallied-word (a .sum) (c .tallied .result) (is-none x) (owns 0 (a .g .d * a .g .p) (now (a .spare)) (a .l) x))
     (c .before .before .before .stored .ensures) (c .tallied .ensures)
 
 pub hidden-spec : {M : Type 1} → statement M

@@ -5,14 +5,14 @@ use Prim.Native.Nat.{ℕ, _-_, _*_, _+_, _≤_}
 use borrow.Author.Needs.{needs}
 use denote.Ref.{now}
 use Rattle.words.specs.Runs.{getD-any}
-use Rattle.soundness.specs.Named.{owns, names-page}
+use Rattle.soundness.specs.Named.{owns, is-none}
 use Rattle.soundness.specs.Tally.{nothing, Tallied, Tallied-word, room-enough, tallied-start, tallied-more, tallied-room, tallied-done}
-use Rattle.soundness.specs.Translated.{cached-named, cached-good}
+use Rattle.soundness.specs.Translated.{cached-none, cached-good}
 use Rattle.soundness.proofs.places.tally_cached.Statement.{statement}
 use Rattle.soundness.proofs.places.tally_cached.Tie as tie
 
 abbrev Inv-loop : tie.InvT-loop
-Inv-loop cache used spare n sum₀ i₀ sum i = (i ≤ used) × Tallied nothing sum i (cached-named cache) (cached-good n cache spare)
+Inv-loop cache used spare n sum₀ i₀ sum i = (i ≤ used) × Tallied nothing sum i (cached-none cache) (cached-good n cache spare)
 
 abbrev μ-loop : tie.MeasureT-loop
 μ-loop cache used spare n sum₀ i₀ sum i = used - i
@@ -63,7 +63,7 @@ loop-again c =
       omega arith,
       tallied-more nothing (turn .sum) (c .tallied .result) (turn .i) _ _ (turn .inv .1)
           (subst₂
-          (λ (x k : ℕ). Tallied-word (turn .sum) (c .tallied .result) (names-page x) (owns 0 (a .n) (now (a .spare)) k x))
+          (λ (x k : ℕ). Tallied-word (turn .sum) (c .tallied .result) (is-none x) (owns 0 (a .n) (now (a .spare)) k x))
           (getD-any (now (a .cache)) (turn .i * 3 + 1) 0 4294967295 (omega (arith, start .pre .0 .0)))
           (getD-any (now (a .cache)) (turn .i * 3) 0 4294967295 (omega (arith, start .pre .0 .0)))
           (c .tallied .ensures)),

@@ -57,7 +57,7 @@ tally-words-requires c κs =
     let g = geometry (a .g) in
     let short = part-short g (now (a .chip)) (a .at) (a .from) (c .before .before .before .least .result) (c .before .before .before .least .ensures) in
     let room = pre .1 .0 .2 in (
-      record { named-fits = omega (arith, short .0, room .named-fits); good-fits = omega (arith, short .0, room .good-fits) },
+      record { nones-fit = omega (arith, short .0, room .nones-fit); good-fit = omega (arith, short .0, room .good-fit) },
       (
         omega (arith, short .1, pre .1 .0 .1, owners-small g Data (pre .0)),
         (omega (arith, pre .1 .1, add-mul (a .g .d) (a .g .t) (a .g .p)), data-small g (pre .0)),

@@ -7,13 +7,13 @@ use denote.Ref.{now}
 use Rattle.lent.specs.Model.{geometry}
 use Rattle.words.specs.Runs.{getD-any}
 use Rattle.soundness.specs.Tally.{nothing, Tallied, Tallied-word, room-enough, tallied-start, tallied-more, tallied-room, tallied-done}
-use Rattle.soundness.specs.Translated.{stored-named, stored-good, hidden-named, hidden-good}
+use Rattle.soundness.specs.Translated.{stored-none, stored-good, hidden-none, hidden-good}
 use Rattle.soundness.proofs.places.tally_hidden.Statement.{statement}
 use Rattle.soundness.proofs.places.tally_hidden.Tie as tie
 
 abbrev Inv-loop : tie.InvT-loop
 Inv-loop g chip spare directory cache used sum₀ i₀ sum i =
-    (i ≤ used) × Tallied nothing sum i (hidden-named (geometry g) chip directory cache) (hidden-good (geometry g) chip spare directory cache)
+    (i ≤ used) × Tallied nothing sum i (hidden-none (geometry g) chip directory cache) (hidden-good (geometry g) chip spare directory cache)
 
 abbrev μ-loop : tie.MeasureT-loop
 μ-loop g chip spare directory cache used sum₀ i₀ sum i = used - i
@@ -52,7 +52,7 @@ loop-again c =
       omega arith,
       tallied-more nothing (turn .sum) (c .hidden .result) (turn .i) _ _ (turn .inv .1)
           (subst
-          (λ (l : ℕ). Tallied-word (turn .sum) (c .hidden .result) (stored-named (geometry (a .g)) (now (a .chip)) (now (a .directory)) l)
+          (λ (l : ℕ). Tallied-word (turn .sum) (c .hidden .result) (stored-none (geometry (a .g)) (now (a .chip)) (now (a .directory)) l)
           (stored-good (geometry (a .g)) (now (a .chip)) (now (a .spare)) (now (a .directory)) l))
           (getD-any (now (a .cache)) (turn .i * 3) 0 4294967295 (omega (arith, start .pre .1 .1 .0)))
           (c .hidden .ensures)),

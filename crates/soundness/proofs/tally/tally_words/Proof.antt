@@ -5,15 +5,15 @@ use Prim.Native.Nat.{ℕ, _+_, _-_, _≤_}
 use lib.ListN.{length}
 use borrow.Author.Needs.{needs}
 use denote.Ref.{now}
-use Rattle.soundness.specs.Named.{names-page, owns}
+use Rattle.soundness.specs.Named.{is-none, owns}
 use Rattle.words.specs.Runs.{getD-any}
-use Rattle.soundness.specs.Tally.{Tallied, Tallied-word, word-named, word-good, tallied-start, tallied-more, tallied-room}
+use Rattle.soundness.specs.Tally.{Tallied, Tallied-word, word-none, word-good, tallied-start, tallied-more, tallied-room}
 use Rattle.soundness.proofs.tally.tally_words.Statement.{statement}
 use Rattle.soundness.proofs.tally.tally_words.Tie as tie
 
 abbrev Inv-loop : tie.InvT-loop
 Inv-loop words from spare first n sum₀ i₀ sum i =
-    (i ≤ length words) × Tallied sum₀ sum i (word-named words) (word-good words from spare first n)
+    (i ≤ length words) × Tallied sum₀ sum i (word-none words) (word-good words from spare first n)
 
 abbrev μ-loop : tie.MeasureT-loop
 μ-loop words from spare first n sum₀ i₀ sum i = length words - i
@@ -64,7 +64,7 @@ loop-again c =
       omega arith,
       tallied-more (a .t) (turn .sum) (c .tallied .result) (turn .i) _ _ (turn .inv .1)
           (subst
-          (λ (x : ℕ). Tallied-word (turn .sum) (c .tallied .result) (names-page x) (owns (a .first) (a .n) (now (a .spare)) (a .from + turn .i) x))
+          (λ (x : ℕ). Tallied-word (turn .sum) (c .tallied .result) (is-none x) (owns (a .first) (a .n) (now (a .spare)) (a .from + turn .i) x))
           word (c .tallied .ensures)),
     )
 
@@ -73,7 +73,7 @@ returns : tie.Need-returns Inv-loop μ-loop
 returns c =
     let a = c .before .before .before .before .args in
     subst
-    (λ (k : ℕ). Tallied (a .t) (c .before .loop .sum) k (word-named (now (a .words))) (word-good (now (a .words)) (a .from) (now (a .spare)) (a .first) (a .n)))
+    (λ (k : ℕ). Tallied (a .t) (c .before .loop .sum) k (word-none (now (a .words))) (word-good (now (a .words)) (a .from) (now (a .spare)) (a .first) (a .n)))
     (omega arith) (c .before .loop .inv .1)
 
 pub tally-words-spec : {M : Type 1} → statement M
