@@ -1,2 +1,4 @@
 -- The modules of this crate.
 pub mod Words
+pub mod Asked
+pub mod Run

@@ -2,13 +2,16 @@
 // `requires`, for nothing checks one from C: each contract gives, for every input, the reply and every lent word by the call's definition in
 // words. What is done here is no more than to load the small record from its words, make the call by value and store the record.
 mod record;
+mod run;
 
 use crate::record::five_words;
 use crate::record::load;
 use crate::record::store;
+use crate::run::run_words;
 use lent::Geometry;
 ghost use Rattle.scope.specs.Requests.{replied};
-ghost use Rattle.scope.specs.Boundary.{tf-format, tf-check, tf-read, tf-write};
+ghost use Rattle.scope.specs.Calls.{run-replied};
+ghost use Rattle.scope.specs.Boundary.{tf-format, tf-check, tf-read, tf-write, tf-run};
 ghost use Rattle.scope.specs.Contracts.{Gives};
 ghost use Rattle.trianglefire.specs.Words.{geometry-of, words};
 
@@ -152,6 +155,53 @@ pub extern "C" fn tf_write(
         directory,
         cache,
         buffer,
+        counts,
+    );
+    let new = out.rec;
+    store(record, new);
+    out.answer
+}
+
+#[no_mangle]
+pub extern "C" fn tf_run(
+    p: u32,
+    w: u32,
+    d: u32,
+    t: u32,
+    l: u32,
+    c: u32,
+    chip: &mut [u32],
+    spare: &mut [u32],
+    directory: &mut [u32],
+    cache: &mut [u32],
+    record: &mut [u32],
+    requests: &[u32],
+    data: &mut [u32],
+    answers: &mut [u32],
+    counts: &mut [u32],
+) -> u32
+    ensures { λ r. ⌜ Gives
+        (tf-run (geometry-of p w d t l c) (words (now (chip .entry)) (now (spare .entry)) (now (directory .entry))
+        (now (cache .entry)) (now («record» .entry)) (now (counts .entry)))
+        (now (requests .entry)) (now («data» .entry)) (now (answers .entry)))
+        (run-replied (now («data» .exit)) (now (answers .exit)) r)
+        (words (now (chip .exit)) (now (spare .exit)) (now (directory .exit))
+        (now (cache .exit)) (now («record» .exit)) (now (counts .exit))) ⌝ }
+{
+    let g = Geometry { p, w, d, t, l, c };
+    let five = five_words(record);
+    let rec = load(record);
+    let out = run_words(
+        rec,
+        five,
+        g,
+        requests,
+        chip,
+        spare,
+        directory,
+        cache,
+        data,
+        answers,
         counts,
     );
     let new = out.rec;

@@ -1,0 +1,118 @@
+// A run over request words. The words are taken two by two, kind and page; an odd number of them is refused with the other lengths, before
+// any is taken.
+use calls::Out;
+use calls::run::Request;
+use calls::run::Running;
+use calls::run::begin;
+use calls::run::finish;
+use calls::run::serve;
+use lent::Geometry;
+use lent::Record;
+ghost use Prim.Native.Nat.{_/_, _%_};
+ghost use mathlib.Core.Path.{_≡_};
+ghost use mathlib.Core.Bool.{_&&_};
+ghost use lib.Dec.{eqb};
+ghost use lib.ListN.{length};
+ghost use Rattle.lent.specs.Model.{geometry, state};
+ghost use Rattle.scope.specs.Calls.{run-replied, serve-records, run};
+ghost use Rattle.scope.specs.Boundary.{requests-of};
+ghost use Rattle.scope.specs.Contracts.{right-lengths, Answers};
+ghost use Rattle.calls.specs.Serve.{Runs};
+ghost use Rattle.trianglefire.specs.Run.{Tested};
+
+const REQUEST_WORDS: usize = 2;
+
+// The caller's other lengths, and that no request lacks its page.
+fn whole_requests(fits: bool, words: usize) -> bool
+    ensures { λ r. ⌜ r ≡ (fits && eqb (words % 2) 0) ⌝ }
+{
+    if !fits {
+        return false;
+    }
+    words % REQUEST_WORDS == 0
+}
+
+// The requests one after the other, where the run was admitted.
+fn serve_words(
+    first: Running,
+    requests: &[u32],
+    g: Geometry,
+    chip: &mut [u32],
+    spare: &mut [u32],
+    directory: &mut [u32],
+    cache: &mut [u32],
+    words: &mut [u32],
+    answers: &mut [u32],
+) -> Running
+    requires { ⌜ Tested (geometry g) (length (now requests) / 2) first
+        (state (now chip) (now spare) (now directory) (now cache) (first .rec)) (now words) (now answers) ⌝ }
+    ensures { λ r. ⌜ Runs (serve-records (geometry g) (requests-of (now (requests .entry))) (length (now (requests .entry)) / 2)) first
+        (state (now (chip .entry)) (now (spare .entry)) (now (directory .entry)) (now (cache .entry)) (first .rec))
+        (now (words .entry)) (now (answers .entry)) r
+        (state (now (chip .exit)) (now (spare .exit)) (now (directory .exit)) (now (cache .exit)) (r .rec))
+        (now (words .exit)) (now (answers .exit)) ⌝ }
+{
+    let n = requests.len() / REQUEST_WORDS;
+    let mut i = 0;
+    let mut cur = first;
+    while i < n {
+        let q = Request {
+            kind: requests[REQUEST_WORDS * i],
+            page: requests[REQUEST_WORDS * i + 1],
+        };
+        cur = serve(cur, i, q, g, chip, spare, directory, cache, words, answers);
+        i += 1;
+    }
+    cur
+}
+
+// The whole run over the loaded record.
+pub fn run_words(
+    rec: Record,
+    five: bool,
+    g: Geometry,
+    requests: &[u32],
+    chip: &mut [u32],
+    spare: &mut [u32],
+    directory: &mut [u32],
+    cache: &mut [u32],
+    words: &mut [u32],
+    answers: &mut [u32],
+    counts: &mut [u32],
+) -> Out
+    ensures { λ o. ⌜ Answers
+        (run (geometry g) (right-lengths five (now (counts .entry)) && eqb (length (now (requests .entry)) % 2) 0)
+        (requests-of (now (requests .entry))) (now (words .entry)) (now (answers .entry))
+        (state (now (chip .entry)) (now (spare .entry)) (now (directory .entry)) (now (cache .entry)) rec))
+        (now (counts .entry)) (run-replied (now (words .exit)) (now (answers .exit)) (o .answer))
+        (state (now (chip .exit)) (now (spare .exit)) (now (directory .exit)) (now (cache .exit)) (o .rec))
+        (now (counts .exit)) ⌝ }
+{
+    let fits = whole_requests(five, requests.len());
+    let n = requests.len() / REQUEST_WORDS;
+    let first = begin(
+        rec,
+        fits,
+        n,
+        g,
+        words.len(),
+        answers.len(),
+        counts.len(),
+        chip,
+        spare,
+        directory,
+        cache,
+    );
+    let last = serve_words(
+        first,
+        requests,
+        g,
+        chip,
+        spare,
+        directory,
+        cache,
+        words,
+        answers,
+    );
+    finish(last, counts)
+}
