@@ -116,9 +116,6 @@ module _ {F : Face} {g : Geometry} (faithful : Faithful F g) where
       abbrev call : Call
       call = F .call now x counts
 
-      abbrev did : List Operation
-      did = make g call s .did
-
       is : {c : Call} → call ≡ c → Answered g c counts s b (make g call s .after)
       is e = known faithful x counts now b n′ contract e
 
