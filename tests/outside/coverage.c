@@ -60,13 +60,23 @@ static void count_collections(struct coverage *v, const struct play *p, const st
         v->erases += play_slice(p, OF_ARCHIVE, COUNTS)[2];
 }
 
+static bool has_empty_slice(const struct call *c)
+{
+    for (int i = 0; i < ALL; i++)
+        if (call_takes(c->which, i) && c->n[i] == 0)
+            return true;
+    return false;
+}
+
 void coverage_step(struct coverage *v, const struct play *p, const struct step *step)
 {
     if (!p->called) {
+        v->odd++;
         look_at_region(v, &p->state[OF_ARCHIVE]);
         return;
     }
     v->calls++;
+    v->null += p->call.null && has_empty_slice(&p->call);
     v->replies[p->call.which][p->reply]++;
     if (p->call.which == RUN && p->reply == DONE) {
         v->records += p->call.n[ANSWERS];
@@ -106,9 +116,10 @@ void coverage_print(const struct coverage *v)
     print_row("wrong length of", slice_name, v->wrong_length, 0, ALL);
     print_row("first rule broken", rule_name, v->broken, 1, RULES + 1);
     print_row("sessions with", corner_name, v->corners, 0, CORNERS);
-    printf("  changed words that left a sound state %" PRIu64
-           "; writes that found the open block at offset P %" PRIu64 "\n",
-           v->still_sound, v->full_offset);
+    printf("  changed words that left a sound state %" PRIu64 ", odd words %" PRIu64
+           "; writes that found the open block at offset P %" PRIu64
+           "; calls with NULL, 0 %" PRIu64 "\n",
+           v->still_sound, v->odd, v->full_offset, v->null);
 }
 
 static bool met(const char *head, const char *name, uint64_t n)
@@ -146,5 +157,7 @@ bool coverage_whole(const struct coverage *v)
     whole &= met("a collection of", "data", v->collections[0]);
     whole &= met("a collection of", "translation", v->collections[1]);
     whole &= met("a changed word that leaves", "a sound state", v->still_sound);
+    whole &= met("words changed that", "no rule binds", v->odd);
+    whole &= met("an empty slice as", "NULL, 0", v->null);
     return whole & met("a write at", "offset P", v->full_offset);
 }

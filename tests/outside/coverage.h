@@ -21,6 +21,8 @@ struct coverage {
     uint64_t collections[REGIONS];     /* in single reads and writes */
     uint64_t erases;                   /* in runs */
     uint64_t full_offset;              /* writes that found the open block at offset P */
+    uint64_t odd;                      /* times that words bound by no rule were changed */
+    uint64_t null;                     /* calls with an empty slice given as NULL, 0 */
     uint64_t corners[CORNERS];         /* sessions by corner of the geometry */
     uint32_t open, offset, erased;     /* of the data region, as the step before left it */
 };

@@ -48,7 +48,9 @@ static size_t wrong_length(size_t fit, size_t room, uint64_t *seed)
     size_t n = choice[random_below(seed, 6)];
     if (n > room)
         n = room;
-    return n == fit ? fit + 1 : n;
+    if (n == fit)
+        n = fit < room ? fit + 1 : fit - 1;
+    return n;
 }
 
 static void other_length(struct call *c, const struct lent *lent, uint64_t *seed)

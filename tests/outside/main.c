@@ -30,7 +30,7 @@ struct options {
 
 static uint32_t sessions_of(const struct options *o, int part)
 {
-    static const uint32_t usual[PARTS] = {2500, 120, 27, 2};
+    static const uint32_t usual[PARTS] = {6000, 300, 54, 2};
     uint32_t n = (uint32_t)((uint64_t)usual[part] * o->percent / 100);
     return n == 0 ? 1 : n;
 }
@@ -123,7 +123,7 @@ static bool take_part(struct options *o, const char *name)
 static struct options take_options(int argc, char **argv)
 {
     struct options o = {.all = true, .seed = 1, .session = -1, .placing = -1, .percent = 100,
-                        .calls = 1000000};
+                        .calls = 2000000};
     for (int i = 1; i < argc; i++) {
         if (take_part(&o, argv[i])) {
             o.all = false;

@@ -4,9 +4,9 @@
 A line a mutant says which part of the tests caught it, after how many calls, and how many steps the shortest session has that shows
 it. The exit status is 1 if one was not caught, or if its lines do not stand in its file exactly once.
 
-    mutants.py               every mutant
-    mutants.py NAME ..       these mutants, with the session that shows each
-    mutants.py --table       every mutant, as the table of docs/TESTING.md
+    make mutants                    every mutant
+    make mutants MUTANTS=NAME       this one, with the session that shows it
+    make mutants MUTANTS=--table    every mutant, as the table of docs/TESTING.md
 
 The Makefile builds what is linked: the program's own objects, and the independent program under the archive's names.
 """
