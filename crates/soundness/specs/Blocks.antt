@@ -10,8 +10,7 @@ use lib.Dec.{eqb, ltb, leb}
 use borrow.Author.Tests.{eqb-true, eq-eqb, ne-eqb, lt-ltb, le-ltb, not-true}
 use Rattle.scope.specs.Counting.{all, some, count}
 use Rattle.scope.specs.Geometry.{Geometry}
-use Rattle.scope.specs.Regions.{Region, Data, Translation, first-block, region-blocks}
-use Rattle.scope.specs.SmallRecord.{SmallRecord, open-block, next-offset}
+use Rattle.scope.specs.Regions.{Region, first-block, region-blocks}
 use Rattle.scope.specs.Lent.{is-erased}
 use Rattle.scope.specs.Decisions.{blocks-fit}
 use Rattle.flash.specs.Cases.{on, below?, clash, and-true, true-and, or-cases, or-right, is-false, not-of-false}
@@ -49,16 +48,11 @@ module _ (P : ℕ) where
         && others-fit spare opened n
         && besides spare opened n
 
--- Scope's rule of a region is this one, at the region's numbers; scope's `sound` asks it of both regions.
+-- Scope's rule of a region is this one, at the region's numbers.
 pub fits-region : (g : Geometry) (r : Region) (spare : List ℕ) (opened offset : ℕ)
     → fits (g .P) (first-block g r) (region-blocks g r) spare opened offset ≡ blocks-fit g r spare opened offset
 unfolding fits open-fits others-fit besides blocks-fit
 fits-region g r spare opened offset = refl
-
-abbrev pub both-fit : Geometry → List ℕ → SmallRecord → Bool
-both-fit g spare s =
-    blocks-fit g Data spare (open-block Data s) (next-offset Data s)
-    && blocks-fit g Translation spare (open-block Translation s) (next-offset Translation s)
 
 -- ---- where the blocks lie
 

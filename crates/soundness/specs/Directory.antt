@@ -12,11 +12,11 @@ use Rattle.scope.specs.Decisions.{owners-differ, directory-names}
 use Rattle.scope.specs.Geometry.{Geometry, Accepted, M}
 use Rattle.scope.specs.Laws.Decided.{owners-differ-decided, directory-names-decided}
 use Rattle.scope.specs.Laws.Decides.{by-and}
-use Rattle.scope.specs.Lent.{none, is-valid, directory-size}
+use Rattle.scope.specs.Lent.{none, directory-size}
 use Rattle.scope.specs.Regions.{Translation, first-page, region-pages}
 use Rattle.flash.specs.Counting.{count-same}
 use Rattle.soundness.specs.Counted.{decided-same}
-use Rattle.soundness.specs.Named.{Owners-fit, region-small, by-counts, owns, is-none}
+use Rattle.soundness.specs.Named.{Owners-fit, valid-in, region-small, by-counts, owns, is-none}
 use Rattle.soundness.specs.Tally.{nothing, Tallied, word-none, word-good}
 use Rattle.soundness.specs.declared.tally.Tally.{Tally}
 
@@ -32,9 +32,9 @@ module _ (g : Geometry) (spare directory : List ℕ) (ok : Accepted g) (fit : Ow
       ∙ ap (λ (k : ℕ). count k (word-good directory 0 spare (first-page g Translation) (region-pages g Translation))) long
       ∙ count-same (M g) _ _ (λ t h. ap (λ (k : ℕ). owns (first-page g Translation) (region-pages g Translation) spare k (getD directory t none)) (zero-add t))
 
-  pub directory-counts : (pages : ℕ) → pages ≡ count (region-pages g Translation) (λ i. is-valid (first-page g Translation + i) spare)
-      → eqb (sum .nones + sum .good) (length directory) && eqb (sum .good) pages ≡ owners-differ g Translation spare && directory-names g spare directory
-  directory-counts pages e =
+  pub directory-counts : (valid : ℕ) → valid ≡ valid-in g Translation spare
+      → eqb (sum .nones + sum .good) (length directory) && eqb (sum .good) valid ≡ owners-differ g Translation spare && directory-names g spare directory
+  directory-counts valid e =
       rw (nones-is, good-is, e, long)
       (decided-same
       (by-counts g Translation spare (region-small g Translation ok) (λ t. getD directory t none) fit)

@@ -15,4 +15,5 @@ pub mod Entries
 pub mod Translated
 pub mod Places
 pub mod PastL
+pub mod Survey
 pub mod Whole

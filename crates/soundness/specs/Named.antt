@@ -27,6 +27,10 @@ Owners-fit g r spare = (p : ℕ) → Has-page g r p → state-of p spare ≡ val
 pub owners-fit : (g : Geometry) (r : Region) (chip spare : List ℕ) → Pages-fit g r chip spare → Owners-fit g r spare
 owners-fit g r chip spare fit p h v = fit p h .owned (λ e. omega arith)
 
+-- How many pages of a region are valid.
+abbrev pub valid-in : Geometry → Region → List ℕ → ℕ
+valid-in g r spare = count (region-pages g r) (λ i. is-valid (first-page g r + i) spare)
+
 -- Page p is one of the n pages from `first` on, valid, and owned by k.
 abbrev pub owns : ℕ → ℕ → List ℕ → ℕ → ℕ → Bool
 owns first n spare k p = leb first p && ltb p (first + n) && is-valid p spare && eqb (owner-of p spare) k

@@ -14,7 +14,7 @@ use Rattle.scope.specs.Geometry.{Geometry, Accepted, M}
 use Rattle.scope.specs.Laws.Decides.{Decides, by-same, by-and}
 use Rattle.scope.specs.Laws.Decided.{owners-differ-decided, places-hold-decided}
 use Rattle.scope.specs.Decisions.{owners-differ, places-hold}
-use Rattle.scope.specs.Lent.{Place, State, decode, is-valid, logical-at, physical-at, named, word-of, none}
+use Rattle.scope.specs.Lent.{Place, State, decode, logical-at, physical-at, named, word-of, none}
 use Rattle.scope.specs.Regions.{Data}
 use Rattle.scope.specs.Sound.{Owners-differ, Names, Entries-fit, Places-hold, rank-of, stored, current}
 use Rattle.flash.specs.Cases.{on, clash, and-true, true-and, is-false}
@@ -22,7 +22,7 @@ use Rattle.flash.specs.Counting.{count-same, count-split}
 use Rattle.cache.specs.Ranks.{rank-found, rank-is}
 use Rattle.soundness.specs.Bools.{same-test}
 use Rattle.soundness.specs.Counted.{decided-same, count-into}
-use Rattle.soundness.specs.Named.{Owners-fit, owns, is-none, region-small, by-counts}
+use Rattle.soundness.specs.Named.{Owners-fit, valid-in, owns, is-none, region-small, by-counts}
 use Rattle.soundness.specs.Tally.{nothing, Tallied}
 use Rattle.soundness.specs.Translated.{stored-none, stored-good, cached-none, cached-good, hidden-none, hidden-good}
 use Rattle.soundness.specs.declared.tally.Tally.{Tally}
@@ -154,7 +154,7 @@ module _ (g : Geometry) (s : State) (ok : Accepted g) (fit : Owners-fit g Data (
     (of-cache : Tallied nothing has (s .small .used) (cached-none (s .cache)) (cached-good (g .D * g .P) (s .cache) (s .spare)))
     (of-hidden : Tallied nothing hides (s .small .used) (hidden-none g (s .chip) (s .directory) (s .cache))
     (hidden-good g (s .chip) (s .spare) (s .directory) (s .cache)))
-    (of-pages : valid ≡ count (g .D * g .P) (λ i. is-valid (0 + i) (s .spare))) where
+    (of-pages : valid ≡ valid-in g Data (s .spare)) where
   pub places-by-sums : Decides (sums-agree held has hides (g .L) valid) (Current-places g s)
   places-by-sums =
       let at-zero : 0 * g .P ≡ 0 = zero-mul (g .P) in
@@ -170,7 +170,7 @@ module _ (g : Geometry) (s : State) (ok : Accepted g) (fit : Owners-fit g Data (
       (subst
       (λ (first : ℕ). Decides
       (eqb (nones-now + count (g .L) (λ l. owns first (g .D * g .P) (s .spare) l (current g s l))) (g .L)
-      && eqb (count (g .L) (λ l. owns first (g .D * g .P) (s .spare) l (current g s l))) (count (g .D * g .P) (λ i. is-valid (first + i) (s .spare))))
+      && eqb (count (g .L) (λ l. owns first (g .D * g .P) (s .spare) l (current g s l))) (valid-in g Data (s .spare)))
       (Current-places g s))
       at-zero
       (by-counts g Data (s .spare) (region-small g Data ok) (current g s) fit)))

@@ -5,25 +5,26 @@ use mathlib.Core.List.{List, []}
 use Prim.Native.Nat.{ℕ}
 use Rattle.lent.specs.Model.{state, small}
 use Rattle.lent.specs.declared.Record.{Record}
-use Rattle.scope.specs.Decisions.{pages-fit, owners-differ, directory-names, entries-fit, places-hold, unchanged-agree, sound}
+use Rattle.scope.specs.Decisions.{pages-fit, owners-differ, blocks-fit, directory-names, entries-fit, places-hold, unchanged-agree, sound}
 use Rattle.scope.specs.Geometry.{Geometry}
 use Rattle.scope.specs.Laws.Decided.{pages-fit-decided, directory-names-decided}
 use Rattle.scope.specs.Laws.Decides.{Decides, by-same, by-and}
-use Rattle.scope.specs.Regions.{Data, Translation}
-use Rattle.scope.specs.SmallRecord.{SmallRecord}
+use Rattle.scope.specs.Regions.{Region, Data, Translation}
+use Rattle.scope.specs.SmallRecord.{SmallRecord, open-block, next-offset}
 use Rattle.scope.specs.Sound.{Directory-names, current}
 use Rattle.flash.specs.Cases.{and-true}
-use Rattle.soundness.specs.Blocks as Blocks
 use Rattle.soundness.specs.Counted.{decided-same}
 use Rattle.soundness.specs.Named.{Owners-fit, owners-fit}
-use Rattle.soundness.specs.Pages as Pages
 use Rattle.soundness.specs.Stored.{parts}
+use Rattle.soundness.specs.Survey.{region-sound}
 
--- The tests as the code makes them: rules 1 to 4, of chip, spare and directory, where rule 2 of the translation region comes with rule 4;
--- rules 5 to 7, where rule 2 of the data region comes with rule 6.
+-- The tests as the code makes them: rules 1 and 3 of each region, then rule 4, with rule 2 of the translation region; rules 5 to 7, where
+-- rule 2 of the data region comes with rule 6.
 abbrev pub flash-sound : Geometry → List ℕ → List ℕ → List ℕ → SmallRecord → Bool
 flash-sound g chip spare directory r =
-    Pages.both-fit g chip spare && Blocks.both-fit g spare r && (owners-differ g Translation spare && directory-names g spare directory)
+    region-sound g Data chip spare r
+    && region-sound g Translation chip spare r
+    && (owners-differ g Translation spare && directory-names g spare directory)
 
 abbrev pub cache-sound : Geometry → List ℕ → List ℕ → List ℕ → List ℕ → ℕ → Bool
 cache-sound g chip spare directory cache used =
@@ -31,14 +32,12 @@ cache-sound g chip spare directory cache used =
     && (owners-differ g Data spare && places-hold g (parts chip spare directory cache used))
     && unchanged-agree g (parts chip [] directory cache used)
 
--- What the rules of flash give, each where it has passed.
-pub owners-of-pages : (g : Geometry) (chip spare : List ℕ) → Pages.both-fit g chip spare ≡ true
-    → Owners-fit g Data spare × Owners-fit g Translation spare
-owners-of-pages g chip spare h =
-    let both = and-true (pages-fit g Data chip spare) (pages-fit g Translation chip spare) h in (
-      owners-fit g Data chip spare (pages-fit-decided g Data chip spare .holds (both .0)),
-      owners-fit g Translation chip spare (pages-fit-decided g Translation chip spare .holds (both .1)),
-    )
+-- What the rules of a region say of its owners, where they hold.
+pub owners-of-region : (g : Geometry) (r : Region) (chip spare : List ℕ) (s : SmallRecord) → region-sound g r chip spare s ≡ true
+    → Owners-fit g r spare
+owners-of-region g r chip spare s h =
+    let both = and-true (blocks-fit g r spare (open-block r s) (next-offset r s)) (pages-fit g r chip spare) h in
+    owners-fit g r chip spare (pages-fit-decided g r chip spare .holds (both .1))
 
 -- What the cache's rules start from.
 pub record Flash-holds (g : Geometry) (spare directory : List ℕ) : Type 0 where
@@ -48,11 +47,11 @@ pub record Flash-holds (g : Geometry) (spare directory : List ℕ) : Type 0 wher
 pub flash-holds : (g : Geometry) (chip spare directory : List ℕ) (r : SmallRecord) → flash-sound g chip spare directory r ≡ true
     → Flash-holds g spare directory
 flash-holds g chip spare directory r h =
-    let last = and-true (Pages.both-fit g chip spare && Blocks.both-fit g spare r) (owners-differ g Translation spare && directory-names g spare directory) h in
-    let first = and-true (Pages.both-fit g chip spare) (Blocks.both-fit g spare r) (last .0) in
+    let last = and-true (region-sound g Data chip spare r && region-sound g Translation chip spare r) (owners-differ g Translation spare && directory-names g spare directory) h in
+    let first = and-true (region-sound g Data chip spare r) (region-sound g Translation chip spare r) (last .0) in
     let names = and-true (owners-differ g Translation spare) (directory-names g spare directory) (last .1) in
     record {
-      owned = owners-of-pages g chip spare (first .0) .0;
+      owned = owners-of-region g Data chip spare r (first .0);
       named = directory-names-decided g spare directory .holds (names .1);
     }
 
@@ -67,23 +66,23 @@ chain-3 : (a b c : Bool) → a ≡ true → b ≡ true → c ≡ a && b && c
 chain-3 a b c p q = rw (p, q)
 
 module _ (g : Geometry) (chip spare directory : List ℕ) (r : SmallRecord) where
-  abbrev pub rule-1 : Bool
-  rule-1 = Pages.both-fit g chip spare
+  abbrev data-fits : Bool
+  data-fits = region-sound g Data chip spare r
 
-  abbrev pub rule-3 : Bool
-  rule-3 = Blocks.both-fit g spare r
+  abbrev translation-fits : Bool
+  translation-fits = region-sound g Translation chip spare r
 
-  abbrev pub rule-4 : Bool
+  abbrev rule-4 : Bool
   rule-4 = owners-differ g Translation spare && directory-names g spare directory
 
-  pub stops-at-1 : rule-1 ≡ false → false ≡ flash-sound g chip spare directory r
-  stops-at-1 = chain-1 rule-1 rule-3 rule-4
+  pub stops-at-data : data-fits ≡ false → false ≡ flash-sound g chip spare directory r
+  stops-at-data = chain-1 data-fits translation-fits rule-4
 
-  pub stops-at-3 : rule-1 ≡ true → rule-3 ≡ false → false ≡ flash-sound g chip spare directory r
-  stops-at-3 = chain-2 rule-1 rule-3 rule-4
+  pub stops-at-translation : data-fits ≡ true → translation-fits ≡ false → false ≡ flash-sound g chip spare directory r
+  stops-at-translation = chain-2 data-fits translation-fits rule-4
 
-  pub ends-at-4 : rule-1 ≡ true → rule-3 ≡ true → rule-4 ≡ flash-sound g chip spare directory r
-  ends-at-4 = chain-3 rule-1 rule-3 rule-4
+  pub ends-at-4 : data-fits ≡ true → translation-fits ≡ true → rule-4 ≡ flash-sound g chip spare directory r
+  ends-at-4 = chain-3 data-fits translation-fits rule-4
 
 module _ (g : Geometry) (chip spare directory cache : List ℕ) (used : ℕ) where
   abbrev pub rule-5 : Bool
@@ -108,21 +107,32 @@ module _ (g : Geometry) (chip spare directory cache : List ℕ) (used : ℕ) whe
 here : (a : Bool) → Decides a (a ≡ true)
 here a = record { holds = λ p. p; passes = λ p. p }
 
-in-order : (a b₁ b₂ c d e f h : Bool) → (a && c && (b₂ && d)) && (e && (b₁ && f) && h) ≡ a && (b₁ && b₂) && c && d && e && f && h
-in-order a b₁ b₂ c d e f h =
+in-order : (a₁ a₂ b₁ b₂ c₁ c₂ d e f h : Bool)
+    → ((c₁ && a₁) && (c₂ && a₂) && (b₂ && d)) && (e && (b₁ && f) && h) ≡ (a₁ && a₂) && (b₁ && b₂) && (c₁ && c₂) && d && e && f && h
+in-order a₁ a₂ b₁ b₂ c₁ c₂ d e f h =
     decided-same
-    (by-and (by-and (by-and (here a) (here c)) (by-and (here b₂) (here d))) (by-and (by-and (here e) (by-and (here b₁) (here f))) (here h)))
+    (by-and
+    (by-and (by-and (by-and (here c₁) (here a₁)) (by-and (here c₂) (here a₂))) (by-and (here b₂) (here d)))
+    (by-and (by-and (here e) (by-and (here b₁) (here f))) (here h)))
     (by-same
-    (λ x. (((x .0 .0 .0 .0 .0 .0, x .0 .0 .0 .0 .1), (x .0 .0 .0 .0 .0 .1 .1, x .0 .0 .0 .1)), ((x .0 .0 .1, (x .0 .0 .0 .0 .0 .1 .0, x .0 .1)), x .1)))
-    (λ x. ((((((x .0 .0 .0, (x .1 .0 .1 .0, x .0 .1 .0)), x .0 .0 .1), x .0 .1 .1), x .1 .0 .0), x .1 .0 .1 .1), x .1 .1))
-    (by-and (by-and (by-and (by-and (by-and (by-and (here a) (by-and (here b₁) (here b₂))) (here c)) (here d)) (here e)) (here f)) (here h)))
+    (λ x.
+    let a = x .0 .0 .0 .0 .0 .0 in
+    let b = x .0 .0 .0 .0 .0 .1 in
+    let c = x .0 .0 .0 .0 .1 in
+    ((((c .0, a .0), (c .1, a .1)), (b .1, x .0 .0 .0 .1)), ((x .0 .0 .1, (b .0, x .0 .1)), x .1)))
+    (λ x.
+    let regions = x .0 .0 in
+    (((((((regions .0 .1, regions .1 .1), (x .1 .0 .1 .0, x .0 .1 .0)), (regions .0 .0, regions .1 .0)), x .0 .1 .1), x .1 .0 .0), x .1 .0 .1 .1), x .1 .1))
+    (by-and (by-and (by-and (by-and (by-and (by-and
+    (by-and (here a₁) (here a₂)) (by-and (here b₁) (here b₂))) (by-and (here c₁) (here c₂))) (here d)) (here e)) (here f)) (here h)))
 
 module _ (g : Geometry) (chip spare directory cache : List ℕ) (r : Record) where
   whole : flash-sound g chip spare directory (small r) && cache-sound g chip spare directory cache (r .used)
       ≡ sound g (state chip spare directory cache r)
   unfolding sound places-hold unchanged-agree current
   whole =
-      in-order (Pages.both-fit g chip spare) (owners-differ g Data spare) (owners-differ g Translation spare) (Blocks.both-fit g spare (small r))
+      in-order (pages-fit g Data chip spare) (pages-fit g Translation chip spare) (owners-differ g Data spare) (owners-differ g Translation spare)
+      (blocks-fit g Data spare (small r .open-data) (small r .data-offset)) (blocks-fit g Translation spare (small r .open-translation) (small r .translation-offset))
       (directory-names g spare directory) (entries-fit g cache (r .used)) (places-hold g (parts chip spare directory cache (r .used)))
       (unchanged-agree g (parts chip [] directory cache (r .used)))
 

@@ -1,19 +1,41 @@
-// Rule 3, of a region with its open block and next offset, in one pass over the region's states: a block's erased pages are counted, and
-// the counts tell all that the rule asks. Any open block and offset may come: both are bounded before they lead anywhere.
+// Rules 1 and 3, of a region with its open block and next offset, in one walk over the region's blocks: what is found of a block's pages
+// tells all that the rules ask, and the valid pages, which rules 4 and 6 ask, are counted on the way. Any open block and offset may
+// come: both are bounded before they lead anywhere.
+use crate::geometry::translation_pages;
+use crate::pages::look;
+use lent::ERASED;
 use lent::Geometry;
 use lent::Record;
 use words::states::count_state;
 ghost use mathlib.Core.Path.{_≡_};
-ghost use mathlib.Core.Bool.{cond, _&&_, _||_};
-ghost use Prim.Native.Nat.{_+_, _*_, _≤_};
+ghost use mathlib.Core.Bool.{false, cond, _&&_, _||_};
+ghost use Prim.Native.Nat.{_+_, _*_, _≤_, _<_};
 ghost use lib.Dec.{eqb};
 ghost use lib.ListN.{length};
+ghost use Rattle.scope.specs.Counting.{all, count};
 ghost use Rattle.scope.specs.Geometry.{Accepted};
-ghost use Rattle.scope.specs.Lent.{spare-size};
+ghost use Rattle.scope.specs.Lent.{chip-size, spare-size};
+ghost use Rattle.scope.specs.Regions.{Data, Translation};
 ghost use Rattle.lent.specs.Model.{geometry, small as small-record};
-ghost use Rattle.soundness.specs.Blocks.{erased-in, open-fits, others-fit, besides, fits, both-fit};
+ghost use Rattle.soundness.specs.Blocks.{open-fits, fits};
+ghost use Rattle.soundness.specs.Named.{valid-in};
+ghost use Rattle.soundness.specs.Survey.{Found, rules, row-fits, row-valid, region-sound};
 
-const ERASED: u32 = 4294967295;
+// What a walk finds: whether the rules hold, and, where they do, how many pages are valid.
+pub struct Survey {
+    pub fits: bool,
+    pub valid: usize,
+}
+
+// A rule is broken.
+fn broken() -> Survey
+    ensures { λ r. ⌜ r .fits ≡ false ⌝ }
+{
+    Survey {
+        fits: false,
+        valid: 0,
+    }
+}
 
 // The open block's pages before the next offset are programmed, the others erased.
 fn open_fits(spare: &[u32], p: usize, opened: usize, offset: usize) -> bool
@@ -29,15 +51,14 @@ fn open_fits(spare: &[u32], p: usize, opened: usize, offset: usize) -> bool
     count_state(spare, first + offset, rest, ERASED) == rest
 }
 
-// How many pages of block b are erased, none where it is the open one.
-fn erased_besides(spare: &[u32], p: usize, b: usize, opened: usize) -> usize
-    requires { ⌜ (b * p + p) * 2 ≤ length (now spare) ⌝ }
-    ensures { λ r. ⌜ r ≡ cond (eqb b opened) 0 (erased-in p (now (spare .entry)) b) ⌝ }
+// The erased pages of block b count for nothing where it is the open one.
+fn besides(erased: usize, b: usize, opened: usize) -> usize
+    ensures { λ r. ⌜ r ≡ cond (eqb b opened) 0 erased ⌝ }
 {
     if b == opened {
         return 0;
     }
-    count_state(spare, b * p, p, ERASED)
+    erased
 }
 
 // Of p pages none or all.
@@ -50,76 +71,117 @@ fn none_or_all(n: usize, p: usize) -> bool
     n == 0
 }
 
-// Every block but the open one is wholly erased or has no erased page, and there is one of the first kind: the erased pages of these
-// blocks number more than 0.
-fn others_fit(spare: &[u32], p: usize, first: usize, n: usize, opened: usize) -> bool
-    requires { ⌜ 1 ≤ p ⌝ }
+// The walk over the n blocks of p pages from block `first` on. Every block but the open one is wholly erased or has no erased page, and
+// there is one of the first kind: the erased pages of these blocks number more than 0. Every page fits.
+fn walk(
+    chip: &[u32],
+    spare: &[u32],
+    w: usize,
+    limit: u32,
+    p: usize,
+    first: usize,
+    n: usize,
+    opened: usize,
+) -> Survey
+    requires { ⌜ (1 ≤ p) × (p < 4294967296) ⌝ }
+    requires { ⌜ (first + n) * p * w ≤ length (now chip) ⌝ }
     requires { ⌜ (first + n) * p * 2 ≤ length (now spare) ⌝ }
-    ensures { λ r. ⌜ r ≡ (others-fit p first (now (spare .entry)) opened n && besides p first (now (spare .entry)) opened n) ⌝ }
+    ensures { λ r. ⌜ Found r (rules w limit p first (now (chip .entry)) (now (spare .entry)) opened n)
+        (count (n * p) (row-valid p first (now (spare .entry)))) ⌝ }
 {
     let mut total = 0;
+    let mut valid = 0;
     let mut i = 0;
     while i < n {
-        let erased = erased_besides(spare, p, first + i, opened);
+        let b = first + i;
+        let block = look(chip, spare, w, limit, b * p, p);
+        if !block.fits {
+            return broken();
+        }
+        let erased = besides(block.erased, b, opened);
         if !none_or_all(erased, p) {
-            return false;
+            return broken();
         }
         total += erased;
+        valid += block.valid;
         i += 1;
     }
-    total != 0
+    Survey {
+        fits: total != 0,
+        valid,
+    }
 }
 
-// The rule for the n blocks of p pages from block `first` on.
-pub fn region_fits(
+// Both rules for the n blocks of p pages from block `first` on, whose owners are to be below `limit`.
+fn region_fits(
+    chip: &[u32],
     spare: &[u32],
+    w: usize,
+    limit: u32,
     p: usize,
     first: usize,
     n: usize,
     opened: usize,
     offset: usize,
-) -> bool
-    requires { ⌜ 1 ≤ p ⌝ }
+) -> Survey
+    requires { ⌜ (1 ≤ p) × (p < 4294967296) ⌝ }
+    requires { ⌜ (first + n) * p * w ≤ length (now chip) ⌝ }
     requires { ⌜ (first + n) * p * 2 ≤ length (now spare) ⌝ }
-    ensures { λ r. ⌜ r ≡ fits p first n (now (spare .entry)) opened offset ⌝ }
+    ensures { λ r. ⌜ Found r
+        (fits p first n (now (spare .entry)) opened offset && all (n * p) (row-fits w limit p first (now (chip .entry)) (now (spare .entry))))
+        (count (n * p) (row-valid p first (now (spare .entry)))) ⌝ }
 {
     if opened < first {
-        return false;
+        return broken();
     }
     if first + n <= opened {
-        return false;
+        return broken();
     }
     if p < offset {
-        return false;
+        return broken();
     }
     if !open_fits(spare, p, opened, offset) {
-        return false;
+        return broken();
     }
-    others_fit(spare, p, first, n, opened)
+    walk(chip, spare, w, limit, p, first, n, opened)
 }
 
-// The rule for both regions.
-pub fn blocks_fit(g: Geometry, spare: &[u32], small: Record) -> bool
+// Both rules for the data region.
+pub fn data_fits(g: Geometry, chip: &[u32], spare: &[u32], small: Record) -> Survey
     requires { ⌜ Accepted (geometry g) ⌝ }
+    requires { ⌜ length (now chip) ≡ chip-size (geometry g) ⌝ }
     requires { ⌜ length (now spare) ≡ spare-size (geometry g) ⌝ }
-    ensures { λ r. ⌜ r ≡ both-fit (geometry g) (now (spare .entry)) (small-record small) ⌝ }
+    ensures { λ r. ⌜ Found r (region-sound (geometry g) Data (now (chip .entry)) (now (spare .entry)) (small-record small))
+        (valid-in (geometry g) Data (now (spare .entry))) ⌝ }
 {
-    let p = g.p as usize;
-    let d = g.d as usize;
-    if !region_fits(
+    region_fits(
+        chip,
         spare,
-        p,
+        g.w as usize,
+        g.l,
+        g.p as usize,
         0,
-        d,
+        g.d as usize,
         small.open_data as usize,
         small.data_offset as usize,
-    ) {
-        return false;
-    }
+    )
+}
+
+// Both rules for the translation region.
+pub fn translation_fits(g: Geometry, chip: &[u32], spare: &[u32], small: Record) -> Survey
+    requires { ⌜ Accepted (geometry g) ⌝ }
+    requires { ⌜ length (now chip) ≡ chip-size (geometry g) ⌝ }
+    requires { ⌜ length (now spare) ≡ spare-size (geometry g) ⌝ }
+    ensures { λ r. ⌜ Found r (region-sound (geometry g) Translation (now (chip .entry)) (now (spare .entry)) (small-record small))
+        (valid-in (geometry g) Translation (now (spare .entry))) ⌝ }
+{
     region_fits(
+        chip,
         spare,
-        p,
-        d,
+        g.w as usize,
+        translation_pages(g) as u32,
+        g.p as usize,
+        g.d as usize,
         g.t as usize,
         small.open_translation as usize,
         small.translation_offset as usize,

@@ -8,20 +8,19 @@ ghost use Rattle.scope.specs.Decisions.{owners-differ, directory-names};
 ghost use Rattle.scope.specs.Geometry.{Accepted};
 ghost use Rattle.scope.specs.Lent.{spare-size, directory-size};
 ghost use Rattle.scope.specs.Regions.{Translation};
-ghost use Rattle.soundness.specs.Named.{Owners-fit};
+ghost use Rattle.soundness.specs.Named.{Owners-fit, valid-in};
 use crate::tally::Tally;
-use crate::tally::VALID;
 use crate::tally::tally_words;
 use lent::Geometry;
-use words::states::count_state;
 
 // By three counts: the words are none or name a valid page of their own, and of these there are as many as valid pages. What rule 1
 // says of the owners makes that both rules.
-pub fn directory_names(g: Geometry, spare: &[u32], directory: &[u32]) -> bool
+pub fn directory_names(g: Geometry, spare: &[u32], directory: &[u32], valid: usize) -> bool
     requires { ⌜ Accepted (geometry g) ⌝ }
     requires { ⌜ length (now spare) ≡ spare-size (geometry g) ⌝ }
     requires { ⌜ length (now directory) ≡ directory-size (geometry g) ⌝ }
     requires { ⌜ Owners-fit (geometry g) Translation (now spare) ⌝ }
+    requires { ⌜ valid ≡ valid-in (geometry g) Translation (now spare) ⌝ }
     ensures { λ r. ⌜ r ≡ (owners-differ (geometry g) Translation (now (spare .entry))
         && directory-names (geometry g) (now (spare .entry)) (now (directory .entry))) ⌝ }
 {
@@ -32,5 +31,5 @@ pub fn directory_names(g: Geometry, spare: &[u32], directory: &[u32]) -> bool
     if sum.nones + sum.good != directory.len() {
         return false;
     }
-    sum.good == count_state(spare, first, n, VALID)
+    sum.good == valid
 }

@@ -1,35 +1,44 @@
 // Rule 1, page by page: its state, its owner, and, where it is erased, its words. These are swept without leaving the loop at a word, so
-// that a fresh chip is checked at the speed of reading it.
+// that a fresh chip is checked at the speed of reading it. Pages of a block that has no erased one are told by counts, without a branch.
 use crate::erased::only_erased;
-use crate::geometry::translation_pages;
-use lent::Geometry;
+use lent::ERASED;
+use lent::INVALID;
+use lent::NONE;
+use lent::VALID;
+use words::states::count_state;
 ghost use mathlib.Core.Path.{_≡_};
-ghost use mathlib.Core.Bool.{_||_};
-ghost use Prim.Native.Nat.{_+_, _*_, _≤_};
+ghost use mathlib.Core.Bool.{cond};
+ghost use Prim.Native.Nat.{_+_, _*_, _≤_, _<_};
 ghost use lib.Dec.{eqb};
 ghost use lib.ListN.{length};
-ghost use Rattle.scope.specs.Counting.{all};
-ghost use Rattle.scope.specs.Geometry.{Accepted};
-ghost use Rattle.scope.specs.Lent.{valid, invalid, chip-size, spare-size};
-ghost use Rattle.lent.specs.Model.{geometry};
-ghost use Rattle.soundness.specs.Pages.{blank, fits, both-fit};
+ghost use Rattle.scope.specs.Counting.{all, count};
+ghost use Rattle.scope.specs.Lent.{valid, is-valid};
+ghost use Rattle.soundness.specs.Pages.{blank, fits, programmed-fits, programmed-at, Looked};
 
-const NONE: u32 = 4294967295;
+// 1 where a page with this state and owner is programmed as the rule asks, its owner below `limit`, else 0.
+fn fits_programmed(state: u32, owner: u32, limit: u32) -> u32
+    ensures { λ r. ⌜ r ≡ cond (programmed-fits limit state owner) 1 0 ⌝ }
+{
+    if limit <= owner {
+        return 0;
+    }
+    if state == VALID {
+        return 1;
+    }
+    if state == INVALID {
+        return 1;
+    }
+    0
+}
 
-const ERASED: u32 = 4294967295;
-
-const VALID: u32 = 65535;
-
-const INVALID: u32 = 0;
-
-// A programmed page is valid or invalid.
-fn programmed(state: u32) -> bool
-    ensures { λ r. ⌜ r ≡ (eqb state valid || eqb state invalid) ⌝ }
+// 1 where a page with this state is valid, else 0.
+fn is_valid(state: u32) -> u32
+    ensures { λ r. ⌜ r ≡ cond (eqb state valid) 1 0 ⌝ }
 {
     if state == VALID {
-        return true;
+        return 1;
     }
-    state == INVALID
+    0
 }
 
 // Page p of w words has only erased words.
@@ -42,8 +51,8 @@ fn is_blank(chip: &[u32], w: usize, p: usize) -> bool
     only_erased(&chip[at..end])
 }
 
-// The rule for page p, whose owner is to be below `limit`.
-fn page_fits(chip: &[u32], spare: &[u32], w: usize, limit: usize, p: usize) -> bool
+// The rule for page p.
+fn page_fits(chip: &[u32], spare: &[u32], w: usize, limit: u32, p: usize) -> bool
     requires { ⌜ p * w + w ≤ length (now chip) ⌝ }
     requires { ⌜ p * 2 + 2 ≤ length (now spare) ⌝ }
     ensures { λ r. ⌜ r ≡ fits w limit (now (chip .entry)) (now (spare .entry)) p ⌝ }
@@ -56,21 +65,11 @@ fn page_fits(chip: &[u32], spare: &[u32], w: usize, limit: usize, p: usize) -> b
         }
         return is_blank(chip, w, p);
     }
-    if !programmed(state) {
-        return false;
-    }
-    (owner as usize) < limit
+    fits_programmed(state, owner, limit) == 1
 }
 
 // The rule for the n pages from page `first` on.
-pub fn region_fits(
-    chip: &[u32],
-    spare: &[u32],
-    w: usize,
-    limit: usize,
-    first: usize,
-    n: usize,
-) -> bool
+fn pages_fit(chip: &[u32], spare: &[u32], w: usize, limit: u32, first: usize, n: usize) -> bool
     requires { ⌜ (first + n) * w ≤ length (now chip) ⌝ }
     requires { ⌜ (first + n) * 2 ≤ length (now spare) ⌝ }
     ensures { λ r. ⌜ r ≡ all n (λ i. fits w limit (now (chip .entry)) (now (spare .entry)) (first + i)) ⌝ }
@@ -85,24 +84,59 @@ pub fn region_fits(
     true
 }
 
-// The rule for both regions.
-pub fn pages_fit(g: Geometry, chip: &[u32], spare: &[u32]) -> bool
-    requires { ⌜ Accepted (geometry g) ⌝ }
-    requires { ⌜ length (now chip) ≡ chip-size (geometry g) ⌝ }
-    requires { ⌜ length (now spare) ≡ spare-size (geometry g) ⌝ }
-    ensures { λ r. ⌜ r ≡ both-fit (geometry g) (now (chip .entry)) (now (spare .entry)) ⌝ }
+// How many pages are programmed as the rule asks, and how many are valid. In 32 bits, as the words are, so that the compiler counts
+// several pages at a time.
+struct Programmed {
+    fit: u32,
+    valid: u32,
+}
+
+// Of the n pages from `first` on.
+fn count_programmed(spare: &[u32], first: usize, n: usize, limit: u32) -> Programmed
+    requires { ⌜ ((first + n) * 2 ≤ length (now spare)) × (n < 4294967296) ⌝ }
+    ensures { λ r. ⌜ (r .fit ≡ count n (λ i. programmed-at limit (now (spare .entry)) (first + i)))
+        × (r .valid ≡ count n (λ i. is-valid (first + i) (now (spare .entry)))) ⌝ }
 {
-    let w = g.w as usize;
-    let first = g.d as usize * g.p as usize;
-    if !region_fits(chip, spare, w, g.l as usize, 0, first) {
-        return false;
+    let mut fit = 0;
+    let mut valid = 0;
+    let mut i = 0;
+    while i < n {
+        let state = spare[(first + i) * 2];
+        fit += fits_programmed(state, spare[(first + i) * 2 + 1], limit);
+        valid += is_valid(state);
+        i += 1;
     }
-    region_fits(
-        chip,
-        spare,
-        w,
-        translation_pages(g),
-        first,
-        g.t as usize * g.p as usize,
-    )
+    Programmed { fit, valid }
+}
+
+// What is found of a block's pages: whether the rule holds of them, and how many are erased and valid, which other rules ask.
+pub struct Block {
+    pub fits: bool,
+    pub erased: usize,
+    pub valid: usize,
+}
+
+// The block of the n pages from `first` on. Most blocks of a chip in use have no erased page, and the counts tell; only where they
+// don't, each page is looked at.
+pub fn look(chip: &[u32], spare: &[u32], w: usize, limit: u32, first: usize, n: usize) -> Block
+    requires { ⌜ (first + n) * w ≤ length (now chip) ⌝ }
+    requires { ⌜ ((first + n) * 2 ≤ length (now spare)) × (n < 4294967296) ⌝ }
+    ensures { λ r. ⌜ Looked w limit (now (chip .entry)) (now (spare .entry)) first n r ⌝ }
+{
+    let counts = count_programmed(spare, first, n, limit);
+    let valid = counts.valid as usize;
+    if counts.fit as usize == n {
+        return Block {
+            fits: true,
+            erased: 0,
+            valid,
+        };
+    }
+    let fits = pages_fit(chip, spare, w, limit, first, n);
+    let erased = count_state(spare, first, n, ERASED);
+    Block {
+        fits,
+        erased,
+        valid,
+    }
 }

@@ -17,19 +17,17 @@ ghost use Rattle.scope.specs.Sound.{Directory-names, Entries-fit};
 ghost use Rattle.soundness.specs.Erased.{only-erased};
 ghost use Rattle.soundness.specs.PastL.{behind-words};
 ghost use Rattle.soundness.specs.Places.{Current-places, None-past, sums-agree};
-ghost use Rattle.soundness.specs.Named.{Owners-fit};
+ghost use Rattle.soundness.specs.Named.{Owners-fit, valid-in};
 ghost use Rattle.soundness.specs.Stored.{parts};
 ghost use Rattle.soundness.specs.Tally.{nothing, Counted, Room, Tallied, Tallied-word, Tallied-words};
 ghost use Rattle.soundness.specs.Translated.{Names-on-chip, held-words, Tallied-page, stored-none, stored-good, cached-none, cached-good, hidden-none, hidden-good};
 use crate::erased::only_erased;
 use crate::stored::stored;
 use crate::tally::Tally;
-use crate::tally::VALID;
 use crate::tally::tallied;
 use crate::tally::tally_words;
 use lent::Entry;
 use lent::Geometry;
-use words::states::count_state;
 
 fn least(a: usize, b: usize) -> usize
     ensures { λ r. ⌜ r ≡ min a b ⌝ }
@@ -209,12 +207,14 @@ fn current_places(
     directory: &[u32],
     cache: &[u32],
     used: u32,
+    valid: usize,
 ) -> bool
     requires { ⌜ Accepted (geometry g) ⌝ }
     requires { ⌜ Lengths-fit (geometry g) (now chip) (now spare) (now directory) (now cache) ⌝ }
     requires { ⌜ Owners-fit (geometry g) Data (now spare) ⌝ }
     requires { ⌜ Names-on-chip (geometry g) (now directory) ⌝ }
     requires { ⌜ Entries-fit (geometry g) (now cache) used ⌝ }
+    requires { ⌜ valid ≡ valid-in (geometry g) Data (now spare) ⌝ }
     ensures { λ r. ⌜ Decides r (Current-places (geometry g)
         (parts (now (chip .entry)) (now (spare .entry)) (now (directory .entry)) (now (cache .entry)) used)) ⌝ }
 {
@@ -222,7 +222,6 @@ fn current_places(
     let held = tally_stored(g, chip, spare, directory);
     let has = tally_cached(cache, used as usize, spare, n);
     let hides = tally_hidden(g, chip, spare, directory, cache, used as usize);
-    let valid = count_state(spare, 0, n, VALID);
     sums_agree(held, has, hides, g.l as usize, valid)
 }
 
@@ -234,16 +233,18 @@ pub fn places_hold(
     directory: &[u32],
     cache: &[u32],
     used: u32,
+    valid: usize,
 ) -> bool
     requires { ⌜ Accepted (geometry g) ⌝ }
     requires { ⌜ Lengths-fit (geometry g) (now chip) (now spare) (now directory) (now cache) ⌝ }
     requires { ⌜ Owners-fit (geometry g) Data (now spare) ⌝ }
     requires { ⌜ Directory-names (geometry g) (now spare) (now directory) ⌝ }
     requires { ⌜ Entries-fit (geometry g) (now cache) used ⌝ }
+    requires { ⌜ valid ≡ valid-in (geometry g) Data (now spare) ⌝ }
     ensures { λ r. ⌜ r ≡ (owners-differ (geometry g) Data (now (spare .entry)) && places-hold (geometry g)
         (parts (now (chip .entry)) (now (spare .entry)) (now (directory .entry)) (now (cache .entry)) used)) ⌝ }
 {
-    if !current_places(g, chip, spare, directory, cache, used) {
+    if !current_places(g, chip, spare, directory, cache, used, valid) {
         return false;
     }
     none_past(g, chip, directory)

@@ -7,31 +7,42 @@ ghost use Rattle.lent.specs.Model.{geometry, state, small};
 ghost use Rattle.scope.specs.Decisions.{sound};
 ghost use Rattle.scope.specs.Geometry.{Accepted};
 ghost use Rattle.scope.specs.Lent.{chip-size, spare-size, directory-size};
+ghost use Rattle.scope.specs.Regions.{Data};
+ghost use Rattle.soundness.specs.Named.{valid-in};
+ghost use Rattle.soundness.specs.Survey.{Found};
 ghost use Rattle.soundness.specs.Whole.{flash-sound, cache-sound, Flash-holds};
-use crate::blocks::blocks_fit;
+use crate::blocks::Survey;
+use crate::blocks::data_fits;
+use crate::blocks::translation_fits;
 use crate::directory::directory_names;
 use crate::entries::entries_fit;
-use crate::pages::pages_fit;
 use crate::places::places_hold;
 use crate::stored::unchanged_agree;
 use lent::Geometry;
 use lent::Record;
 
-// Rules 1 to 4, of chip, spare and directory.
-fn flash_sound(g: Geometry, chip: &[u32], spare: &[u32], directory: &[u32], rec: Record) -> bool
+// Rules 1 to 4, of chip, spare and directory; where they hold, the valid data pages are counted too.
+fn flash_sound(g: Geometry, chip: &[u32], spare: &[u32], directory: &[u32], rec: Record) -> Survey
     requires { ⌜ Accepted (geometry g) ⌝ }
     requires { ⌜ length (now chip) ≡ chip-size (geometry g) ⌝ }
     requires { ⌜ length (now spare) ≡ spare-size (geometry g) ⌝ }
     requires { ⌜ length (now directory) ≡ directory-size (geometry g) ⌝ }
-    ensures { λ r. ⌜ r ≡ flash-sound (geometry g) (now (chip .entry)) (now (spare .entry)) (now (directory .entry)) (small rec) ⌝ }
+    ensures { λ r. ⌜ Found r (flash-sound (geometry g) (now (chip .entry)) (now (spare .entry)) (now (directory .entry)) (small rec))
+        (valid-in (geometry g) Data (now (spare .entry))) ⌝ }
 {
-    if !pages_fit(g, chip, spare) {
-        return false;
+    let data = data_fits(g, chip, spare, rec);
+    if !data.fits {
+        return data;
     }
-    if !blocks_fit(g, spare, rec) {
-        return false;
+    let translation = translation_fits(g, chip, spare, rec);
+    if !translation.fits {
+        return translation;
     }
-    directory_names(g, spare, directory)
+    let fits = directory_names(g, spare, directory, translation.valid);
+    Survey {
+        fits,
+        valid: data.valid,
+    }
 }
 
 // Rules 5 to 7, of the cache, its places and its entries' words.
@@ -42,16 +53,18 @@ fn cache_sound(
     directory: &[u32],
     cache: &[u32],
     used: u32,
+    valid: usize,
 ) -> bool
     requires { ⌜ Accepted (geometry g) ⌝ }
     requires { ⌜ Lengths-fit (geometry g) (now chip) (now spare) (now directory) (now cache) ⌝ }
     requires { ⌜ Flash-holds (geometry g) (now spare) (now directory) ⌝ }
+    requires { ⌜ valid ≡ valid-in (geometry g) Data (now spare) ⌝ }
     ensures { λ r. ⌜ r ≡ cache-sound (geometry g) (now (chip .entry)) (now (spare .entry)) (now (directory .entry)) (now (cache .entry)) used ⌝ }
 {
     if !entries_fit(g, cache, used) {
         return false;
     }
-    if !places_hold(g, chip, spare, directory, cache, used) {
+    if !places_hold(g, chip, spare, directory, cache, used, valid) {
         return false;
     }
     unchanged_agree(g, chip, directory, cache, used)
@@ -71,8 +84,9 @@ pub fn is_sound(
     ensures { λ r. ⌜ r ≡ sound (geometry g)
         (state (now (chip .entry)) (now (spare .entry)) (now (directory .entry)) (now (cache .entry)) rec) ⌝ }
 {
-    if !flash_sound(g, chip, spare, directory, rec) {
+    let flash = flash_sound(g, chip, spare, directory, rec);
+    if !flash.fits {
         return false;
     }
-    cache_sound(g, chip, spare, directory, cache, rec.used)
+    cache_sound(g, chip, spare, directory, cache, rec.used, flash.valid)
 }

@@ -7,11 +7,8 @@ ghost use lib.ListN.{length};
 ghost use Rattle.scope.specs.Geometry.{most-pages};
 ghost use Rattle.soundness.specs.Named.{owns, is-none};
 ghost use Rattle.soundness.specs.Tally.{Room, Tallied-word, Tallied, word-none, word-good};
-
-// The state of a valid page.
-pub const VALID: u32 = 65535;
-
-const NONE: u32 = 4294967295;
+use lent::NONE;
+use lent::VALID;
 
 pub struct Tally {
     pub nones: usize,

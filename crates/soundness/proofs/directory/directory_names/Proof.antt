@@ -1,7 +1,6 @@
 -- `soundness::directory::directory_names` meets its contract: the counts are the ones that decide rule 4.
 use native.Mathlib.Nat.{add-mul}
 use native.Mathlib.Omega.{arith}
-use mathlib.Core.Path.{refl}
 use borrow.Author.Needs.{needs}
 use borrow.Author.Tests.{eq-eqb, ne-eqb}
 use denote.Ref.{now}
@@ -54,19 +53,16 @@ returns c =
     let a = c .before .before .before .before .before .before .before .before .args in
     let pre = c .before .before .before .before .before .before .before .before .pre in
     rw (ne-eqb _ _ (c .if1 .taken)) at
-    (directory-counts (geometry (a .g)) (now (a .spare)) (now (a .directory)) (pre .0) (pre .1 .1 .1) (pre .1 .1 .0)
-    (c .before .before .tally-words .result) (c .before .before .tally-words .ensures) _ refl)
-
-count-state-requires : tie.Need-count-state-requires
-count-state-requires c κs = search needs
+    (directory-counts (geometry (a .g)) (now (a .spare)) (now (a .directory)) (pre .0) (pre .1 .1 .1 .0) (pre .1 .1 .0)
+    (c .before .before .tally-words .result) (c .before .before .tally-words .ensures) (a .valid) (pre .1 .1 .1 .1))
 
 returns-2 : tie.Need-returns-2
 returns-2 c =
-    let a = c .before .before .before .before .before .before .before .before .before .before .args in
-    let pre = c .before .before .before .before .before .before .before .before .before .before .pre in
-    rw (eq-eqb _ _ (c .before .before .if1 .left)) at
-    (directory-counts (geometry (a .g)) (now (a .spare)) (now (a .directory)) (pre .0) (pre .1 .1 .1) (pre .1 .1 .0)
-    (c .before .before .before .before .tally-words .result) (c .before .before .before .before .tally-words .ensures) (c .before .count-state .result) (c .before .count-state .ensures))
+    let a = c .before .before .before .before .before .before .before .before .before .args in
+    let pre = c .before .before .before .before .before .before .before .before .before .pre in
+    rw (eq-eqb _ _ (c .before .if1 .left)) at
+    (directory-counts (geometry (a .g)) (now (a .spare)) (now (a .directory)) (pre .0) (pre .1 .1 .1 .0) (pre .1 .1 .0)
+    (c .before .before .before .tally-words .result) (c .before .before .before .tally-words .ensures) (a .valid) (pre .1 .1 .1 .1))
 
 pub directory-names-spec : {M : Type 1} → statement M
 directory-names-spec =
@@ -80,5 +76,4 @@ directory-names-spec =
     tally-words-requires
     add-if1
     returns
-    count-state-requires
     returns-2)

@@ -1,14 +1,12 @@
 -- `pages::page_fits` meets its contract.
-use Prim.Native.Nat.{_+_, _*_}
+use Prim.Native.Nat.{ℕ, _+_, _*_}
 use mathlib.Core.Bool.{Bool, false}
-use mathlib.Core.Path.{_≡_, _∙_}
-use native.Mathlib.Omega.{arith}
+use mathlib.Core.Path.{_≡_, ap, sym, _∙_}
+use lib.Dec.{eqb}
 use lib.ListN.{getD}
 use borrow.Author.Needs.{needs}
 use borrow.Author.Tests.{eq-eqb, ne-eqb}
-use Rattle.soundness.specs.Bools.{refused, passed}
-use Rattle.soundness.specs.Pages.{blank, fits, fits-words}
-use Rattle.soundness.specs.Pages.{fits-read}
+use Rattle.soundness.specs.Pages.{blank, fits, fits-words, fits-read, fits-programmed, programmed-fits, bit-passes}
 use Rattle.soundness.proofs.pages.page_fits.Statement.{statement}
 use Rattle.soundness.proofs.pages.page_fits.Tie as tie
 
@@ -49,19 +47,17 @@ returns-2 : tie.Need-returns-2
 returns-2 c =
     by-words (c .before .before .before .before .before .before .before) (c .is-blank .result) (simp (eq-eqb _ _ (c .before .before .if1 .taken), eq-eqb _ _ (c .before .if2 .left)) (c .is-blank .ensures))
 
-programmed-requires : tie.Need-programmed-requires
-programmed-requires c κs = search needs
+fits-programmed-requires : tie.Need-fits-programmed-requires
+fits-programmed-requires c κs = search needs
 
 returns-3 : tie.Need-returns-3
 returns-3 c =
-    by-words (c .before .before .before .before .before .before .before) false (simp (ne-eqb _ _ (c .before .before .if1 .left), refused (c .before .programmed .ensures) (c .if3 .taken)))
-
-cast-result : tie.Need-cast-result
-cast-result c = omega (arith, c .before .before .before .shared-slice-known4 .given (c .before .before .before .before .before .before .before .args .p * 2 + 1))
-
-returns-4 : tie.Need-returns-4
-returns-4 c =
-    by-words (c .before .before .before .before .before .before .before) _ (simp (ne-eqb _ _ (c .before .before .if1 .left), passed (c .before .programmed .ensures) (c .if3 .left)))
+    let a = c .before .before .before .before .before .before .args in
+    let state = getD (a .spare .now) (a .p * 2) 0 in
+    let owner = getD (a .spare .now) (a .p * 2 + 1) 0 in
+    by-words (c .before .before .before .before .before .before) (eqb (c .fits-programmed .result) 1)
+    (ap (λ (x : ℕ). eqb x 1) (c .fits-programmed .ensures) ∙ bit-passes (programmed-fits (a .limit) state owner)
+    ∙ sym (fits-programmed (a .limit) state owner (blank (a .w) (a .chip .now) (a .p)) (c .before .if1 .left)))
 
 pub page-fits-spec : {M : Type 1} → statement M
 page-fits-spec =
@@ -77,7 +73,5 @@ page-fits-spec =
     returns
     is-blank-requires
     returns-2
-    programmed-requires
-    returns-3
-    cast-result
-    returns-4)
+    fits-programmed-requires
+    returns-3)

@@ -1,81 +1,59 @@
 -- `pages::pages_fit` meets its contract.
-use Prim.Native.Nat.{_*_}
-use mathlib.Core.Path.{_≡_, refl, sym, _∙_}
-use native.Mathlib.Nat.{zero-mul}
+use Prim.Native.Nat.{_+_, _-_, _≤_}
+use mathlib.Core.Bool.{true}
+use mathlib.Core.Path.{_≡_, refl}
+use native.Mathlib.Omega.{arith}
 use borrow.Author.Needs.{needs}
-use Rattle.scope.specs.Decisions.{pages-fit}
-use Rattle.scope.specs.Regions.{Data, Translation}
-use Rattle.lent.specs.Model.{geometry}
-use Rattle.soundness.specs.Bools.{first-refused, first-passed}
-use Rattle.soundness.specs.Pages.{fits-region}
+use Rattle.scope.specs.Counting.{all}
+use Rattle.soundness.specs.Bools.{refused, passed, all-more, all-stops, all-done}
+use Rattle.soundness.specs.Pages.{fits}
+use Rattle.soundness.specs.Sizes.{piece-inside}
 use Rattle.soundness.proofs.pages.pages_fit.Statement.{statement}
 use Rattle.soundness.proofs.pages.pages_fit.Tie as tie
 
-data-tested : (c : tie.After-region-fits)
-    → let a = c .before .before .before .before .before .before .before .args in
-    c .region-fits .result ≡ pages-fit (geometry (a .g)) Data (a .chip .now) (a .spare .now)
-data-tested c =
-    let a = c .before .before .before .before .before .before .before .args in
-    c .region-fits .ensures
-    ∙ fits-region (geometry (a .g)) Data (a .chip .now) (a .spare .now) 0 (a .g .l) (sym (zero-mul (a .g .p))) refl
+abbrev Inv-loop : tie.InvT-loop
+Inv-loop chip spare w limit first n i₀ i = (i ≤ n) × (all i (λ j. fits w limit chip spare (first + j)) ≡ true)
 
-cast-w : tie.Need-cast-w
-cast-w c = search needs
+abbrev μ-loop : tie.MeasureT-loop
+μ-loop chip spare w limit first n i₀ i = n - i
 
-cast-first : tie.Need-cast-first
-cast-first c = search needs
+loop-holds : tie.Need-loop-holds Inv-loop μ-loop
+loop-holds c = (omega arith, refl)
 
-cast-first-2 : tie.Need-cast-first-2
-cast-first-2 c = search needs
+add-page-fits : tie.Need-add-page-fits Inv-loop μ-loop
+add-page-fits c = omega arith
 
-mul-first : tie.Need-mul-first
-mul-first c = search needs
+page-fits-requires : tie.Need-page-fits-requires Inv-loop μ-loop
+page-fits-requires c κs =
+    let a = c .before .before .before .before .args in
+    (omega (arith, piece-inside (a .w) (a .first + a .n) (a .first + c .before .loop .i) (omega arith), c .before .before .before .before .pre .0), omega arith)
 
-cast-region-fits : tie.Need-cast-region-fits
-cast-region-fits c = search needs
+returns : tie.Need-returns Inv-loop μ-loop
+returns c = all-stops _ (c .before .before .before .loop .i) (c .before .before .before .before .before .before .args .n) (omega arith) (refused (c .before .page-fits .ensures) (c .if1 .taken))
 
-region-fits-requires : tie.Need-region-fits-requires
-region-fits-requires c κs = search needs
+add-i : tie.Need-add-i Inv-loop μ-loop
+add-i c = search needs
 
-returns : tie.Need-returns
-returns c = first-refused _ (data-tested (c .before)) (c .if1 .taken)
+loop-less : tie.Need-loop-less Inv-loop μ-loop
+loop-less c = search needs
 
-translation-pages-requires : tie.Need-translation-pages-requires
-translation-pages-requires c κs = search needs
+loop-again : tie.Need-loop-again Inv-loop μ-loop
+loop-again c = (omega arith, all-more _ (c .before .before .before .loop .i) (c .before .before .before .loop .inv .1) (passed (c .before .page-fits .ensures) (c .if1 .left)))
 
-cast-region-fits-2 : tie.Need-cast-region-fits-2
-cast-region-fits-2 c = search needs
-
-cast-region-fits-3 : tie.Need-cast-region-fits-3
-cast-region-fits-3 c = search needs
-
-mul-region-fits : tie.Need-mul-region-fits
-mul-region-fits c = search needs
-
-region-fits-requires-2 : tie.Need-region-fits-requires-2
-region-fits-requires-2 c κs = search needs
-
-returns-2 : tie.Need-returns-2
-returns-2 c =
-    let a = c .before .before .before .before .before .before .before .before .before .before .before .before .args in
-    first-passed (data-tested (c .before .before .before .before .before)) (c .before .before .before .before .if1 .left)
-    (c .region-fits2 .ensures
-    ∙ fits-region (geometry (a .g)) Translation (a .chip .now) (a .spare .now) (a .g .d * a .g .p) (c .before .before .before .translation-pages .result) refl (c .before .before .before .translation-pages .ensures))
+returns-2 : tie.Need-returns-2 Inv-loop μ-loop
+returns-2 c = all-done _ (c .before .loop .i) (c .before .before .before .before .args .n) (omega arith) (omega arith) (c .before .loop .inv .1)
 
 pub pages-fit-spec : {M : Type 1} → statement M
 pages-fit-spec =
     tie.close
     (tie.spec
-    cast-w
-    cast-first
-    cast-first-2
-    mul-first
-    cast-region-fits
-    region-fits-requires
+    Inv-loop
+    μ-loop
+    loop-holds
+    add-page-fits
+    page-fits-requires
     returns
-    translation-pages-requires
-    cast-region-fits-2
-    cast-region-fits-3
-    mul-region-fits
-    region-fits-requires-2
+    add-i
+    loop-less
+    loop-again
     returns-2)

@@ -10,8 +10,8 @@ use Rattle.flash.specs.Counting.{count-le}
 use Rattle.lent.specs.Model.{geometry}
 use Rattle.scope.specs.Laws.Decides.{Decides}
 use Rattle.scope.specs.Lent.{is-valid}
-use Rattle.scope.specs.Regions.{Data}
-use Rattle.soundness.specs.Named.{data-small, owners-small}
+use Rattle.scope.specs.Regions.{Data, first-page, region-pages}
+use Rattle.soundness.specs.Named.{data-small, region-small, owners-small}
 use Rattle.soundness.specs.Places.{Current-places, places-by-sums}
 use Rattle.soundness.specs.Stored.{parts}
 use Rattle.soundness.specs.Tally.{tallied-most}
@@ -36,7 +36,7 @@ tally-cached-requires : tie.Need-tally-cached-requires
 tally-cached-requires c κs =
     let g = geometry (c .before .before .before .before .before .before .before .args .g) in
     let pre = c .before .before .before .before .before .before .before .pre in
-    let few = pre .1 .1 .1 .1 .at-most in (
+    let few = pre .1 .1 .1 .1 .0 .at-most in (
       (omega (arith, few, pre .1 .0 .cache-fits), omega (arith, few, pre .0 .C-to)),
       (omega (arith, pre .1 .0 .spare-fits, add-mul (g .D) (g .T) (g .P)), data-small g (pre .0)),
     )
@@ -44,40 +44,35 @@ tally-cached-requires c κs =
 tally-hidden-requires : tie.Need-tally-hidden-requires
 tally-hidden-requires c κs =
     let pre = c .before .before .before .before .before .before .before .before .pre in
-    let few = pre .1 .1 .1 .1 .at-most in
+    let few = pre .1 .1 .1 .1 .0 .at-most in
     (pre .0, (pre .1 .0 .spare-fits, (omega (arith, few, pre .1 .0 .cache-fits), omega (arith, few, pre .0 .C-to))))
-
-count-state-requires : tie.Need-count-state-requires
-count-state-requires c κs =
-    let g = geometry (c .before .before .before .before .before .before .before .before .before .args .g) in
-    omega (arith, c .before .before .before .before .before .before .before .before .before .pre .1 .0 .spare-fits, add-mul (g .D) (g .T) (g .P))
 
 cast-sums-agree : tie.Need-cast-sums-agree
 cast-sums-agree c = search needs
 
 sums-agree-requires : tie.Need-sums-agree-requires
 sums-agree-requires c κs =
-    let g = geometry (c .before .before .before .before .before .before .before .before .before .before .before .args .g) in
-    let pre = c .before .before .before .before .before .before .before .before .before .before .before .pre in
-    let few = pre .1 .1 .1 .1 .at-most in (
+    let g = geometry (c .before .before .before .before .before .before .before .before .before .before .args .g) in
+    let pre = c .before .before .before .before .before .before .before .before .before .before .pre in
+    let few = pre .1 .1 .1 .1 .0 .at-most in (
       (
-        tallied-most _ _ 65536 _ _ (c .before .before .before .before .tally-stored .ensures) (owners-small g Data (pre .0)),
-        tallied-most _ _ 65536 _ _ (c .before .before .before .tally-cached .ensures) (omega (arith, few, pre .0 .C-to)),
-        tallied-most _ _ 65536 _ _ (c .before .before .tally-hidden .ensures) (omega (arith, few, pre .0 .C-to)),
+        tallied-most _ _ 65536 _ _ (c .before .before .before .tally-stored .ensures) (owners-small g Data (pre .0)),
+        tallied-most _ _ 65536 _ _ (c .before .before .tally-cached .ensures) (omega (arith, few, pre .0 .C-to)),
+        tallied-most _ _ 65536 _ _ (c .before .tally-hidden .ensures) (omega (arith, few, pre .0 .C-to)),
       ),
       owners-small g Data (pre .0),
-      omega (arith, c .before .count-state .ensures, count-le (g .D * g .P) (λ i. is-valid (0 + i) (now (c .before .before .before .before .before .before .before .before .before .before .before .args .spare))), data-small g (pre .0)),
+      omega (arith, pre .1 .1 .1 .1 .1, count-le (region-pages g Data) (λ i. is-valid (first-page g Data + i) (now (c .before .before .before .before .before .before .before .before .before .before .args .spare))), region-small g Data (pre .0)),
     )
 
 returns : tie.Need-returns
 returns c =
-    let a = c .before .before .before .before .before .before .before .before .before .before .before .before .args in
-    let pre = c .before .before .before .before .before .before .before .before .before .before .before .before .pre in
+    let a = c .before .before .before .before .before .before .before .before .before .before .before .args in
+    let pre = c .before .before .before .before .before .before .before .before .before .before .before .pre in
     let s = parts (now (a .chip)) (now (a .spare)) (now (a .directory)) (now (a .cache)) (a .used) in
     subst (λ (b : Bool). Decides b (Current-places (geometry (a .g)) s)) (sym (c .sums-agree .ensures))
-    (places-by-sums (geometry (a .g)) s (pre .0) (pre .1 .1 .0) (pre .1 .1 .1 .1)
-    (c .before .before .before .before .before .tally-stored .result) (c .before .before .before .before .tally-cached .result) (c .before .before .before .tally-hidden .result) (c .before .before .count-state .result)
-    (c .before .before .before .before .before .tally-stored .ensures) (c .before .before .before .before .tally-cached .ensures) (c .before .before .before .tally-hidden .ensures) (c .before .before .count-state .ensures))
+    (places-by-sums (geometry (a .g)) s (pre .0) (pre .1 .1 .0) (pre .1 .1 .1 .1 .0)
+    (c .before .before .before .before .tally-stored .result) (c .before .before .before .tally-cached .result) (c .before .before .tally-hidden .result) (a .valid)
+    (c .before .before .before .before .tally-stored .ensures) (c .before .before .before .tally-cached .ensures) (c .before .before .tally-hidden .ensures) (pre .1 .1 .1 .1 .1))
 
 pub current-places-spec : {M : Type 1} → statement M
 current-places-spec =
@@ -89,7 +84,6 @@ current-places-spec =
     tally-stored-requires
     tally-cached-requires
     tally-hidden-requires
-    count-state-requires
     cast-sums-agree
     sums-agree-requires
     returns)

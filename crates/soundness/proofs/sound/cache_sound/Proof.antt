@@ -22,7 +22,7 @@ places-hold-requires c κs =
     let a = c .before .before .before .before .before .before .args in
     let pre = c .before .before .before .before .before .before .pre in
     let entries = entries-fit-decided (geometry (a .g)) (now (a .cache)) (a .used) .holds (passed (c .before .entries-fit .ensures) (c .if1 .left)) in
-    (pre .0, (pre .1 .0, (pre .1 .1 .owned, (pre .1 .1 .named, entries))))
+    (pre .0, (pre .1 .0, (pre .1 .1 .0 .owned, (pre .1 .1 .0 .named, (entries, pre .1 .1 .1)))))
 
 returns-2 : tie.Need-returns-2
 returns-2 c =

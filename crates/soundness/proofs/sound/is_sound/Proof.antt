@@ -1,9 +1,10 @@
 -- `soundness::sound::is_sound` meets its contract: all seven rules.
 use mathlib.Core.Path.{_∙_}
 use borrow.Author.Needs.{needs}
+use borrow.Author.Tests.{not-false}
 use denote.Ref.{now}
-use Rattle.soundness.specs.Bools.{refused, passed}
 use Rattle.lent.specs.Model.{geometry, small}
+use Rattle.soundness.specs.Bools.{refused, passed}
 use Rattle.soundness.specs.Whole.{flash-holds, flash-fails, cache-tells}
 use Rattle.soundness.proofs.sound.is_sound.Statement.{statement}
 use Rattle.soundness.proofs.sound.is_sound.Tie as tie
@@ -13,27 +14,25 @@ flash-sound-requires c κs = search needs
 
 returns : tie.Need-returns
 returns c =
-    let a = c .before .before .before .before .before .before .args in
-    flash-fails (geometry (a .g)) (now (a .chip)) (now (a .spare)) (now (a .directory)) (now (a .cache)) (a .rec) (refused (c .before .flash-sound .ensures) (c .if1 .taken))
+    let a = c .before .before .before .before .before .before .before .args in
+    flash-fails (geometry (a .g)) (now (a .chip)) (now (a .spare)) (now (a .directory)) (now (a .cache)) (a .rec) (refused (c .before .before .flash-sound .ensures .tells) (c .if1 .taken))
 
 cache-sound-requires : tie.Need-cache-sound-requires
 cache-sound-requires c κs =
-    let a = c .before .before .before .before .before .before .args in
-    let pre = c .before .before .before .before .before .before .pre in (
+    let a = c .before .before .before .before .before .before .before .args in
+    let pre = c .before .before .before .before .before .before .before .pre in
+    let flash = c .before .before .flash-sound .ensures in (
       pre .0,
-      (
-        pre .1,
-        flash-holds (geometry (a .g)) (now (a .chip)) (now (a .spare)) (now (a .directory)) (small (a .rec))
-            (passed (c .before .flash-sound .ensures) (c .if1 .left)),
-      ),
+      (pre .1, (flash-holds (geometry (a .g)) (now (a .chip)) (now (a .spare)) (now (a .directory)) (small (a .rec)) (passed (flash .tells) (c .if1 .left)), flash .counts (not-false _ (c .if1 .left)))),
     )
 
 returns-2 : tie.Need-returns-2
 returns-2 c =
-    let a = c .before .before .before .before .before .before .before .args in
+    let a = c .before .before .before .before .before .before .before .before .args in
     c .cache-sound .ensures
     ∙ cache-tells (geometry (a .g)) (now (a .chip)) (now (a .spare)) (now (a .directory)) (now (a .cache)) (a .rec)
-    (passed (c .before .before .flash-sound .ensures) (c .before .if1 .left))
+    (passed (c .before .before .before .flash-sound .ensures .tells) (c .before .if1 .left))
 
 pub is-sound-spec : {M : Type 1} → statement M
-is-sound-spec = tie.close (tie.spec flash-sound-requires returns cache-sound-requires returns-2)
+is-sound-spec =
+    tie.close (tie.spec flash-sound-requires returns cache-sound-requires returns-2)

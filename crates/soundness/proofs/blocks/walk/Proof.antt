@@ -1,0 +1,136 @@
+-- `blocks::walk` meets its contract. The invariant: rules 1 and 3 hold of the blocks before i, whose valid pages are counted.
+use Prim.Native.Nat.{ℕ, _+_, _-_, _*_, _≤_}
+use mathlib.Core.Path.{_≡_, ap, _∙_}
+use mathlib.Core.Bool.{cond}
+use native.Mathlib.Nat.{mul-le-mul-right}
+use native.Mathlib.Omega.{arith}
+use lib.Dec.{eqb}
+use borrow.Author.Needs.{needs}
+use borrow.Author.Tests.{not-true, not-false}
+use Rattle.soundness.specs.Blocks.{adds, blocks-inside, block-inside}
+use Rattle.soundness.specs.Bools.{refused, passed}
+use Rattle.soundness.specs.Sizes.{piece-inside}
+use Rattle.soundness.specs.Survey.{Walked, walked-none, walked-more, walked-all, pages-stop, blocks-stop, few-valid, found-broken}
+use Rattle.soundness.proofs.blocks.walk.Statement.{statement}
+use Rattle.soundness.proofs.blocks.walk.Tie as tie
+
+abbrev Inv-loop : tie.InvT-loop
+Inv-loop chip spare w limit p first n opened total₀ valid₀ i₀ total valid i =
+    (i ≤ n) × Walked w limit p first chip spare opened i total valid
+
+abbrev μ-loop : tie.MeasureT-loop
+μ-loop chip spare w limit p first n opened total₀ valid₀ i₀ total valid i = n - i
+
+-- What block i adds to the erased pages of the blocks besides the open one.
+added : (c : tie.After-besides Inv-loop μ-loop)
+    → let a = c .before .before .before .before .before .before .before .before .args in
+    c .besides .result ≡ adds (a .p) (a .first) (a .spare .now) (a .opened) (c .before .before .before .before .before .loop .i)
+added c =
+    let a = c .before .before .before .before .before .before .before .before .args in
+    c .besides .ensures ∙ ap (λ (x : ℕ). cond (eqb (a .first + c .before .before .before .before .before .loop .i) (a .opened)) 0 x) (c .before .before .before .look .ensures .erased-are)
+
+-- A turn whose block breaks no rule.
+turn : (c : tie.Else2 Inv-loop μ-loop)
+    → let a = c .before .before .before .before .before .before .before .before .before .before .args in
+    let at-loop = c .before .before .before .before .before .before .before .loop in
+    Walked (a .w) (a .limit) (a .p) (a .first) (a .chip .now) (a .spare .now) (a .opened) (at-loop .i + 1) (at-loop .total + c .before .before .besides .result) (at-loop .valid + c .before .before .before .before .before .look .result .valid)
+turn c =
+    let a = c .before .before .before .before .before .before .before .before .before .before .args in
+    let at-loop = c .before .before .before .before .before .before .before .loop in
+    walked-more (a .w) (a .limit) (a .p) (a .first) (a .chip .now) (a .spare .now) (a .opened) (at-loop .i) (at-loop .total) (at-loop .valid) (c .before .before .besides .result) (c .before .before .before .before .before .look .result)
+    (c .before .before .before .before .before .before .before .before .before .before .pre .0 .0) (at-loop .inv .1) (c .before .before .before .before .before .look .ensures) (not-false _ (c .before .before .before .if1 .left)) (added (c .before .before))
+    (passed (c .before .none-or-all .ensures) (c .if2 .left))
+
+-- So many pages are in the slices.
+few : (c : tie.Else2 Inv-loop μ-loop) → let a = c .before .before .before .before .before .before .before .before .before .before .args in (c .before .before .before .before .before .before .before .loop .i + 1) * a .p ≤ (a .first + a .n) * a .p
+few c = let a = c .before .before .before .before .before .before .before .before .before .before .args in mul-le-mul-right (a .p) (omega (arith, c .before .before .before .before .before .before .loop-test))
+
+loop-holds : tie.Need-loop-holds Inv-loop μ-loop
+loop-holds c = (omega arith, walked-none _ _ _ _ _ _ _)
+
+add-b : tie.Need-add-b Inv-loop μ-loop
+add-b c =
+    let a = c .before .before .before .before .args in
+    omega (arith, blocks-inside (a .p) (a .first) (a .n) _ (c .before .before .before .before .pre .0 .0) (c .before .before .before .before .pre .1 .1))
+
+mul-look : tie.Need-mul-look Inv-loop μ-loop
+mul-look c =
+    let a = c .before .before .before .before .args in
+    omega (arith, block-inside (a .p) (a .first) (a .n) (a .first + c .before .loop .i) _ (omega arith) (c .before .before .before .before .pre .1 .1))
+
+look-requires : tie.Need-look-requires Inv-loop μ-loop
+look-requires c κs =
+    let a = c .before .before .before .before .args in
+    let b = a .first + c .before .loop .i in
+    let inside : b * a .p + a .p ≤ (a .first + a .n) * a .p = piece-inside (a .p) (a .first + a .n) b (omega arith) in (
+      omega (arith, mul-le-mul-right (a .w) inside, c .before .before .before .before .pre .1 .0),
+      (omega (arith, inside, c .before .before .before .before .pre .1 .1), c .before .before .before .before .pre .0 .1),
+    )
+
+broken-requires : tie.Need-broken-requires Inv-loop μ-loop
+broken-requires c κs = search needs
+
+returns : tie.Need-returns Inv-loop μ-loop
+returns c =
+    let a = c .before .before .before .before .before .before .before .before .args in
+    found-broken _ _ _ (c .broken .ensures)
+    (pages-stop (a .w) (a .limit) (a .p) (a .first) (a .chip .now) (a .spare .now) (a .opened) (c .before .before .before .before .before .loop .i) (a .n) (c .before .before .before .look .result) (omega arith) (c .before .before .before .look .ensures) (not-true _ (c .before .if1 .taken)))
+
+besides-requires : tie.Need-besides-requires Inv-loop μ-loop
+besides-requires c κs = search needs
+
+none-or-all-requires : tie.Need-none-or-all-requires Inv-loop μ-loop
+none-or-all-requires c κs = search needs
+
+broken-requires-2 : tie.Need-broken-requires-2 Inv-loop μ-loop
+broken-requires-2 c κs = search needs
+
+returns-2 : tie.Need-returns-2 Inv-loop μ-loop
+returns-2 c =
+    let a = c .before .before .before .before .before .before .before .before .before .before .before .args in
+    found-broken _ _ _ (c .broken2 .ensures)
+    (blocks-stop (a .w) (a .limit) (a .p) (a .first) (a .chip .now) (a .spare .now) (a .opened) (c .before .before .before .before .before .before .before .before .loop .i) (a .n) (c .before .before .before .besides .result) (omega arith) (added (c .before .before .before)) (refused (c .before .before .none-or-all .ensures) (c .before .if2 .taken)))
+
+add-total : tie.Need-add-total Inv-loop μ-loop
+add-total c = omega (arith, turn c .swept .small, few c, c .before .before .before .before .before .before .before .before .before .before .pre .1 .1)
+
+add-valid : tie.Need-add-valid Inv-loop μ-loop
+add-valid c = omega (arith, few-valid _ _ _ _ _ _ _ _ _ _ (turn (c .before)), few (c .before), c .before .before .before .before .before .before .before .before .before .before .before .pre .1 .1)
+
+add-i : tie.Need-add-i Inv-loop μ-loop
+add-i c = search needs
+
+loop-less : tie.Need-loop-less Inv-loop μ-loop
+loop-less c = search needs
+
+loop-again : tie.Need-loop-again Inv-loop μ-loop
+loop-again c = (omega arith, turn (c .before))
+
+returns-3 : tie.Need-returns-3 Inv-loop μ-loop
+returns-3 c =
+    let a = c .before .before .before .before .args in
+    let all = walked-all (a .w) (a .limit) (a .p) (a .first) (a .chip .now) (a .spare .now) (a .opened) (c .before .loop .i) (a .n) (c .before .loop .total) (c .before .loop .valid) (omega arith) (omega arith) (c .before .loop .inv .1) in
+    record { tells = all .0; counts = λ p. all .1 }
+
+pub walk-spec : {M : Type 1} → statement M
+walk-spec =
+    tie.close
+    (tie.spec
+    Inv-loop
+    μ-loop
+    loop-holds
+    add-b
+    mul-look
+    look-requires
+    broken-requires
+    returns
+    besides-requires
+    none-or-all-requires
+    broken-requires-2
+    returns-2
+    add-total
+    add-valid
+    add-i
+    loop-less
+    loop-again
+    returns-3)
