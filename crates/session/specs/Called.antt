@@ -22,7 +22,7 @@ use Rattle.scope.specs.Tables.Session.{G}
 use Rattle.words.specs.Runs.{sets-whole}
 use Rattle.lines.specs.declared.Parsed.the-variants.{Other}
 use Rattle.lines.specs.Digits.{Prints}
-use Rattle.session.specs.Serves.{answered, shown, Serves}
+use Rattle.session.specs.Serves.{numbers, answered, shown, Serves}
 
 -- A record of five words that is stored and loaded again.
 stored-record : (ws : List ℕ) (r : SmallRecord) → length ws ≡ record-words → record-of (sets ws 0 (words-from r)) ≡ r
@@ -51,10 +51,6 @@ gives-answers {A = A} call w w′ x five three gives =
 
     right : true ≡ right-words w
     right = sym (ap₂ _&&_ (eq-eqb _ _ five) (eq-eqb _ _ three))
-
--- The answer and its counts, and what is printed after them.
-abbrev pub numbers : ℕ → List ℕ → List ℕ → List ℕ
-numbers reply counts more = reply ∷ getD counts 0 0 ∷ getD counts 1 0 ∷ getD counts 2 0 ∷ more
 
 -- The numbers that the program prints are those that the definitions print.
 as-printed : (l : Line) (o : Outcome Replied) {x : Replied} {s′ : State} {counts counts′ : List ℕ} → length counts ≡ counts-words

@@ -5,10 +5,9 @@ use lines::print::put_line;
 use trianglefire::tf_read;
 use trianglefire::tf_write;
 ghost use mathlib.Core.List.{_∷_, []};
-ghost use lib.ListN.{getD};
 ghost use Rattle.lines.specs.Digits.{Prints};
 ghost use Rattle.scope.specs.Tables.Play.{W, R};
-ghost use Rattle.session.specs.Serves.{held, answered, shown, Serves};
+ghost use Rattle.session.specs.Serves.{held, answered, shown, numbers, Serves};
 
 // G: P = 2, W = 2, D = 3, T = 3, L = 3, C = 1.
 pub const P: u32 = 2;
@@ -134,9 +133,7 @@ fn read_page(
 
 // A write, a refusal or an unwritten read: the answer and its counts.
 fn put_answer(out: &mut [u8; 64], reply: u32, counts: [u32; 3]) -> usize
-    ensures { λ n. ⌜ Prints (now (out .entry))
-        (reply ∷ getD counts 0 0 ∷ getD counts 1 0 ∷ getD counts 2 0 ∷ [])
-        (now (out .exit)) n ⌝ }
+    ensures { λ n. ⌜ Prints (now (out .entry)) (numbers reply counts []) (now (out .exit)) n ⌝ }
 {
     let numbers = [reply, counts[0], counts[1], counts[2]];
     put_line(out, &numbers)
@@ -144,9 +141,7 @@ fn put_answer(out: &mut [u8; 64], reply: u32, counts: [u32; 3]) -> usize
 
 // A read that is DONE: the first word too.
 fn put_word(out: &mut [u8; 64], reply: u32, counts: [u32; 3], word: u32) -> usize
-    ensures { λ n. ⌜ Prints (now (out .entry))
-        (reply ∷ getD counts 0 0 ∷ getD counts 1 0 ∷ getD counts 2 0 ∷ word ∷ [])
-        (now (out .exit)) n ⌝ }
+    ensures { λ n. ⌜ Prints (now (out .entry)) (numbers reply counts (word ∷ [])) (now (out .exit)) n ⌝ }
 {
     let numbers = [reply, counts[0], counts[1], counts[2], word];
     put_line(out, &numbers)
