@@ -1,7 +1,6 @@
 -- The laws by which the walks of `serve_all` and of `run` go from what is ensured to them to what they ensure. They are laws of a run in
 -- its parts, under the names that tools/walks looks for.
 use Prim.Native.Nat.{ℕ}
-use mathlib.Core.Path.{subst, sym}
 use mathlib.Core.Bool.{Bool}
 use mathlib.Core.List.{List, map}
 use lib.ListN.{length}
@@ -26,9 +25,4 @@ pub run-by : {g : Geometry} {requests : List Request} {fits : Bool} {first last 
     → Finished last given answer rec given′
     → Answers (run g (right-lengths fits given) (map request requests) words answers s) given (run-replied words′ answers′ answer)
     (state chip spare directory cache rec) given′
-run-by {g} {requests} {fits} {s = s} {chip = chip} {spare} {directory} {cache} {words} {answers} {words′} {answers′} {given} {given′} {answer}
-    begun ran finished =
-    subst
-    (λ (r : Record). Answers (run g (right-lengths fits given) (map request requests) words answers s) given
-    (run-replied words′ answers′ answer) (state chip spare directory cache r) given′)
-    (sym (finished .recorded)) (ran-answers begun ran finished)
+run-by begun ran finished = rw (← finished .recorded) at (ran-answers begun ran finished)
