@@ -15,7 +15,7 @@
 
 /* Measures in pixels. */
 enum { WIDTH = 1000, MARGIN = 20, TOP = 56, HEADING = 34 };
-enum { SQUARE = 8, LABEL = 44, GAP = 20, ROW = 14 };
+enum { SQUARE = 6, LABEL = 44, GAP = 20, ROW = 14 };
 
 /* Told apart without red and green. */
 static const char *const fills[PAGE_STATES] = {"#e4e7eb", "#2b6cb0", "#e39a3b", "#111111"};
