@@ -1,6 +1,7 @@
 """Each command as a person uses it: what it prints, and what it does to the image."""
 
 import json
+import os
 import random
 import re
 import subprocess
@@ -211,6 +212,6 @@ class Help(ToolTest):
             text = self.tool(command, "--help").stdout.decode()
             line = re.search(r"^example: (.*)", text, re.MULTILINE).group(1).replace("node.img 3", "node.img 2").replace("40 >", "3 >")
             line = line.replace("| jq .written", "").replace("| hexdump -C", "")
-            path = f"{self.program.parent}:/usr/bin:/bin"
-            run = subprocess.run(line, shell=True, cwd=self.folder, env={"PATH": path}, capture_output=True)
+            path = f"{self.program.parent}:{os.environ['PATH']}"
+            run = subprocess.run(line, shell=True, cwd=self.folder, env={**os.environ, "PATH": path}, capture_output=True)
             self.assertEqual(run.returncode, DONE, f"{line}: {run.stderr.decode()}")
