@@ -2,3 +2,4 @@
 pub mod Words
 pub mod Asked
 pub mod Run
+pub mod Outcomes

@@ -40,10 +40,9 @@ pub extern "C" fn tf_format(
     let g = Geometry { p, w, d, t, l, c };
     let fits = five_words(record);
     let rec = load(record);
-    let out = calls::format(rec, fits, g, chip, spare, directory, cache, counts);
-    let new = out.rec;
-    store(record, new);
-    out.answer
+    let formatted = calls::format(rec, fits, g, chip, spare, directory, cache, counts);
+    store(record, formatted.rec);
+    formatted.answer
 }
 
 #[no_mangle]
@@ -101,7 +100,7 @@ pub extern "C" fn tf_read(
     let g = Geometry { p, w, d, t, l, c };
     let fits = five_words(record);
     let rec = load(record);
-    let out = calls::read(
+    let read = calls::read(
         rec,
         fits,
         g,
@@ -113,9 +112,8 @@ pub extern "C" fn tf_read(
         buffer,
         counts,
     );
-    let new = out.rec;
-    store(record, new);
-    out.answer
+    store(record, read.rec);
+    read.answer
 }
 
 #[no_mangle]
@@ -145,7 +143,7 @@ pub extern "C" fn tf_write(
     let g = Geometry { p, w, d, t, l, c };
     let fits = five_words(record);
     let rec = load(record);
-    let out = calls::write(
+    let written = calls::write(
         rec,
         fits,
         g,
@@ -157,9 +155,8 @@ pub extern "C" fn tf_write(
         buffer,
         counts,
     );
-    let new = out.rec;
-    store(record, new);
-    out.answer
+    store(record, written.rec);
+    written.answer
 }
 
 #[no_mangle]
@@ -191,7 +188,7 @@ pub extern "C" fn tf_run(
     let g = Geometry { p, w, d, t, l, c };
     let five = five_words(record);
     let rec = load(record);
-    let out = run_words(
+    let ran = run_words(
         rec,
         five,
         g,
@@ -204,7 +201,6 @@ pub extern "C" fn tf_run(
         answers,
         counts,
     );
-    let new = out.rec;
-    store(record, new);
-    out.answer
+    store(record, ran.rec);
+    ran.answer
 }

@@ -44,7 +44,7 @@ same-length-7 c = search needs
 returns : tie.Need-returns
 unfolding tf-read
 returns c =
-    let done = c .before .before .before .before .before .before .before .before .before .before .before .before .before .before .before .before .before in
+    let done = c .before .before .before .before .before .before .before .before .before .before .before .before .before .before .before .before in
     let loaded = done .before .before .before .before .before .before .before in
     let tested = loaded .before .before in
     let a = tested .before .before .before .before .before .before .before .before .before .args in

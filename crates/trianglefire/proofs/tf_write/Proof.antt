@@ -41,7 +41,7 @@ same-length-6 c = search needs
 returns : tie.Need-returns
 unfolding tf-write
 returns c =
-    let done = c .before .before .before .before .before .before .before .before .before .before .before .before .before .before .before in
+    let done = c .before .before .before .before .before .before .before .before .before .before .before .before .before .before in
     let loaded = done .before .before .before .before .before .before in
     let tested = loaded .before .before in
     let a = tested .before .before .before .before .before .before .before .before .before .args in
