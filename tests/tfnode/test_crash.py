@@ -199,8 +199,12 @@ class Replaced(ToolTest):
         self.assertFalse(left.exists())
         self.assertEqual(self.node.stat().st_size, 300)
 
-    def test_a_link_beside_is_not_followed(self):
+    def test_what_is_beside_and_no_plain_file_is_let_be(self):
         self.new()
+        beside = pathlib.Path(f"{self.node}{SUFFIX}")
         (self.folder / "precious").write_text("precious")
-        pathlib.Path(f"{self.node}{SUFFIX}").symlink_to(self.folder / "precious")
-        self.refused("write", self.node, 0, data=b"12345678", says="cannot create", status=FILE)
+        beside.symlink_to(self.folder / "precious")
+        self.refused("write", self.node, 0, data=b"12345678", says="it is no file of this tool's, remove it", status=FILE)
+        beside.unlink()
+        beside.mkdir()
+        self.refused("write", self.node, 0, data=b"12345678", says="it is no file of this tool's, remove it", status=FILE)

@@ -1,4 +1,4 @@
-"""What the tool shows on a terminal: the progress bar and the colours."""
+"""What the tool shows on a terminal: the progress bar, the colours, and that it waits for data."""
 
 import os
 import pty
@@ -49,3 +49,13 @@ class Terminal(ToolTest):
         self.assertIn(b"\x1b[30;41mx\x1b[0m\x1b[30;42m#\x1b[0m", self.on_terminal("stdout", "map", self.node))
         self.assertNotIn(b"\x1b", self.on_terminal("stdout", "map", self.node, no_color="1"))
         self.assertNotIn(b"\x1b", self.tool("map", self.node).stdout)
+
+    def test_data_that_is_typed(self):
+        self.new()
+        ours, theirs = pty.openpty()
+        os.write(ours, b"12345678" + b"\x04" * 2)  # Ctrl-D hands on what was typed, and once more ends it
+        run = self.tool("write", self.node, 0, data=None, stdin=theirs)
+        self.assertIn(b"reading the page from the terminal; end it by Ctrl-D", run.stderr)
+        self.assertEqual(self.tool("read", self.node, 0).stdout, b"12345678")
+        os.close(ours)
+        os.close(theirs)

@@ -54,6 +54,8 @@ _Noreturn static void fail_to(const char *what, const char *name)
     const char *advice = "see that its folder exists and may be written to";
     if (cause == ENOSPC || cause == EDQUOT || cause == EFBIG)
         advice = "make room there and try again";
+    else if (cause == ELOOP || cause == EISDIR || cause == EEXIST)
+        advice = "it is no file of this tool's, remove it";
     fail(STATUS_FILE, "cannot %s %s: %s; %s (%s is as it was)", what, name, strerror(cause), advice,
          target);
 }
