@@ -204,7 +204,7 @@ class Disks(ToolTest):
         for closed in range(3):
             self.node = self.folder / f"{closed}.img"
             self.session()
-            subprocess.run(["sh", "-c", f'printf 12345678 | "$0" write "$1" 0 {closed}>&-', self.program, self.node],
+            subprocess.run(["sh", "-c", f'printf "W 0 1\\nR 0\\n" | "$0" replay "$1" --lines {closed}>&-', self.program, self.node],
                            capture_output=True)
             self.tool("check", self.node)
 
