@@ -8,7 +8,6 @@
 #include <errno.h>
 #include <fcntl.h>
 #include <inttypes.h>
-#include <limits.h>
 #include <signal.h>
 #include <stdlib.h>
 #include <string.h>
@@ -100,7 +99,7 @@ static void take_header(struct image *image, int fd)
 }
 
 /* A mapped file that cannot be read, or was cut by another program meanwhile, ends here. */
-static void on_bus_error(int signal_number)
+_Noreturn static void on_bus_error(int signal_number)
 {
     static const char line[] = "tfnode: the image could not be read to its end: the medium failed, "
                                "or another program cut it; use a copy\n";
@@ -110,11 +109,17 @@ static void on_bus_error(int signal_number)
     _exit(STATUS_FILE);
 }
 
+static bool host_is_little_endian(void)
+{
+    const uint32_t one = 1;
+    unsigned char first;
+    memcpy(&first, &one, sizeof first);
+    return first == 1;
+}
+
 /* The bytes of the file as words of this host.  A little-endian host has them as they are. */
 static void map_slices(struct image *image, int fd)
 {
-    const uint32_t one = 1;
-    unsigned char lowest;
     size_t words = (size_t)image->bytes / BYTES_IN_WORD - HEADER_WORDS;
     unsigned char *bytes =
         mmap(NULL, (size_t)image->bytes, PROT_READ | PROT_WRITE, MAP_PRIVATE, fd, 0);
@@ -123,8 +128,7 @@ static void map_slices(struct image *image, int fd)
              strerror(errno));
     signal(SIGBUS, on_bus_error);
     uint32_t *first = (uint32_t *)(void *)(bytes + HEADER_BYTES);
-    memcpy(&lowest, &one, 1);
-    if (lowest != 1)
+    if (!host_is_little_endian())
         words_from_bytes(first, bytes + HEADER_BYTES, words);
     place_slices(&image->node, first);
 }
