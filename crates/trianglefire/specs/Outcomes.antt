@@ -5,7 +5,7 @@ use mathlib.Core.Path.{_≡_, ap}
 use mathlib.Core.List.{List}
 use Rattle.scope.specs.Requests.{Replied, replied}
 use Rattle.scope.specs.Calls.{RunReplied, run-replied}
-use Rattle.scope.specs.Boundary.{Words, InWords, tf-format, tf-check, tf-read, tf-write, tf-run}
+use Rattle.scope.specs.Boundary.{Words, tf-format, tf-check, tf-read, tf-write, tf-run}
 use Rattle.scope.specs.Contracts.{Gives, gives-one-outcome}
 use Rattle.trianglefire.specs.Words.{geometry-of, words}
 

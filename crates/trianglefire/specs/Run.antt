@@ -1,12 +1,12 @@
 -- A run over request words: the laws by which the loop through them and the run around it go from what the parts of a run ensure to what
 -- they ensure. They are the laws of a run in its parts, with the requests that the words are.
-use Prim.Native.Nat.{ℕ, zero, suc, _+_, _*_, _/_, _%_, _≤_, _<_, _^_}
+use Prim.Native.Nat.{ℕ, _+_, _/_, _%_, _≤_, _<_, _^_}
 use mathlib.Core.Path.{_≡_, refl, sym, ap, subst, _∙_}
 use mathlib.Core.Bool.{Bool, true, false, _&&_}
 use mathlib.Core.List.{List}
 use native.Mathlib.Omega.{arith}
 use lib.Dec.{eqb}
-use lib.ListN.{length, getD}
+use lib.ListN.{length}
 use Rattle.lent.specs.declared.Record.{Record}
 use Rattle.lent.specs.Model.{state}
 use Rattle.scope.specs.Geometry.{Geometry}
@@ -78,6 +78,7 @@ last-first true false true = refl
 last-first true false false = refl
 last-first false whole three = refl
 
+-- Begun, served to the last request and finished, with the record that is handed on, is the call.
 pub run-words-answers : (g : Geometry) (ws : List ℕ) (five : Bool) {fits : Bool} {n : ℕ} {a b : Running} {s s₁ : State}
     {chip spare directory cache words answers words′ answers′ given given′ : List ℕ} {answer : ℕ} {rec : Record}
     → fits ≡ (five && eqb (length ws % 2) 0) → n ≡ length ws / 2

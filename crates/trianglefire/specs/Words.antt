@@ -2,7 +2,7 @@
 -- is stored. What comes back is what the call's definition in scope's Boundary.antt gives.
 use Prim.Native.Nat.{ℕ}
 use mathlib.Core.Path.{_≡_, refl, ap, ap₂, sym, _∙_}
-use mathlib.Core.Bool.{Bool, _&&_}
+use mathlib.Core.Bool.{Bool}
 use mathlib.Core.List.{List, [], _∷_}
 use lib.Dec.{eqb}
 use lib.ListN.{length}
@@ -10,7 +10,7 @@ use lib.Seq.{sets}
 use Rattle.scope.specs.Geometry.{Geometry}
 use Rattle.scope.specs.Lent.{State}
 use Rattle.scope.specs.SmallRecord.{SmallRecord, record-words, record-of, words-from}
-use Rattle.scope.specs.Operations.{Step, Outcome}
+use Rattle.scope.specs.Operations.{Step}
 use Rattle.scope.specs.Boundary.{Words, from-words, to-words, right-words, in-words}
 use Rattle.scope.specs.Contracts.{Answers, Gives, right-lengths}
 use Rattle.lent.specs.declared.Record.{Record}

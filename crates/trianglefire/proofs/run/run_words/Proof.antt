@@ -15,26 +15,31 @@ begin-requires : tie.Need-begin-requires
 begin-requires c κs = search needs
 
 serve-words-requires : tie.Need-serve-words-requires
-serve-words-requires c κs = begun-admits (c .before .before .before .before .before .before .before .before .before .before .before .before .before .before .begin .ensures)
+serve-words-requires c κs =
+    begun-admits (c .before .before .before .before .before .before .before .before .before .before .before .before .before .before .begin .ensures)
 
 finish-requires : tie.Need-finish-requires
 finish-requires c κs = search needs
 
 same-length : tie.Need-same-length
 same-length c =
-    let again = c .before .before .before .before .before .before .before .before .before .before .before .before .before .before .before in again .chip2 .given ∙ again .before .before .before .before .before .before .before .before .before .before .before .before .before .before .before .chip .given
+    let again = c .before .before .before .before .before .before .before .before .before .before .before .before .before .before .before in
+    again .chip2 .given ∙ again .before .before .before .before .before .before .before .before .before .before .before .before .before .before .before .chip .given
 
 same-length-2 : tie.Need-same-length-2
 same-length-2 c =
-    let again = c .before .before .before .before .before .before .before .before .before .before .before .before .before in again .spare2 .given ∙ again .before .before .before .before .before .before .before .before .before .before .before .before .before .before .before .spare .given
+    let again = c .before .before .before .before .before .before .before .before .before .before .before .before .before in
+    again .spare2 .given ∙ again .before .before .before .before .before .before .before .before .before .before .before .before .before .before .before .spare .given
 
 same-length-3 : tie.Need-same-length-3
 same-length-3 c =
-    let again = c .before .before .before .before .before .before .before .before .before .before .before in again .directory2 .given ∙ again .before .before .before .before .before .before .before .before .before .before .before .before .before .before .before .directory .given
+    let again = c .before .before .before .before .before .before .before .before .before .before .before in
+    again .directory2 .given ∙ again .before .before .before .before .before .before .before .before .before .before .before .before .before .before .before .directory .given
 
 same-length-4 : tie.Need-same-length-4
 same-length-4 c =
-    let again = c .before .before .before .before .before .before .before .before .before in again .cache2 .given ∙ again .before .before .before .before .before .before .before .before .before .before .before .before .before .before .before .cache .given
+    let again = c .before .before .before .before .before .before .before .before .before in
+    again .cache2 .given ∙ again .before .before .before .before .before .before .before .before .before .before .before .before .before .before .before .cache .given
 
 same-length-5 : tie.Need-same-length-5
 same-length-5 c = search needs

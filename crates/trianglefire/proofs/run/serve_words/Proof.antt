@@ -50,11 +50,13 @@ shared-slice-read-t24 c = search needs
 
 serve-requires : tie.Need-serve-requires Inv-loop μ-loop
 serve-requires c κs =
-    let test = c .before .before .before .before .before .before .before .before in ready (test .before .loop .inv .0) (test .loop-test .taken)
+    let test = c .before .before .before .before .before .before .before .before in
+    ready (test .before .loop .inv .0) (test .loop-test .taken)
 
 add-i : tie.Need-add-i Inv-loop μ-loop
 add-i c =
-    let test = c .before .before .before .before .before .before .before .before .before .before .before .before .before .before .before .before .before .before .before .before .before in omega (arith, test .loop-test .taken, test .before .loop .inv .0 .countable)
+    let test = c .before .before .before .before .before .before .before .before .before .before .before .before .before .before .before .before .before .before .before .before .before in
+    omega (arith, test .loop-test .taken, test .before .loop .inv .0 .countable)
 
 loop-less : tie.Need-loop-less Inv-loop μ-loop
 loop-less c = search needs
