@@ -14,7 +14,8 @@ use Rattle.scope.specs.Regions.{Region, first-block, region-blocks}
 use Rattle.scope.specs.Lent.{is-erased}
 use Rattle.scope.specs.Decisions.{blocks-fit}
 use Rattle.flash.specs.Cases.{on, below?, clash, and-true, true-and, or-cases, or-right, is-false, not-of-false}
-use Rattle.flash.specs.Counting.{all-each, each-all, count-none, count-each, none-counted, each-counted, count-le}
+use Rattle.flash.specs.Counting.{all-each, each-all, count-none, none-counted, count-le}
+use Rattle.words.specs.States.{all-counted}
 use Rattle.soundness.specs.Sizes.{piece-inside}
 use Rattle.soundness.specs.Bools.{same-test, or-none}
 
@@ -65,12 +66,6 @@ block-inside P first n b len h k = omega (arith, piece-inside P (first + n) b h)
 
 -- ---- counts that decide
 
-all-counted : (n : ℕ) (f : ℕ → Bool) → all n f ≡ eqb (count n f) n
-all-counted n f =
-    same-test (all n f) (eqb (count n f) n)
-    (λ h. eq-eqb (count n f) n (count-each n f (all-each n f h)))
-    (λ h. each-all n f (each-counted n f (eqb-true (count n f) n h)))
-
 all-not-counted : (n : ℕ) (f : ℕ → Bool) → all n (λ i. not (f i)) ≡ eqb (count n f) 0
 all-not-counted n f =
     same-test (all n (λ i. not (f i))) (eqb (count n f) 0)
@@ -90,7 +85,7 @@ split-counted m n f h =
     each-all n split (λ i k. below? i m
     (λ l. rw (lt-ltb i m l) (all-each m (λ j. not (f j)) (both .0) i l))
     (λ l. rw (le-ltb i m l) (subst (λ (j : ℕ). f j ≡ true) (omega arith) (all-each (n - m) (λ j. f (m + j)) (both .1) (i - m) (omega arith))))))
-    ∙ ap₂ (λ (a b : Bool). a && b) (all-not-counted m f) (all-counted (n - m) (λ i. f (m + i)))
+    ∙ ap₂ (λ (a b : Bool). a && b) (all-not-counted m f) (sym (all-counted (n - m) (λ i. f (m + i))))
   where
     split : ℕ → Bool
     split i = cond (ltb i m) (not (f i)) (f i)
@@ -153,7 +148,7 @@ module _ (P first : ℕ) (spare : List ℕ) (opened : ℕ) where
   unfolding block
   fits-at n =
       let f : ℕ → Bool = λ i. is-erased ((first + n) * P + i) spare in
-      block-fits P (erased-in P spare (first + n)) (eqb (first + n) opened) (all P f) (all P (λ i. not (f i))) (all-counted P f) (all-not-counted P f)
+      block-fits P (erased-in P spare (first + n)) (eqb (first + n) opened) (all P f) (all P (λ i. not (f i))) (sym (all-counted P f)) (all-not-counted P f)
 
   adds-most : (n : ℕ) → adds n ≤ P
   adds-most n =
@@ -170,7 +165,7 @@ module _ (P first : ℕ) (spare : List ℕ) (opened : ℕ) where
       rw (add-one, is)
       (record {
         fit = true-and (s .fit) (sym (fits-at n) ∙ whole′);
-        found = found-more P total (erased-in P spare (first + n)) (eqb (first + n) opened) (besides P first spare opened n) (all P f) h (all-counted P f) whole′ (s .found);
+        found = found-more P total (erased-in P spare (first + n)) (eqb (first + n) opened) (besides P first spare opened n) (all P f) h (sym (all-counted P f)) whole′ (s .found);
         small = omega (arith, s .small, suc-mul n P, adds-most n);
       })
 

@@ -1,25 +1,27 @@
 -- Rule 1 of a page, in numbers: pages of W words whose owners are below a limit.
 use Prim.Native.Nat.{ℕ, _+_, _*_, _≤_, _<_}
-use mathlib.Core.Path.{_≡_, refl, sym, ap, ap₂, _∙_}
+use mathlib.Core.Path.{_≡_, refl, sym, ap, ap₂, subst, _∙_}
 use mathlib.Core.Logic.{_≢_}
 use mathlib.Core.Bool.{Bool, true, false, cond, _&&_, _||_}
 use mathlib.Core.List.{List}
+use native.Mathlib.Nat.{add-mul, mul-assoc}
 use native.Mathlib.Numerals.{add-one}
 use native.Mathlib.Omega.{arith}
 use lib.Dec.{eqb, ltb}
 use lib.ListN.{length, getD, take, drop, length-drop}
 use lib.Seq.{getD-take, getD-drop, length-take-le}
-use borrow.Author.Tests.{eqb-true, ne-eqb}
+use borrow.Author.Tests.{eqb-true, eq-eqb, ne-eqb}
 use Rattle.scope.specs.Counting.{all, count}
 use Rattle.scope.specs.Geometry.{Geometry}
 use Rattle.scope.specs.Regions.{Region, owners, first-page, region-pages}
 use Rattle.scope.specs.Lent.{none, erased, valid, invalid, state-of, owner-of, is-erased, is-valid}
 use Rattle.scope.specs.Decisions.{page-fits, pages-fit}
 use Rattle.flash.specs.Cases.{and-true, or-cases}
-use Rattle.flash.specs.Counting.{each-all, each-counted, count-none}
+use Rattle.flash.specs.Counting.{all-each, each-all, each-counted, count-none, count-each}
 use Rattle.words.specs.Runs.{getD-any}
 use Rattle.soundness.specs.Bools.{all-same}
 use Rattle.soundness.specs.Erased.{is-erased-word}
+use Rattle.soundness.specs.Sizes.{piece-inside}
 use Rattle.soundness.specs.declared.pages.Block.{Block}
 
 -- A page of W words has only erased ones.
@@ -82,6 +84,48 @@ module _ (W limit first n : ℕ) (chip spare : List ℕ) (whole : count n (λ i.
   pub none-erased : 0 ≡ count n (λ i. is-erased (first + i) spare)
   none-erased =
       sym (count-none n (λ i. is-erased (first + i) spare) (λ i h. ne-eqb (state-of (first + i) spare) erased (not-erased i h)))
+
+-- Where a block's words are all erased, in the spare and on the chip, the rule holds of each of its pages and all are erased.
+module _ (W limit b n : ℕ) (chip spare : List ℕ) (no-marks : blank (n * 2) spare b ≡ true) (no-words : blank (n * W) chip b ≡ true) where
+  mark-at : (k : ℕ) → k < n * 2 → getD spare (b * n * 2 + k) none ≡ none
+  unfolding blank
+  mark-at k h =
+      subst (λ (x : ℕ). getD spare (x + k) none ≡ none) (sym (mul-assoc b n 2))
+      (eqb-true (getD spare (b * (n * 2) + k) none) erased (all-each (n * 2) (λ i. eqb (getD spare (b * (n * 2) + i) none) erased) no-marks k h))
+
+  word-at : (k : ℕ) → k < n * W → getD chip (b * n * W + k) none ≡ erased
+  unfolding blank
+  word-at k h =
+      subst (λ (x : ℕ). getD chip (x + k) none ≡ erased) (sym (mul-assoc b n W))
+      (eqb-true (getD chip (b * (n * W) + k) none) erased (all-each (n * W) (λ i. eqb (getD chip (b * (n * W) + i) none) erased) no-words k h))
+
+  state-erased : (i : ℕ) → i < n → state-of (b * n + i) spare ≡ erased
+  state-erased i h =
+      let at : (b * n + i) * 2 ≡ b * n * 2 + i * 2 = omega arith in
+      ap (λ (x : ℕ). getD spare x none) at ∙ mark-at (i * 2) (omega arith)
+
+  owner-none : (i : ℕ) → i < n → owner-of (b * n + i) spare ≡ none
+  owner-none i h =
+      let at : (b * n + i) * 2 + 1 ≡ b * n * 2 + (i * 2 + 1) = omega arith in
+      ap (λ (x : ℕ). getD spare x none) at ∙ mark-at (i * 2 + 1) (omega arith)
+
+  page-blank : (i : ℕ) → i < n → blank W chip (b * n + i) ≡ true
+  unfolding blank
+  page-blank i h =
+      each-all W (λ j. eqb (getD chip ((b * n + i) * W + j) none) erased) (λ j k.
+      let at : (b * n + i) * W + j ≡ b * n * W + (i * W + j) = omega (arith, add-mul (b * n) i W) in
+      eq-eqb (getD chip ((b * n + i) * W + j) none) erased
+      (ap (λ (x : ℕ). getD chip x none) at ∙ word-at (i * W + j) (omega (arith, piece-inside W n i h))))
+
+  pub all-blank : true ≡ all n (λ i. fits W limit chip spare (b * n + i))
+  unfolding fits
+  all-blank =
+      sym (each-all n (λ i. fits W limit chip spare (b * n + i)) (λ i h.
+      rw (eq-eqb (state-of (b * n + i) spare) erased (state-erased i h), eq-eqb (owner-of (b * n + i) spare) none (owner-none i h), page-blank i h)))
+
+  pub all-erased : n ≡ count n (λ i. is-erased (b * n + i) spare)
+  all-erased =
+      sym (count-each n (λ i. is-erased (b * n + i) spare) (λ i h. eq-eqb (state-of (b * n + i) spare) erased (state-erased i h)))
 
 -- What is found of the n pages from `first` on.
 pub record Looked (W limit : ℕ) (chip spare : List ℕ) (first n : ℕ) (b : Block) : Type 0 where

@@ -94,7 +94,7 @@ fn walk(
     let mut i = 0;
     while i < n {
         let b = first + i;
-        let block = look(chip, spare, w, limit, b * p, p);
+        let block = look(chip, spare, w, limit, b, p);
         if !block.fits {
             return broken();
         }

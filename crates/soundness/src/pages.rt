@@ -1,5 +1,5 @@
 // Rule 1, page by page: its state, its owner, and, where it is erased, its words. These are swept without leaving the loop at a word, so
-// that a fresh chip is checked at the speed of reading it. Pages of a block that has no erased one are told by counts, without a branch.
+// that a fresh chip is checked at the speed of reading it. A block that has no erased page is told by counts, without a branch.
 use crate::erased::only_erased;
 use lent::ERASED;
 use lent::INVALID;
@@ -7,7 +7,7 @@ use lent::NONE;
 use lent::VALID;
 use words::states::count_state;
 ghost use mathlib.Core.Path.{_≡_};
-ghost use mathlib.Core.Bool.{cond};
+ghost use mathlib.Core.Bool.{cond, _&&_};
 ghost use Prim.Native.Nat.{_+_, _*_, _≤_, _<_};
 ghost use lib.Dec.{eqb};
 ghost use lib.ListN.{length};
@@ -116,24 +116,44 @@ pub struct Block {
     pub valid: usize,
 }
 
-// The block of the n pages from `first` on. Most blocks of a chip in use have no erased page, and the counts tell; only where they
-// don't, each page is looked at.
-pub fn look(chip: &[u32], spare: &[u32], w: usize, limit: u32, first: usize, n: usize) -> Block
-    requires { ⌜ (first + n) * w ≤ length (now chip) ⌝ }
-    requires { ⌜ ((first + n) * 2 ≤ length (now spare)) × (n < 4294967296) ⌝ }
-    ensures { λ r. ⌜ Looked w limit (now (chip .entry)) (now (spare .entry)) first n r ⌝ }
+// Block b of p pages is wholly erased, in the spare and on the chip.
+fn wholly_erased(chip: &[u32], spare: &[u32], w: usize, b: usize, p: usize) -> bool
+    requires { ⌜ (b * p + p) * w ≤ length (now chip) ⌝ }
+    requires { ⌜ (b * p + p) * 2 ≤ length (now spare) ⌝ }
+    ensures { λ r. ⌜ r ≡ (blank (p * 2) (now (spare .entry)) b && blank (p * w) (now (chip .entry)) b) ⌝ }
 {
-    let counts = count_programmed(spare, first, n, limit);
+    if !is_blank(spare, p * 2, b) {
+        return false;
+    }
+    is_blank(chip, p * w, b)
+}
+
+// Block b of p pages. Most blocks have no erased page, and the counts tell, or are wholly erased, and one sweep tells; only where they
+// are neither, as the open block, each page is looked at.
+pub fn look(chip: &[u32], spare: &[u32], w: usize, limit: u32, b: usize, p: usize) -> Block
+    requires { ⌜ (b * p + p) * w ≤ length (now chip) ⌝ }
+    requires { ⌜ ((b * p + p) * 2 ≤ length (now spare)) × (p < 4294967296) ⌝ }
+    ensures { λ r. ⌜ Looked w limit (now (chip .entry)) (now (spare .entry)) (b * p) p r ⌝ }
+{
+    let first = b * p;
+    let counts = count_programmed(spare, first, p, limit);
     let valid = counts.valid as usize;
-    if counts.fit as usize == n {
+    if counts.fit as usize == p {
         return Block {
             fits: true,
             erased: 0,
             valid,
         };
     }
-    let fits = pages_fit(chip, spare, w, limit, first, n);
-    let erased = count_state(spare, first, n, ERASED);
+    if wholly_erased(chip, spare, w, b, p) {
+        return Block {
+            fits: true,
+            erased: p,
+            valid,
+        };
+    }
+    let fits = pages_fit(chip, spare, w, limit, first, p);
+    let erased = count_state(spare, first, p, ERASED);
     Block {
         fits,
         erased,

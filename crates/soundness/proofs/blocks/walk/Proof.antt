@@ -7,7 +7,7 @@ use native.Mathlib.Omega.{arith}
 use lib.Dec.{eqb}
 use borrow.Author.Needs.{needs}
 use borrow.Author.Tests.{not-true, not-false}
-use Rattle.soundness.specs.Blocks.{adds, blocks-inside, block-inside}
+use Rattle.soundness.specs.Blocks.{adds, blocks-inside}
 use Rattle.soundness.specs.Bools.{refused, passed}
 use Rattle.soundness.specs.Sizes.{piece-inside}
 use Rattle.soundness.specs.Survey.{Walked, walked-none, walked-more, walked-all, pages-stop, blocks-stop, few-valid, found-broken}
@@ -52,11 +52,6 @@ add-b : tie.Need-add-b Inv-loop μ-loop
 add-b c =
     let a = c .before .before .before .before .args in
     omega (arith, blocks-inside (a .p) (a .first) (a .n) _ (c .before .before .before .before .pre .0 .0) (c .before .before .before .before .pre .1 .1))
-
-mul-look : tie.Need-mul-look Inv-loop μ-loop
-mul-look c =
-    let a = c .before .before .before .before .args in
-    omega (arith, block-inside (a .p) (a .first) (a .n) (a .first + c .before .loop .i) _ (omega arith) (c .before .before .before .before .pre .1 .1))
 
 look-requires : tie.Need-look-requires Inv-loop μ-loop
 look-requires c κs =
@@ -120,7 +115,6 @@ walk-spec =
     μ-loop
     loop-holds
     add-b
-    mul-look
     look-requires
     broken-requires
     returns

@@ -1,8 +1,7 @@
 -- `pages::count_programmed` meets its contract. The invariant: both counts are those of the first i pages.
-use Prim.Native.Nat.{_+_, _-_, _≤_}
+use Prim.Native.Nat.{ℕ, _+_, _-_, _≤_}
 use mathlib.Core.Path.{_≡_, ap, _∙_}
 use native.Mathlib.Omega.{arith}
-use Prim.Native.Nat.{ℕ}
 use borrow.Author.Needs.{needs}
 use Rattle.scope.specs.Counting.{count}
 use Rattle.scope.specs.Lent.{valid, is-valid}
