@@ -1,0 +1,150 @@
+"""The figures of a run of the benchmark as a Markdown table and a plot.
+
+report.py TIME.tsv COUNTS DOCS: puts the table into DOCS/SPEED.md, between its two marks, and writes DOCS/speed.svg.
+TIME.tsv is what `bench time` prints, COUNTS the folder of what callgrind dumped under `bench count`, empty where it wasn't run.
+"""
+import os
+import platform
+import subprocess
+import sys
+
+import plot
+
+BEGIN = "<!-- table: written by bench/run -->"
+END = "<!-- end of the table -->"
+LIMIT = 1.1
+
+
+def fail(message):
+    sys.exit(f"error: {message}")
+
+
+def times(path):
+    """A dictionary for each line: a chip and a case, with the times in nanoseconds."""
+    rows = []
+    with open(path, encoding="utf-8") as lines:
+        for line in lines:
+            fields = line.rstrip("\n").split("\t")
+            if len(fields) != 7:
+                fail(f"{path} has a line that `bench time` doesn't print: {line.rstrip()}")
+            chip, words, case, ours, theirs, sweep, _rounds = fields
+            rows.append(
+                {
+                    "chip": chip,
+                    "words": int(words),
+                    "case": case,
+                    "ours": float(ours),
+                    "theirs": float(theirs),
+                    "sweep": float(sweep),
+                }
+            )
+    return rows
+
+
+def counts(folder):
+    """Instructions a call by chip, case and side, from callgrind's dumps."""
+    found = {}
+    for name in sorted(os.listdir(folder)):
+        label = total = None
+        with open(os.path.join(folder, name), encoding="utf-8", errors="replace") as lines:
+            for line in lines:
+                if line.startswith("desc: Trigger: Client Request: "):
+                    label = line.rstrip("\n").split("Request: ")[1].split("\t")
+                elif line.startswith("totals: "):
+                    total = int(line.split()[1])
+        if label and total:
+            chip, case, side, calls = label
+            found[chip, case, side] = total / int(calls)
+    return found
+
+
+def duration(nanoseconds):
+    """Three figures, in the unit that suits them."""
+    for unit, size in (("ms", 1e6), ("µs", 1e3)):
+        if nanoseconds >= size:
+            return f"{nanoseconds / size:.3g} {unit}"
+    return f"{nanoseconds:.3g} ns"
+
+
+def ratio(ours, theirs, limit=None):
+    """Two decimals, in bold where it is over the limit."""
+    text = f"{ours / theirs:.2f}"
+    return f"**{text}**" if limit and ours / theirs > limit else text
+
+
+def table(rows, instructions):
+    head = ["chip", "words", "case", "library", "independent", "ratio", "by instructions", "plain sweep", "library to sweep"]
+    lines = ["| " + " | ".join(head) + " |", "|---" * len(head) + "|"]
+    for row in rows:
+        key = row["chip"], row["case"]
+        ours, theirs = (instructions.get((*key, side)) for side in ("ours", "theirs"))
+        cells = [
+            row["chip"],
+            f"{row['words']:,}",
+            row["case"],
+            duration(row["ours"]),
+            duration(row["theirs"]),
+            ratio(row["ours"], row["theirs"], LIMIT),
+            ratio(ours, theirs) if ours and theirs else "",
+            duration(row["sweep"]) if row["sweep"] else "",
+            ratio(row["ours"], row["sweep"], LIMIT) if row["sweep"] else "",
+        ]
+        lines.append("| " + " | ".join(cells) + " |")
+    return lines
+
+
+def version():
+    """The last commit that touched the crates."""
+    command = ["git", "log", "-1", "--format=%h", "--", ":/crates"]
+    found = subprocess.run(command, capture_output=True, text=True, check=False)
+    return found.stdout.strip() or "an unknown commit"
+
+
+def summary(rows):
+    """What was compared where, and how many ratios are over the limit."""
+    over = sum(row["ours"] / row["theirs"] > LIMIT for row in rows)
+    over += sum(row["sweep"] > 0 and row["ours"] / row["sweep"] > LIMIT for row in rows)
+    machine = platform.machine()
+    library = "target/staticlib/libtrianglefire.a"
+    if machine != "x86_64":
+        library = "the library's own LLVM module compiled for this machine, which stands in for the archive (same code)"
+    return [
+        f"Measured on {machine}, of {library}, the crates as of {version()}. Ratios over {LIMIT}: {over}.",
+        "",
+    ]
+
+
+def write_between_marks(path, lines):
+    with open(path, encoding="utf-8") as file:
+        text = file.read()
+    if text.count(BEGIN) != 1 or text.count(END) != 1:
+        fail(f"{path} hasn't the marks '{BEGIN}' and '{END}' once each")
+    before, rest = text.split(BEGIN)
+    after = rest.split(END)[1]
+    with open(path, "w", encoding="utf-8") as file:
+        file.write(before + BEGIN + "\n" + "\n".join(lines) + "\n" + END + after)
+
+
+def report(time_file, count_folder, docs):
+    rows = times(time_file)
+    if not rows:
+        fail(f"{time_file} is empty")
+    lines = summary(rows) + table(rows, counts(count_folder))
+    write_between_marks(os.path.join(docs, "SPEED.md"), lines)
+    with open(os.path.join(docs, "speed.svg"), "w", encoding="utf-8") as file:
+        file.write(plot.svg(rows))
+    print("\n".join(lines))
+    print(f"written: {docs}/SPEED.md and {docs}/speed.svg")
+
+
+def main(arguments):
+    if len(arguments) != 3:
+        fail("usage: report.py TIME.tsv COUNTS DOCS")
+    try:
+        report(*arguments)
+    except OSError as problem:
+        fail(f"{problem.filename}: {problem.strerror}")
+
+
+if __name__ == "__main__":
+    main(sys.argv[1:])
