@@ -1,17 +1,20 @@
 -- What the counts of src/tally.rt say, of one word and of a list of words.
-use Prim.Native.Nat.{ℕ, _+_, _≤_}
+use Prim.Native.Nat.{ℕ, _+_, _*_, _≤_, _<_}
 use native.Mathlib.Omega.{arith}
 use native.Mathlib.Numerals.{add-one}
-use mathlib.Core.Path.{_≡_, subst}
+use mathlib.Core.Path.{_≡_, sym, subst, _∙_}
 use mathlib.Core.Logic.{_≢_}
-use mathlib.Core.Bool.{Bool, cond}
+use mathlib.Core.Bool.{Bool, true, false, cond, _&&_}
 use mathlib.Core.List.{List}
 use lib.ListN.{length, getD}
-use borrow.Author.Tests.{eq-eqb, ne-eqb}
+use lib.Dec.{eqb, ltb, leb}
+use borrow.Author.Tests.{eqb-true, eq-eqb, ne-eqb, le-leb, lt-ltb}
 use Rattle.scope.specs.Counting.{count}
 use Rattle.scope.specs.Geometry.{most-pages}
-use Rattle.scope.specs.Lent.{none}
+use Rattle.scope.specs.Lent.{none, valid, is-valid, state-of, owner-of}
+use Rattle.flash.specs.Cases.{and-true, is-false}
 use Rattle.flash.specs.Counting.{count-le}
+use Rattle.words.specs.Runs.{getD-any}
 use Rattle.soundness.specs.Named.{owns, is-none, none-owned}
 use Rattle.soundness.specs.declared.tally.Tally.{Tally}
 
@@ -66,6 +69,27 @@ pub word-place : (t r : Tally) (x k : ℕ) (spare : List ℕ) (first n : ℕ) �
     → Tallied-word t r (is-none x) (owns first n spare k x)
 word-place t r x k spare first n some nones good =
     record { nones-more = rw (ne-eqb x none some) (omega arith); good-more = good }
+
+-- A page's two words as one number: it is that of a valid page of k exactly where the words are.
+pub pair-owns : (first n : ℕ) (spare : List ℕ) (k p : ℕ) → first ≤ p → p < first + n → p * 2 + 2 ≤ length spare
+    → getD spare (p * 2) 0 + getD spare (p * 2 + 1) 0 * 4294967296 ≡ valid + k * 4294967296 → getD spare (p * 2) 0 < 4294967296
+    → owns first n spare k p ≡ true
+pair-owns first n spare k p low high inside same small =
+    let state : state-of p spare ≡ valid = sym (getD-any spare (p * 2) 0 none (omega arith)) ∙ omega arith in
+    let owner : owner-of p spare ≡ k = sym (getD-any spare (p * 2 + 1) 0 none (omega arith)) ∙ omega arith in
+    rw (le-leb first p low, lt-ltb p (first + n) high, eq-eqb (state-of p spare) valid state, eq-eqb (owner-of p spare) k owner)
+
+pub pair-differs : (first n : ℕ) (spare : List ℕ) (k p : ℕ) → p * 2 + 2 ≤ length spare
+    → getD spare (p * 2) 0 + getD spare (p * 2 + 1) 0 * 4294967296 ≢ valid + k * 4294967296
+    → owns first n spare k p ≡ false
+pair-differs first n spare k p inside differs =
+    is-false (owns first n spare k p) (λ h.
+    let both = and-true (leb first p && ltb p (first + n) && is-valid p spare) (eqb (owner-of p spare) k) h in
+    let state = eqb-true (state-of p spare) valid (and-true (leb first p && ltb p (first + n)) (is-valid p spare) (both .0) .1) in
+    let owner = eqb-true (owner-of p spare) k (both .1) in
+    let state-read : getD spare (p * 2) 0 ≡ valid = getD-any spare (p * 2) 0 none (omega arith) ∙ state in
+    let owner-read : getD spare (p * 2 + 1) 0 ≡ k = getD-any spare (p * 2 + 1) 0 none (omega arith) ∙ owner in
+    absurd (differs (omega arith)))
 
 -- From no words to n, a word at a time.
 pub tallied-start : (t : Tally) (nowhere good : ℕ → Bool) → Tallied t t 0 nowhere good

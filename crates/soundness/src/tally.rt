@@ -15,6 +15,10 @@ pub struct Tally {
     pub good: usize,
 }
 
+// A page's state and owner as one number, as they lie side by side in the spare: one comparison tells both, and the compiler reads them
+// at once.
+const PAIR: u64 = 4294967296;
+
 // 1 where page `at` is one of the n pages from `first` on, valid and owned by k, else 0. Both words are read before they are looked at,
 // so that no branch hangs on them: which words of a full chip are stale, nobody can guess.
 fn owned(spare: &[u32], first: usize, n: usize, k: u32, at: usize) -> usize
@@ -26,10 +30,7 @@ fn owned(spare: &[u32], first: usize, n: usize, k: u32, at: usize) -> usize
     if at < first {
         return 0;
     }
-    if state != VALID {
-        return 0;
-    }
-    if owner != k {
+    if state as u64 + owner as u64 * PAIR != VALID as u64 + k as u64 * PAIR {
         return 0;
     }
     1
