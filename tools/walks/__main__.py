@@ -16,7 +16,8 @@ COMMANDS, from the repository's folder; `rt fmt` after the first
 THE SOURCE has one of two shapes; all else goes into the functions that these call, which are covered and take structs by value
     over a record: copies it, makes calls, stores the record that the last one gives    (record.py has the shape)
     a run: a loop over the requests, each given to one callee with the state so far     (run.py)
-    Parameters are u32, usize, structs, `&[u32]`, `&mut [u32]`, `&[Struct]`, and the record.
+    Parameters are numbers (u32, u64, usize), structs, `&[u32]`, `&mut [u32]`, `&mut [u32; 64]`, `&[Struct]`, and the record. A function
+    over a record may have local arrays of zeros, which it lends to its callees.
 
 THE CONTRACTS have one `ensures { λ r. ⌜ fact ⌝ }`, and at most one `requires { ⌜ fact ⌝ }`. They speak of a slice or a record by
     `now (x .entry)` and `now (x .exit)` alone. The walk takes the callees' facts from their source, with what `ghost use` brings.
@@ -26,7 +27,8 @@ THE CONTRACTS have one `ensures { λ r. ⌜ fact ⌝ }`, and at most one `requir
     record type, as `Ran ..`. For a function f:
 
     f-by            over a record, of several calls: what each callee ensures, in order, gives what f ensures
-    f-before-g      the same of the calls before g gives what g requires, where g requires anything
+    f-before-g      the same of the calls before g gives what g requires, where g requires anything; in front, that the list of each
+                    local array that was not lent yet is `replicate n 0`
     f-none          a run: what f ensures holds of no request. Where it has `length (now (rs .entry))` stands the number of requests served
     f-more          i < length rs, the same of the first i requests, and what the callee ensures of request i give that of i + 1.
                     Request i is `getD rs i (record { .. })`, with 0 in each field

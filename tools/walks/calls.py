@@ -4,7 +4,8 @@ from __future__ import annotations
 from typing import NamedTuple
 
 from context import Context
-from params import TRUE, Kind, Plain, Slice
+from kinds import TRUE, Kind, Plain
+from params import Lendable, LocalArray
 from source import Function, Misfit
 from text import LOGIC, MACHINE, Terms, arrow, binders, cons, named, nested, nested_type, part, token
 
@@ -14,24 +15,27 @@ Pairs = list[tuple[str, str]]  # variables, with types
 class Given(NamedTuple):
     """What the walk has to give to a call, where the call stands."""
     values: dict[str, tuple[int, Plain]]       # by name, numbers and structs: their locals, and what they are
-    lists: dict[Slice, tuple[str, str]]        # of each slice its list there, and that it is as long as at entry
+    lists: dict[Lendable, tuple[str, str]]     # of what can be lent its list there, and what is known of it
     depends: Pairs                             # the variables that these depend on, ..
     facts: Pairs                               # .. and those that the proofs of them have
-    kept: list[Slice]                          # the `&mut` slices that are needed after the call
+    kept: list[Lendable]                       # what is lent as `&mut` and needed after the call
     needs: str                                 # a proof of the callee's `requires`
 
 
 class Lent:
-    """A slice in a call."""
+    """What a call is lent."""
 
-    def __init__(self, p: Slice, n: str, place: int, number: int, comes_back: bool, items: str, same_length: str):
-        self.p, self.x, self.items, self.same_length, self.comes_back = p, p.x, items, same_length, comes_back
+    def __init__(self, p: Lendable, n: str, place: int, number: int, comes_back: bool, items: str, known: str):
+        self.p, self.x, self.items, self.known, self.comes_back = p, p.x, items, known, comes_back
         self.last = f"(zs{n}{part(place)})" if p.mut else items  # its list after the call
         self.number, self.made, self.name = number, f"ν{n}·{p.x}", f"γ·{p.x}"  # of its lifetime in the callee; one made for the call; its name
         self.lifetime, self.share, self.token_name = f"κ·{p.x}", f"q·{p.x}", f"token {p.x}"
         if comes_back:
             self.name, self.lifetime, self.share, self.token_name = f"δ{n}·{p.x}", f"({self.made} ∷ [])", "fullShare", f"fresh {p.x}"
         self.type, self.value, self.machine, self.row = p.type, p.at(self.name, items), p.machine, p.row_at(number, self.lifetime)
+        # the variables that its value in the call depends on: what is made for the call, and the place of a local
+        self.binds = [(self.made, "ℕ"), (self.name, "GName")] if comes_back else []
+        self.binds += [(f"l·{p.local}", "ℕ")] if isinstance(p, LocalArray) else []
 
 
 class Call:
@@ -41,13 +45,14 @@ class Call:
         self.k, self.n, self.callee, self.out, self.given = k, f"·{k}", callee, out, given
         if len(names) != len(callee.params):
             raise Misfit(f"'{callee.item}' takes {len(callee.params)} arguments, and is given {len(names)}")
-        slices, values = {p.name: p for p in given.lists}, {"true": (None, TRUE), **given.values}
+        lists, values = {p.name: p for p in given.lists}, {"true": (None, TRUE), **given.values}
         self.args: list[Plain | Lent] = []
-        self.operands: list[int | None] = []  # a local, or none where the argument is `true`
+        self.operands: list[int | None] = []  # a local, or none where the argument is `true` or a local array
         for place, name in enumerate(names):
-            if p := slices.get(name):
+            if p := lists.get(name):
                 number = sum(isinstance(a, Lent) for a in self.args)
-                operand, arg = p.local, Lent(p, self.n, place, number, p in given.kept, *given.lists[p])
+                operand = None if isinstance(p, LocalArray) else p.local
+                arg = Lent(p, self.n, place, number, p in given.kept, *given.lists[p])
             elif name in values:
                 operand, arg = values[name]
             else:
@@ -56,27 +61,31 @@ class Call:
             self.args.append(arg)
         self.lent = [a for a in self.args if isinstance(a, Lent)]
         self.muts = [a for a in self.lent if a.p.mut]
-        self.lent_on: dict[Lent, int] = {}  # of each `&mut` slice the second of the two locals by which it is lent on
-        self.state = given.depends + [pair for a in self.muts if a.comes_back for pair in ((a.made, "ℕ"), (a.name, "GName"))]
+        self.arrays = [a for a in self.lent if isinstance(a.p, LocalArray)]
+        self.listed = [a for a in self.lent if a not in self.arrays]
+        self.lent_on: dict[Lent, int] = {}  # of each `&mut` the last of the locals by which it is lent on
+        self.state = given.depends + [pair for a in self.muts for pair in a.binds]
         self.to, self.ca, self.cv, self.gives = (f"({name}{self.n} {named(self.state)})" for name in ("to", "ca", "cv", "gives"))
         self.contract, self.lifetimes = f"Callee{self.n} 𝓤 H A mm rn", nested(a.lifetime for a in self.lent)
         # what is known after the call: the result, the last values of all arguments, what the `ensures` says of them, what is known of
-        # the result, and that each last list is as long as the one given; in the `post`, that the result is related to the machine value w
+        # the result, that each last list of a slice is as long as the one given, and how a local array lies in its local; in the `post`,
+        # that the result is related to the machine value w
         self.result = out.plain(f"r{self.n}", f"is{self.n}")
         self.lasts = nested_type("List ℕ" if a in self.muts else "Unit {0}" for a in self.args)
         self.values: Pairs = [(f"r{self.n}", out.type), (f"zs{self.n}", self.lasts)]
         self.did = (f"did{self.n}", f"Did{self.n} {named(given.depends + self.values)}")
         self.known = (f"is{self.n}", out.known(f"r{self.n}"))
-        self.lengths: Pairs = [(f"d{self.n}·{a.x}", f"length {a.last} ≡ length {a.items}") for a in self.muts]
-        self.results: Pairs = [*self.values, self.did, self.known, *self.lengths]
+        self.lengths: Pairs = [(f"d{self.n}·{a.x}", f"length {a.last} ≡ length {a.items}") for a in self.muts if a.p.sized]
+        lie: Pairs = [(a.p.known_after(self.n, a.known), a.p.to.known(a.last)) for a in self.arrays]
+        self.results: Pairs = [*self.values, self.did, self.known, *self.lengths, *lie]
         self.heard: Pairs = [*self.values, self.did, (f"was{self.n}", f"Is {out.row} r{self.n} (w{self.n} ∷ [])"), *self.lengths]
         self.knows = out.knows(f"r{self.n}", f"was{self.n}")
 
     def number_locals(self, first: int) -> list[str]:
-        """Gives each `&mut` slice two locals, from `first` on; their machine types."""
-        types = []
+        """Gives each `&mut` the locals by which it is lent on, from `first` on; their machine types."""
+        types: list[str] = []
         for a in self.muts:
-            types += [f"(tyRef erased mut {a.p.target})", f"(sliceTy (tyRef erased mut {a.p.target}))"]
+            types += a.p.on
             self.lent_on[a] = first + len(types) - 1
         self.extra_locals = range(first, first + len(types))
         return types
@@ -122,11 +131,11 @@ Callee{n} 𝓤 H A mm rn = tripleOf 𝓤 H A callee{n}.signature (callee{n}.spec
         return {a.token_name: token(a.lifetime, a.share) for a in self.lent}
 
     def given_items(self) -> dict[str, str]:
-        """What the walk gives: the tokens, and what the callee is to own of each slice."""
+        """What the walk gives: the tokens, and what the callee is to own of all that it is lent."""
         return {**self.tokens(), **{f"lent {a.x}": f"‵ ({a.row} .own ({a.value}) ({a.machine} ∷ []))" for a in self.lent}}
 
     def come_items(self) -> dict[str, str]:
-        """What comes back: the tokens, and of each `&mut` slice that its last list is known."""
+        """What comes back: the tokens, and of each `&mut` that its last list is known."""
         return {**self.tokens(), **{f"last {a.x}": a.p.last(a.last, a.name) for a in self.muts}}
 
     def pre(self) -> str:
@@ -155,10 +164,12 @@ Callee{n} 𝓤 H A mm rn = tripleOf 𝓤 H A callee{n}.signature (callee{n}.spec
         c.bind("pick !", f"zs{n}").rule("split !", 1, ["lasts", "fact"]).front("fact").bind(f"heard ! ({self.did[1]})", f"did{n}", 1).line()
         for a in self.args:
             c.front("lasts").rule("fsplit !", 1, ["one", "lasts"])
-            if a in self.muts:
+            if a not in self.muts:
+                c.rule("drop !", 1)
+            elif a.p.sized:
                 c.rule("fsplit !", 1, [f"last {a.x}", "same length"]).front("same length").bind("feqL !", f"d{n}·{a.x}", 1)
             else:
-                c.rule("drop !", 1)
+                c.rename("one", f"last {a.x}")
         c.drop("lasts").front("tokens and result").rule("split !", 1, ["tokens", "result"]).front("result")
         c.bind(f"peeks ! {out.relation} r{n} (w{n} ∷ [])", f"was{n}").drop("result").line()
         for name in self.tokens():
@@ -173,12 +184,10 @@ Callee{n} 𝓤 H A mm rn = tripleOf 𝓤 H A callee{n}.signature (callee{n}.spec
     # ---- The steps
 
     def steps(self, c: Context, slot: int, how: str) -> None:
-        """From `own x` and `token x` of each slice to the result in the local `slot`, and each slice as it stands after the call."""
+        """From what the walk has of all that is lent to the result in the local `slot`, and what it has of that after the call."""
         n, out, items = self.n, self.out, self.given_items()
-        for a in self.muts:  # the two statements that lend it on
-            pointer, local = self.lent_on[a] - 1, a.p.local
-            c.assign(pointer, f"(addr ! (from ! (fld ! refl (hop ! (look-in ! {c.cell(local)} (sub ! 0 refl (whole !))) (stop !)))))", "(tt, tt)")
-            c.assign(pointer + 1, f"(agg ! (and-then ! {c.load(pointer)} (and-then ! {c.load_field(local, 1)} (no-more !))))", a.p.typing)
+        for a in self.muts:
+            a.p.lend_on(c, self.lent_on[a])
         for a in self.lent:
             self.lend(c, a)
         calling = f"calling{n} {named(self.state + self.given.facts)}"
@@ -194,16 +203,13 @@ Callee{n} 𝓤 H A mm rn = tripleOf 𝓤 H A callee{n}.signature (callee{n}.spec
         tells, cell = f"(ap only ({out.tells} r{n} _ was{n}))", f"(λ (v : Val). ‵ (fat fullShare {out.machine_type} l·{slot} 0 v))"
         c.rule(f"rewrite ! {c.cell(slot)} {cell} {tells} refl").line()
         for a in (a for a in self.muts if a.comes_back):
-            c.front(f"fresh {a.x}", f"kept {a.x}", f"last {a.x}")
-            c.rule(f"comes-back ! tt {a.p.to.row} (named {a.p.lifetime}) b·{a.x} o·{a.x} {a.items} {a.last} {a.same_length} d{n}·{a.x} room·{a.x}",
-                   3, [f"own {a.x}", f"token {a.x}"]).line()
+            a.p.come_back(c, n, a.items, a.last, a.known)
 
     def lend(self, c: Context, a: Lent) -> None:
-        """A `&mut` slice that comes back is lent for a lifetime made for the call; of a `&` slice a copy is made."""
+        """A `&mut` that comes back is lent for a lifetime made for the call; of a `&` slice a copy is made."""
         p, x = a.p, a.x
         if a.comes_back:
-            lends = f"lends-again ! tt {p.to.row} (named {p.lifetime}) (named {a.number}) b·{x} o·{x} {a.items} (length l·{x})"
-            c.front(f"own {x}", f"token {x}").bind(lends, f"{a.made} {a.name}", 2, [f"fresh {x}", f"lent {x}", f"kept {x}"]).line()
+            p.lend(c, a.number, a.items, a.known, f"{a.made} {a.name}")
         elif p.mut:
             c.rename(f"own {x}", f"lent {x}")
         else:

@@ -14,7 +14,7 @@ class Context:
 
     Entries: `cell i`, `dies i`: a local, and the right to free it. `tokens`: all tokens in one. `params`: what all the parameters own.
     `args`: what a callee is to own, or at exit what is had of the parameters. Of a parameter x: `token x`; `own x`, what it owns;
-    `last x`, that its last list is known. Of a slice in a call: `lent x`, what the callee is to own of it; where it comes back,
+    `last x`, that its last list is known. Of what a call is lent: `lent x`, what the callee is to own of it; where it comes back,
     `fresh x`, the token of the lifetime made for the call, and `kept x`, what the walk keeps meanwhile.
     """
 

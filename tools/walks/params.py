@@ -1,104 +1,13 @@
-"""Numbers and structs, the parameters of a walked function, and what the parts of a walk say of each."""
+"""The parameters of a walked function, its local arrays, and what the parts of a walk say of each."""
 from __future__ import annotations
 
 import re
-from typing import NamedTuple
 
-from source import Function, Item, Misfit
-from text import part, token
+from context import Context
+from kinds import USIZE, Array, Kind, Number, Struct, kind_of
+from source import Function, Misfit
+from text import named, part, token
 
-
-class Plain(NamedTuple):
-    """A value that is a number, a bool or a struct."""
-    type: str          # in contracts
-    value: str
-    machine_type: str
-    machine: str       # its machine value
-    typing: str        # that this is of the machine type
-    row: str
-    owned: str         # the rule that makes what it owns
-
-
-class Kind:
-    """The type of such values. What a walk knows of one is the type's relation, `Is`, to its machine value."""
-
-    type: str          # in contracts
-    row: str
-    machine_type: str
-    vals: str          # that a value is one machine value
-    tells: str         # that the relation tells which
-    lawful: str        # that the machine value is of its type
-    makes: str         # that the relation makes what a value owns
-
-    def machine(self, value: str) -> str:
-        """The machine value."""
-        raise NotImplementedError
-
-    def knows(self, value: str, related: str) -> str:
-        """A proof of `known`, by one that the value is related to some machine value."""
-        raise NotImplementedError
-
-    def known(self, value: str) -> str:
-        return f"Is {self.row} {value} ({self.machine(value)} ∷ [])"
-
-    @property
-    def relation(self) -> str:
-        """The row, its relation, and that what is owned shows it."""
-        return f"{self.row} (Is {self.row}) (shows 𝓤 H A {self.row})"
-
-    def plain(self, value: str, proof: str) -> Plain:
-        """A value, with a proof of what is known of it."""
-        return Plain(self.type, value, self.machine_type, self.machine(value), f"({self.lawful} .typed {value} _ {proof} .0)", self.row,
-                     f"owned ! {self.row} (Is {self.row}) {self.makes} {value} _ {proof}")
-
-
-class Number(Kind):
-    """u32 or usize."""
-
-    def __init__(self, name: str):
-        self.name = self.row = name
-        self.width = {"u32": "w32", "usize": "w64"}[name]
-        self.type, self.machine_type, self.makes = "ℕ", f"(tyInt {self.width})", f"(uint-makes 𝓤 H A W {self.width})"
-        self.vals, self.tells, self.lawful = f"uint-vals {self.width}", f"uint-tells {self.width}", f"uint-lawful 𝓤 H A W {self.width}"
-
-    def machine(self, value: str) -> str:
-        return f"(vint {self.width} {value})"
-
-    def knows(self, value: str, related: str) -> str:
-        return f"(refl, {related} .1)"
-
-
-class Struct(Kind):
-    """A struct S. Of it a walk has D·S, its type in contracts, and T·S and L·S, the modules of its row and its laws."""
-
-    def __init__(self, item: Item):
-        self.item, self.name = item, item.name
-        self.type, self.row, self.machine_type = f"D·{self.name}", f"T·{self.name}.the-row", f"L·{self.name}.mir"
-        self.laws = f"T·{self.name}.the-type L·{self.name}.the-laws"
-        self.vals, self.tells, self.lawful = f"LL.vals {self.laws}", f"LL.tells {self.laws}", f"LL.lawful {self.laws} 𝓤 H A W"
-        self.makes = f"(LL.makes T·{self.name}.the-type L·{self.name}.the-plain 𝓤 H A)"
-        self.copies = f"(LL.copy T·{self.name}.the-type L·{self.name}.the-copy 𝓤 H A W)"
-
-    def machine(self, value: str) -> str:
-        return f"(LL.val {self.laws} {value})"
-
-    def knows(self, value: str, related: str) -> str:
-        return f"(LL.owes {self.laws} {value} (LL.owed {self.laws} {value} _ {related}))"
-
-    @property
-    def row_laws(self) -> str:
-        return f"{self.relation} ({self.vals}) ({self.tells})"
-
-    def uses(self, own: str) -> str:
-        s, proofs = self.name, self.item.module("proofs", own)
-        return f"use {self.item.module('specs', own)}.{{{s} as D·{s}}}\nuse {proofs} as T·{s}\nuse {proofs}.Laws as L·{s}\n"
-
-
-U32, USIZE = Number("u32"), Number("usize")
-TRUE = Plain("Bool", "true", "tyBool", "(vbool true)", "(tt, tt)", "bool", "owned ! bool (Is bool) (bool-makes 𝓤 H A W) true _ refl")
-
-
-# ---- Parameters
 
 class Param:
     """A parameter of the walked function. Its parts in the walk are named by a letter and x, as κ·chip, its lifetime."""
@@ -136,7 +45,9 @@ class ByValue(Param):
 
 
 class Reference(Param):
-    """What slices and references to a struct share: a lifetime, by its number, and a place."""
+    """What slices and references to a struct or an array share: a lifetime, by its number, and a place."""
+
+    given = False  # whether a callee has it for good
 
     def __init__(self, name: str, place: int, lifetime: int, mut: bool, to: Kind):
         super().__init__(name, place)
@@ -145,46 +56,200 @@ class Reference(Param):
         self.binders = f"(κ·{x} : Lft) (q·{x} : Share) (b·{x} o·{x} : ℕ) (γ·{x} : GName)"
         self.made_of = f"(κs{part(lifetime)}) (qs{part(lifetime)}) ({arg} .ptr .0) ({arg} .ptr .1) ({arg} .name) ({arg} .now)"
         self.slot, self.how = f"tt (plain (λ _. {to.row}))", "mut" if mut else "imm"
-        self.target = to.machine_type if isinstance(to, Number) else f"(pointee ({to.row} .written))"
+        self.target = f"(pointee ({to.row} .written))" if isinstance(to, Struct) else to.machine_type
 
 
-class Slice(Reference):
-    """A `&mut [u32]`, a `&[u32]`, or a `&[Struct]`."""
+class Lendable:
+    """What is lent to a callee, and is a list in contracts: a slice, an array behind a `&mut`, or a local array. Of its list so far a
+    walk has a proof, `known`: of a slice, that it is as long as at entry; of a local array, how it lies in its local; else none."""
+
+    x: str
+    name: str          # as an argument
+    local: int
+    mut: bool
+    sized: bool        # whether its length is told by its list alone, and not by its type
+    list: str          # its first list, ..
+    known: str         # .. and the proof of it
+    type: str          # of the reference in contracts
+    machine: str       # the machine value of the reference
+    on: list[str]      # the machine types of the locals by which it is lent on
+
+    def at(self, name: str, items: str) -> str:
+        """The value of the reference in contracts, under a ghost name and at a list."""
+        raise NotImplementedError
+
+    def row_at(self, named: int, lifetime: str) -> str:
+        """The row of the reference, for a lifetime that the callee has by that number."""
+        raise NotImplementedError
+
+    def last(self, items: str, name: str) -> str:
+        """That the last list under that name is known."""
+        raise NotImplementedError
+
+    def lend_on(self, c: Context, local: int) -> None:
+        """The statements that lend it on, by as many locals up to this."""
+        raise NotImplementedError
+
+    def lend(self, c: Context, number: int, items: str, known: str, made: str) -> None:
+        """It is lent for a lifetime that is made for the call: `fresh x`, `lent x` and `kept x`. Binds the names `made`."""
+        raise NotImplementedError
+
+    def come_back(self, c: Context, n: str, items: str, last: str, known: str) -> None:
+        """It comes back from the call of that number, and has another list."""
+        raise NotImplementedError
+
+    def known_after(self, n: str, known: str) -> str:
+        """What is known then of its list, by what was known before the call."""
+        return known
+
+
+class Listed(Reference, Lendable):
+    """A parameter that is lent to callees."""
 
     def __init__(self, name: str, place: int, lifetime: int, mut: bool, to: Kind):
         super().__init__(name, place, lifetime, mut, to)
-        x, self.list, self.given = self.x, f"l·{self.x}", False
-        self.binders += f" (l·{x} : List {to.type}) (room·{x} : Room {to.row} (length l·{x}))"
-        self.made_of += f" ({self.related} .0 .1)"
-        self.type, self.value = f"RefT (List {to.type})", self.at(f"γ·{x}", self.list)
-        self.machine_type, self.machine = f"(sliceTy (tyRef (named {lifetime}) {self.how} {self.target}))", f"(sliceVal (b·{x}, o·{x}) (length l·{x}))"
-        self.typing, self.row = f"(tt, (tt, (record {{ fits = room·{x} .0 }}, tt)))", self.row_at(lifetime, f"κ·{x}")
-        self.length = USIZE.plain(f"(length l·{x})", f"(refl, room·{x} .0)")
-        self.vals, self.tells = "slice-vals", f"{'mut' if mut else 'shr'}-slice-tells (named {lifetime}) (κs{part(lifetime)}) {to.row}"
-        self.stay, self.goes = f"stay-none-slice ({lifetime} ∷ []) {self.slot} yes", f"none-slice ({lifetime} ∷ []) {self.slot} yes"
-        if mut:
-            self.stands(given=False)
-
-    def stands(self, given: bool) -> None:
-        """How a `&mut` slice stands at exit: given for good to a callee, or still owned."""
-        self.given = given
-        self.stay = f"{'gave' if given else 'stay'}-slice ({self.lifetime} ∷ []) {self.slot}"
-        self.goes = f"{'gave-' if given else ''}slice {self.lifetime} {self.slot}"
-
-    def at(self, name: str, items: str) -> str:
-        """Its value in contracts, under a ghost name and at a list."""
-        return f"slice {self.to.row} b·{self.x} o·{self.x} {name} {items}"
-
-    def row_at(self, named: int, lifetime: str) -> str:
-        return f"{'MutSlice' if self.mut else 'ShrSlice'} (named {named}) {lifetime} {self.to.row}"
+        self.place = f"b·{self.x} o·{self.x}"
+        self.list, self.row = f"l·{self.x}", self.row_at(lifetime, f"κ·{self.x}")
+        self.value = self.at(f"γ·{self.x}", self.list)
 
     def owned(self, items: str) -> str:
         """What it owns, at that list."""
         return f"‵ ({self.row} .own ({self.at(f'γ·{self.x}', items)}) ({self.machine} ∷ []))"
 
+    def stands(self, given: bool) -> None:
+        """How a `&mut` stands at exit: given for good to a callee, or still owned."""
+        self.given = given
+        self.stay = f"{'gave' if given else 'stay'}-{self.form} ({self.lifetime} ∷ []) {self.slot}"
+        self.goes = f"{'gave-' if given else ''}{self.form} {self.lifetime} {self.slot}"
+
+
+class Slice(Listed):
+    """A `&mut [u32]`, a `&[u32]`, or a `&[Struct]`."""
+
+    form, sized, known = "slice", True, "refl"
+
+    def __init__(self, name: str, place: int, lifetime: int, mut: bool, to: Kind):
+        super().__init__(name, place, lifetime, mut, to)
+        x = self.x
+        self.binders += f" (l·{x} : List {to.type}) (room·{x} : Room {to.row} (length l·{x}))"
+        self.made_of += f" ({self.related} .0 .1)"
+        self.type = f"RefT (List {to.type})"
+        self.machine_type, self.machine = f"(sliceTy (tyRef (named {lifetime}) {self.how} {self.target}))", f"(sliceVal (b·{x}, o·{x}) (length l·{x}))"
+        self.typing = f"(tt, (tt, (record {{ fits = room·{x} .0 }}, tt)))"
+        self.length = USIZE.plain(f"(length l·{x})", f"(refl, room·{x} .0)")
+        self.vals, self.tells = "slice-vals", f"{'mut' if mut else 'shr'}-slice-tells (named {lifetime}) (κs{part(lifetime)}) {to.row}"
+        self.stay, self.goes = f"stay-none-slice ({lifetime} ∷ []) {self.slot} yes", f"none-slice ({lifetime} ∷ []) {self.slot} yes"
+        self.on = [f"(tyRef erased mut {self.target})", f"(sliceTy (tyRef erased mut {self.target}))"]
+        if mut:
+            self.stands(given=False)
+
+    def at(self, name: str, items: str) -> str:
+        return f"slice {self.to.row} {self.place} {name} {items}"
+
+    def row_at(self, named: int, lifetime: str) -> str:
+        return f"{'MutSlice' if self.mut else 'ShrSlice'} (named {named}) {lifetime} {self.to.row}"
+
     def last(self, items: str, name: str = "") -> str:
-        """That its last list is known, under its own name or another."""
         return f"‵ (finally {self.to.row} {name or f'γ·{self.x}'} {items})"
+
+    def lend_on(self, c: Context, local: int) -> None:
+        place = f"(fld ! refl (hop ! (look-in ! {c.cell(self.local)} (sub ! 0 refl (whole !))) (stop !)))"
+        c.assign(local - 1, f"(addr ! (from ! {place}))", "(tt, tt)")
+        c.assign(local, f"(agg ! (and-then ! {c.load(local - 1)} (and-then ! {c.load_field(self.local, 1)} (no-more !))))", self.typing)
+
+    def lend(self, c: Context, number: int, items: str, known: str, made: str) -> None:
+        x, lends = self.x, f"lends-again ! tt {self.to.row} (named {self.lifetime}) (named {number})"
+        c.front(f"own {x}", f"token {x}")
+        c.bind(f"{lends} {self.place} {items} (length l·{x})", made, 2, [f"fresh {x}", f"lent {x}", f"kept {x}"]).line()
+
+    def come_back(self, c: Context, n: str, items: str, last: str, known: str) -> None:
+        x, back = self.x, f"comes-back ! tt {self.to.row} (named {self.lifetime}) {self.place}"
+        c.front(f"fresh {x}", f"kept {x}", f"last {x}")
+        c.rule(f"{back} {items} {last} {known} d{n}·{x} room·{x}", 3, [f"own {x}", f"token {x}"]).line()
+
+    def known_after(self, n: str, known: str) -> str:
+        return f"d{n}·{self.x}" if known == "refl" else f"(d{n}·{self.x} ∙ {known})"
+
+
+class ArrayLent(Lendable):
+    """What a local array that is lent and an array behind a `&mut` share: the reference to it, which points to `place`."""
+
+    mut, sized, type, typing = True, False, "RefT (List ℕ)", "(tt, tt)"
+    place: str
+    to: Array
+
+    def at(self, name: str, items: str) -> str:
+        return f"to-one {self.to.row} {self.place} {name} {items}"
+
+    def row_at(self, named: int, lifetime: str) -> str:
+        return f"MutRef (named {named}) {lifetime} {self.to.row}"
+
+    def last(self, items: str, name: str = "") -> str:
+        return f"‵ (fres {name or f'γ·{self.x}'} ({self.to.row} .coded .code {items}))"
+
+
+class ArrayRef(ArrayLent, Listed):
+    """A `&mut [u32; n]` or a `&mut [u64; n]`."""
+
+    form, known = "ref", "tt"
+
+    def __init__(self, name: str, place: int, lifetime: int, mut: bool, to: Array):
+        super().__init__(name, place, lifetime, mut, to)
+        self.slot = f"tt (arrayOf (plain (λ _. {to.of.row})) {to.n})"
+        self.binders += f" ({self.list} : List ℕ)"
+        self.machine_type, self.machine = f"(tyRef (named {lifetime}) mut {self.target})", f"(vptr {self.place})"
+        self.vals, self.tells = "ptr-vals", f"mut-tells (named {lifetime}) (κs{part(lifetime)}) {to.row}"
+        self.on = [f"(tyRef erased mut {self.target})"]
+        self.stands(given=False)
+
+    def lend_on(self, c: Context, local: int) -> None:
+        c.assign(local, f"(addr ! (from ! (hop ! (look ! {c.cell(self.local)} refl) (stop !))))", "(tt, tt)")
+
+    def lend(self, c: Context, number: int, items: str, known: str, made: str) -> None:
+        x, lends = self.x, f"lends-ref-again ! tt {self.to.row} (named {self.lifetime}) (named {number}) {self.place} {items}"
+        c.front(f"own {x}", f"token {x}").bind(lends, made, 2, [f"fresh {x}", f"lent {x}", f"kept {x}"]).line()
+
+    def come_back(self, c: Context, n: str, items: str, last: str, known: str) -> None:
+        x, back = self.x, f"ref-comes-back ! tt {self.to.row} (named {self.lifetime}) {self.place} {items} {last}"
+        c.front(f"fresh {x}", f"kept {x}", f"last {x}").rule(back, 3, [f"own {x}", f"token {x}"]).line()
+
+
+class LocalArray(ArrayLent):
+    """`let mut x = [0u32; n];`, lent as `&mut x`. Its first list is a variable, of which the walk has that it is zeros: so no proof that
+    the check computes with has n elements."""
+
+    def __init__(self, name: str, local: int, to: Array):
+        self.name, self.x, self.local, self.to = f"&mut {name}", name.replace("_", "-"), local, to
+        self.list, self.known, self.place = f"l·{self.x}", f"is·{self.x}", f"l·{local} 0"
+        self.machine, self.on = f"(vptr {self.place})", [f"(tyRef erased mut {to.machine_type})"]
+        self.zeros = (f"zeros·{self.x}", f"{self.list} ≡ replicate {to.n} 0")
+        self.made = [(self.list, "List ℕ"), self.zeros, (self.known, to.known(self.list))]  # what is known once it is made
+
+    def held(self, items: str) -> str:
+        """What its local owns, at that list."""
+        return f"‵ (fat fullShare {self.to.machine_type} l·{self.local} 0 {self.to.machine(items)})"
+
+    def make(self, c: Context) -> None:
+        """The statement that makes it."""
+        n, cell, fits = self.to.n, f"cell {self.local}", f"{self.to.of.width} (lit< tt)"
+        c.assign(self.local, f"(rep ! {n} (lit ! tt))", f"(zeros-typed {fits} 𝓤 H A W {n})")
+        c.front(cell).bind(f"zeroed ! {fits} {n} l·{self.local}", named(self.made), 1, [cell]).line()
+
+    def lend_on(self, c: Context, local: int) -> None:
+        c.assign(local, "(addr ! (from ! (stop !)))", "(tt, tt)")
+
+    def lend(self, c: Context, number: int, items: str, known: str, made: str) -> None:
+        x, to = self.x, self.to.plain(items, known)
+        c.rule(to.owned, 0, ["own array"]).front(f"cell {self.local}", "own array")
+        lends = f"lends-local ! tt {to.row} (named {number}) l·{self.local} {items} ({to.machine} ∷ [])"
+        c.bind(lends, made, 2, [f"fresh {x}", f"lent {x}", f"kept {x}"]).line()
+
+    def come_back(self, c: Context, n: str, items: str, last: str, known: str) -> None:
+        x, back = self.x, f"local-back ! tt {self.to.row} ({self.to.vals}) ({self.to.tells}) l·{self.local} {last}"
+        c.front(f"fresh {x}", f"kept {x}", f"last {x}").bind(back, self.known_after(n, known), 3, [f"cell {self.local}"]).line()
+
+    def known_after(self, n: str, known: str) -> str:
+        return f"is{n}·{self.x}"
 
 
 class Record(Reference):
@@ -203,25 +268,18 @@ class Record(Reference):
         self.goes = f"ref {lifetime} {self.slot}" if mut else f"none-ref ({lifetime} ∷ []) {self.slot} yes"
 
 
-def kind_of(name: str, f: Function) -> Kind:
-    """The type of that name in the function's file."""
-    if name in ("u32", "usize"):
-        return Number(name)
-    if not name.split("::")[-1][:1].isupper():
-        raise Misfit(f"'{f.item}': a walk has no '{name}', but u32, usize and structs")
-    return Struct(f.file.leads_to(name))
-
-
 def params_of(f: Function) -> list[Param]:
     """The parameters of a function."""
     params: list[Param] = []
     for place, (name, text) in enumerate(f.params):
-        m = re.fullmatch(r"(?P<ref>& ?(?P<mut>mut )?)?(?P<slice>\[)?(?P<to>[\w:]+)\]?", text)
+        m = re.fullmatch(r"(?P<ref>& ?(?P<mut>mut )?)?(?P<slice>\[)?(?P<to>[\w:]+)(?:; (?P<n>\d+))?\]?", text)
         to = m and kind_of(m["to"], f)
         lifetime = sum(isinstance(p, Reference) for p in params)
         if m and not m["ref"] and not m["slice"]:
             params.append(ByValue(name, place, to))
-        elif m and m["ref"] and (isinstance(to, Number) or not m["mut"] if m["slice"] else isinstance(to, Struct)):
+        elif m and m["n"] and m["ref"] and m["mut"] and isinstance(to, Number):
+            params.append(ArrayRef(name, place, lifetime, True, Array(to, m["n"])))
+        elif m and m["ref"] and not m["n"] and (isinstance(to, Number) or not m["mut"] if m["slice"] else isinstance(to, Struct)):
             params.append((Slice if m["slice"] else Record)(name, place, lifetime, bool(m["mut"]), to))
         else:
             raise Misfit(f"'{f.item}': a walk has no parameter '{name}: {text}'")

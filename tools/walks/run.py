@@ -20,7 +20,8 @@ import re
 
 from calls import Call, Given
 from context import Context
-from params import USIZE, ByValue, Slice, Struct, kind_of
+from kinds import USIZE, Struct, kind_of
+from params import ByValue, Listed, Slice
 from source import Function, Misfit, Source, split_list
 from text import Terms, cons, field
 from walk import Walk
@@ -56,7 +57,7 @@ class Run(Walk):
         self.request = self.rs.to.plain(f"(getD {self.element})", "g")
         self.less = ("less", f"st .i < length l·{self.rs.x}")
         self.add_call(source.function(f.file.leads_to(m["callee"])), split_list(m["args"]), [m["cur"], m["i"], f"{m['rs']}[{m['i']}]"])
-        self.at_exit = [*(f"own {p.x}" for p in self.slices), *(f"token {p.x}" for p in self.refs)]
+        self.at_exit = [*(f"own {p.x}" for p in self.listed), *(f"token {p.x}" for p in self.refs)]
         self.at_turn = self.at_exit + self.cells
 
     def add_call(self, callee: Function, names: list[str], lead: list[str]) -> None:
@@ -65,18 +66,26 @@ class Run(Walk):
         if callee.requires and not self.f.requires:
             raise Misfit(f"'{callee.item}' has a `requires`, and '{self.f.item}' has none")
         values = {**self.plain, **dict(zip(lead, ((self.cur, self.state), (self.i, self.index), (self.read, self.request))))}
-        lists = {p: (f"(st .z·{p.x})", f"(st .e·{p.x})") if p.mut else (p.list, "refl") for p in self.slices}
+        lists = {p: self.so_far(p) if p.mut else (p.list, p.known) for p in self.listed}
         facts = [self.less, ("g", self.rs.to.known(self.request.value))]
         needs = f"{self.law('ready')} less (st .ran) needed" if callee.requires else ""
         self.call = Call(1, callee, self.out, names, Given(values, lists, [("st", "St")], facts, self.muts, needs))
         self.calls = [self.call]
         self.types += self.call.number_locals(len(self.types))
 
+    def so_far(self, p: Listed) -> tuple[str, str]:
+        """The list of a `&mut` in the state st, and what is known of it."""
+        return f"(st .z·{p.x})", f"(st .e·{p.x})" if p.sized else p.known
+
+    def lists(self, lists: dict[Listed, tuple[str, str]]) -> str:
+        """The fields of a state for these lists."""
+        return "".join(f"z·{p.x} = {items}; " + (f"e·{p.x} = {known}; " if p.sized else "") for p, (items, known) in lists.items())
+
     def ran(self, state: str, before: str, index: str) -> str:
         """What the run's `ensures` says of the first requests, where it has the length of all: the state, the lists, and their number."""
         length = rf"length \(now \(«?{self.rs.name}»? \.entry\)\)"
         clause = self.f.ensures._replace(fact=re.sub(rf"\({length}\)|{length}", "#served", self.f.ensures.fact))
-        values, lists = {name: value.value for name, (_, value) in self.plain.items()}, {p.name: p.list for p in self.slices}
+        values, lists = {name: value.value for name, (_, value) in self.plain.items()}, {p.name: p.list for p in self.listed}
         return Terms({**values, "#served": index}, lists, {**lists, **{p.name: f"({before}z·{p.x})" for p in self.muts}}, state).say(clause)
 
     # ---- The definitions
@@ -88,7 +97,7 @@ class Run(Walk):
     def states(self) -> str:
         """The states of the loop, and the order in which they end."""
         rs, of = f"l·{self.rs.x}", f"(st : St) → {self.less[1]} → "
-        lists = "".join(f"\n    z·{p.x} : List ℕ\n    e·{p.x} : length z·{p.x} ≡ length l·{p.x}" for p in self.muts)
+        lists = "".join(f"\n    z·{p.x} : List ℕ" + (f"\n    e·{p.x} : length z·{p.x} ≡ length l·{p.x}" if p.sized else "") for p in self.muts)
         return f"""\
   abbrev no-request : {self.rs.to.type}
   no-request = record {{ {self.zeros} }}
@@ -113,7 +122,7 @@ class Run(Walk):
         """What an entry of `at_turn` is, in the state st."""
         what, name = entry.split(" ", 1)
         if what in ("token", "own"):
-            p = next(p for p in self.slices if p.x == name)
+            p = next(p for p in self.listed if p.x == name)
             return p.token if what == "token" else p.owned(f"(st .z·{p.x})" if p.mut else p.list)
         i, full = int(name), {self.i: self.index.machine, self.cur: self.state.machine, **{p.local: p.machine for p in self.params}}
         return f"‵ (fdies {self.types[i]} l·{i})" if what == "dies" else self.cell(i, full.get(i, ""))
@@ -122,7 +131,7 @@ class Run(Walk):
         """That what the walk has at exit, in a state where all requests were served, makes the `ensures`."""
         had = cons(map(self.item, self.at_exit))
         proof = f"subst (λ (m : ℕ). {self.ran('(st .cur)', 'st .', 'm')}) all (st .ran)"
-        lasts = {p: (f"(st .z·{p.x})", f"(st .e·{p.x})") for p in self.muts}
+        lasts = {p: self.so_far(p) for p in self.muts}
         return f"""\
   exits : (st : St) → st .i ≡ length l·{self.rs.x} → ent 𝓤 (⋆ 𝓤 H A ({had})) (Post {self.state.machine})
   exits st all =
@@ -130,7 +139,7 @@ class Run(Walk):
 
     def loop(self) -> str:
         """The loop: a turn that serves a request, the turn that finds none left, and that the turns end."""
-        rs, lists = f"l·{self.rs.x}", "".join(f"z·{p.x} = l·{p.x}; e·{p.x} = refl; " for p in self.muts)
+        rs, lists = f"l·{self.rs.x}", self.lists({p: (p.list, p.known) for p in self.muts})
         after = "(afterSeq 𝓤 H (Wp 𝓤 H (𝓣 .C) (𝓣 .Λ) En piece.t-4 (atReturn 𝓤 H En Post)) (atReturn 𝓤 H En Post))"
         return f"""\
 {self.environment()}
@@ -168,9 +177,8 @@ class Run(Walk):
         call.steps(c, self.cur, "store")
         c.rule(f"assigns-last ! (bin ! {c.load(self.i)} (lit ! tt) ({fits})) (from ! (stop !)) (store ! {c.cell(self.i)} refl (tt, {fits}))").line()
         c.forget([self.scratch, self.test, self.place, self.read, *call.extra_locals]).keep(self.at_turn)
-        lists = {p: f"z·{p.x} = st .z·{p.x}; e·{p.x} = st .e·{p.x}; " for p in self.muts}
-        lists.update({a.p: f"z·{a.x} = {a.last}; e·{a.x} = d·1·{a.x} ∙ st .e·{a.x}; " for a in call.muts})
-        next_state = (f"i = st .i + 1; top = omega arith; cur = r·1; is = {call.knows}; {''.join(lists.values())}"
+        lists = {p: self.so_far(p) for p in self.muts} | {a.p: (a.last, a.p.known_after(call.n, a.known)) for a in call.muts}
+        next_state = (f"i = st .i + 1; top = omega arith; cur = r·1; is = {call.knows}; {self.lists(lists)}"
                       f"ran = {self.law('more')} less (st .ran) did·1")
         return c.text(f"again ! Nearer At st (record {{ {next_state} }}) (omega arith)")
 

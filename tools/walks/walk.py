@@ -3,9 +3,10 @@ from __future__ import annotations
 
 from calls import Call
 from context import Context
-from params import ByValue, Param, Plain, Reference, Slice, Struct, params_of
+from kinds import Plain, Struct
+from params import ByValue, Listed, Param, Reference, params_of
 from source import Clause, Function, Misfit, Source
-from text import LOGIC, MACHINE, Terms, cited_by, cons, imports_for, kebab, nested, nested_type, use_lines
+from text import LOGIC, MACHINE, RULES, Terms, cited_by, cons, imports_for, kebab, nested, nested_type, use_lines, words_of
 
 
 class Walk:
@@ -16,8 +17,8 @@ class Walk:
         self.source, self.f, self.own = source, f, f.item.crate
         self.params = params_of(f)
         self.refs = [p for p in self.params if isinstance(p, Reference)]
-        self.slices = [p for p in self.refs if isinstance(p, Slice)]
-        self.muts = [p for p in self.slices if p.mut]
+        self.listed = [p for p in self.refs if isinstance(p, Listed)]
+        self.muts = [p for p in self.listed if p.mut]
         self.by_name = {p.name: p for p in self.params}
         self.plain = {p.name: (p.local, p.plain) for p in self.params if isinstance(p, ByValue)}  # numbers and structs, and their locals
         self.types: list[str] = []       # the machine types of all locals
@@ -69,11 +70,11 @@ class Walk:
         body = "\n".join([self.statements(), self.module(), self.own_definitions(), self.walk(), self.closing()])
         return f"""\
 -- Printed by `{command}`; do not edit. `{self.f.item}` meets its contract: a walk of its MIR. Assumes nothing.
-{imports_for(body)}{self.uses()}
+{imports_for(body)}{self.uses(body)}
 {body}
 """
 
-    def uses(self) -> str:
+    def uses(self, body: str) -> str:
         """The `use` lines of the repository's own modules."""
         kinds = [*(call.out for call in self.calls), *(p.to for p in self.refs), *(p.kind for p in self.params if isinstance(p, ByValue))]
         structs = {kind.name: kind for kind in kinds if isinstance(kind, Struct)}
@@ -82,7 +83,7 @@ class Walk:
             "use denote.Struct.Laws as LL\n", *(s.uses(self.own) for s in structs.values()), *(call.uses(self.own) for call in self.calls),
             f"use {module} as walked·\nuse {module}.Key.{{name as #walked}}\nuse {module}.Statement as stated\n"
             f"use {module}.Code as code\nuse {module}.Code.Mir as piece\n",
-            f"use Rattle.{self.own}.proofs.Rules.{{slice, lends-again, comes-back, holds, bare, frees-all}}\n", use_lines(self.cites.items())])
+            use_lines([(rule, f"Rattle.{self.own}.proofs.Rules") for rule in RULES if rule in words_of(body)]), use_lines(self.cites.items())])
 
     def statements(self) -> str:
         """How each parameter stands at exit, and the callees' contracts."""
@@ -93,7 +94,7 @@ stayed = {nested(p.stay for p in self.params)}
 
     def module(self) -> str:
         """The module's head, with what the parameters are made of; the arguments, their machine values, and what is to hold at exit."""
-        terms = Terms({name: value.value for name, (_, value) in self.plain.items()}, {p.name: p.list for p in self.slices})
+        terms = Terms({name: value.value for name, (_, value) in self.plain.items()}, {p.name: p.list for p in self.listed})
         needed = f" (needed : {terms.say(self.f.requires)})" if self.f.requires else ""
         return f"""\
 module _ {LOGIC} (W : Given 𝓤 H A) {MACHINE} {" ".join(p.binders for p in self.params)}{needed} where
@@ -186,7 +187,7 @@ unfolding code.routine tablesOf
             if isinstance(p, ByValue):
                 c.front("args").add(p.plain.owned, "args")
             else:
-                c.front(f"{'last' if isinstance(p, Slice) and p.given else 'own'} {p.x}", "args").rule("fjoin !", 2, ["args"])
+                c.front(f"{'last' if p.given else 'own'} {p.x}", "args").rule("fjoin !", 2, ["args"])
         c.rule(result.owned, 0, ["result"]).front("args", "result")
         values, proofs = (nested(lasts[p][which] if p in lasts else "tt" for p in self.params) for which in (0, 1))
         ended = f"ends-at 𝓤 H A {self.contract} W {self.ghost} {result.machine} {result.value} {values} {proofs}"

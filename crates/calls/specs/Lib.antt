@@ -5,6 +5,7 @@ pub mod Tested
 pub mod Format
 pub mod Check
 pub mod Room
+pub mod Noted
 pub mod Paged
 pub mod Run
 pub mod Serve

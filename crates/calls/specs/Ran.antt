@@ -1,7 +1,7 @@
 -- The parts of a run put together: the requests one after the other, that each can be served where the run was admitted, and that begin,
 -- the requests and finish are the call of the definitions. For whoever goes through the requests.
 use Prim.Native.Nat.{ℕ, zero, suc, _+_, _*_, _≤_, _<_}
-use mathlib.Core.Path.{_≡_, refl, sym, ap, _∙_}
+use mathlib.Core.Path.{_≡_, refl, sym, ap, subst, _∙_}
 use mathlib.Core.Bool.{Bool, true, false, cond, _&&_}
 use mathlib.Core.List.{List, [], _∷_, map}
 use native.Mathlib.Numerals.{add-one}
@@ -32,7 +32,8 @@ use Rattle.calls.specs.Sizes.{run-right, with-run}
 use Rattle.calls.specs.Tested.{state-passes, geometry-passes, lengths-pass, soundness-passes}
 use Rattle.calls.specs.Room.{most-cost}
 use Rattle.calls.specs.Run.{request, Begun, Finished}
-use Rattle.calls.specs.Serve.{Serving, Runs}
+use Rattle.calls.specs.Noted.{Noted}
+use Rattle.calls.specs.Serve.{Serving, Runs, Served}
 use Rattle.calls.specs.Records.{records-keep}
 
 -- ---- one request after the other
@@ -71,8 +72,8 @@ module _ (g : Geometry) (requests : List Request) {a : Running} {s : State} {wor
 
 -- ---- where the run is admitted
 
--- What the tests of a run of n requests give.
-pub record Admitted (g : Geometry) (n : ℕ) (a : Running) (s : State) (words answers : List ℕ) : Type 0 where
+-- What the tests of a run of n requests give, and the notes that were taken.
+pub record Admitted (g : Geometry) (n : ℕ) (a : Running) (s : State) (words answers census filter : List ℕ) : Type 0 where
   pub accepted : Accepted g
   pub lengths : Lengths g s
   pub sound : Sound g s
@@ -80,10 +81,12 @@ pub record Admitted (g : Geometry) (n : ℕ) (a : Running) (s : State) (words an
   pub answers-long : length answers ≡ n
   pub at-most : n ≤ most-requests
   pub uncounted : counts (a .counts) ≡ no-counts
+  pub noted : Noted g s census filter
 
-pub begun-admits : {g : Geometry} {fits : Bool} {n counted : ℕ} {s s′ : State} {words answers : List ℕ} {a : Running}
-    → Begun g fits n (length words) (length answers) counted s a s′ → a .answer ≡ DONE → Admitted g n a s′ words answers
-begun-admits {g} {fits} {n} {counted} {s} {s′} {words} {answers} {a} begun e =
+pub begun-admits : {g : Geometry} {fits : Bool} {n counted : ℕ} {s s′ : State} {words answers census filter : List ℕ} {a : Running}
+    → Begun g fits n (length words) (length answers) counted s a s′ census filter → a .answer ≡ DONE
+    → Admitted g n a s′ words answers census filter
+begun-admits {g} {fits} {n} {counted} {s} {s′} {words} {answers} {census} {filter} {a} begun e =
     let others = fits && eqb counted counts-words in
     let right = run-right g n (length words) (length answers) others in
     let pass = state-passes g s right
@@ -91,23 +94,25 @@ begun-admits {g} {fits} {n} {counted} {s} {s′} {words} {answers} {a} begun e =
     let sizes = pass .sizes-passed in
     let few = and-true (leb n most-requests) _ (and-true (right-sizes (state-sizes g s)) right (sizes .sized) .1) in
     let long = and-true (eqb (length words) (n * g .W)) _ (few .1) in
-    rw (begun .kept)
-    (record {
+    record {
       accepted = geometry-passes g s right sizes;
-      lengths = lengths-pass g s right sizes;
-      sound = soundness-passes g s right pass;
+      lengths = subst (Lengths g) (sym (begun .kept)) (lengths-pass g s right sizes);
+      sound = subst (Sound g) (sym (begun .kept)) (soundness-passes g s right pass);
       words-long = eqb-true (length words) (n * g .W) (long .0);
       answers-long = eqb-true (length answers) n (and-true (eqb (length answers) n) others (long .1) .0);
       at-most = leb-true n most-requests (few .0);
       uncounted = begun .uncounted;
-    })
+      noted = begun .noted e;
+    }
 
 -- Request i can be served after those before it.
-pub runs-ready : (g : Geometry) (requests : List Request) {n i : ℕ} {a b : Running} {s s′ : State} {words answers words′ answers′ : List ℕ}
-    → (a .answer ≡ DONE → Admitted g n a s words answers) → i < n
+pub runs-ready : (g : Geometry) (requests : List Request) {n i : ℕ} {a b : Running} {s s′ : State}
+    {words answers census filter words′ answers′ census′ filter′ : List ℕ}
+    → (a .answer ≡ DONE → Admitted g n a s words answers census filter) → i < n
     → Runs (serve-records g requests i) a s words answers b s′ words′ answers′
-    → b .answer ≡ DONE → Serving g i b s′ words′ answers′
-runs-ready g requests {n} {i} {a} {b} {s} {s′} {words} {answers} tested h ran e =
+    → (Noted g s census filter → Noted g s′ census′ filter′)
+    → b .answer ≡ DONE → Serving g i b s′ words′ answers′ census′ filter′
+runs-ready g requests {n} {i} {a} {b} {s} {s′} {words} {answers} tested h ran noted e =
     let admitted : a .answer ≡ DONE = sym (ran .same-answer) ∙ e in
     let start = tested admitted in
     let lent = run-replied words answers DONE in
@@ -122,6 +127,7 @@ runs-ready g requests {n} {i} {a} {b} {s} {s′} {words} {answers} tested h ran 
       answer-fits = omega (arith, ap (λ (r : RunReplied). length (r .answers)) (did .value), kept .answers-long, start .answers-long);
       countable = room-after most-cost (i * most-cost) (a .counts) (b .counts) (serve-records g requests i lent s .did)
           (none-counted i (omega (arith, start .at-most)) (start .uncounted)) (kept .few) (did .counting);
+      noted = noted (start .noted);
     }
   where
     none-counted : (i : ℕ) → i < most-requests → counts (a .counts) ≡ no-counts → Room-to-count (most-cost + i * most-cost) (a .counts)
@@ -135,9 +141,10 @@ runs-ready g requests {n} {i} {a} {b} {s} {s′} {words} {answers} tested h ran 
 -- ---- lent requests
 
 -- The first n of a lent slice of requests, as a walk through them says it.
-pub record Ran (g : Geometry) (asked : List Asked) (n : ℕ) (a : Running) (s : State) (words answers : List ℕ)
-    (b : Running) (s′ : State) (words′ answers′ : List ℕ) : Type 0 where
+pub record Ran (g : Geometry) (asked : List Asked) (n : ℕ) (a : Running) (s : State) (words answers census filter : List ℕ)
+    (b : Running) (s′ : State) (words′ answers′ census′ filter′ : List ℕ) : Type 0 where
   pub runs : Runs (serve-records g (map request asked) n) a s words answers b s′ words′ answers′
+  pub noted : Noted g s census filter → Noted g s′ census′ filter′
 
 -- Request i, whatever a place past the end would read as.
 request-at : (asked : List Asked) (i : ℕ) (past : Asked) → i < length asked
@@ -146,21 +153,24 @@ request-at [] i past h = absurd (omega arith)
 request-at (q ∷ asked) zero past h = refl
 request-at (q ∷ asked) (suc i) past h = request-at asked i past (omega arith)
 
-module _ {g : Geometry} {asked : List Asked} {a : Running} {s : State} {words answers : List ℕ} where
-  pub ran-none : Ran g asked 0 a s words answers a s words answers
-  ran-none = record { runs = runs-none g (map request asked) }
+module _ {g : Geometry} {asked : List Asked} {a : Running} {s : State} {words answers census filter : List ℕ} where
+  pub ran-none : Ran g asked 0 a s words answers census filter a s words answers census filter
+  ran-none = record { runs = runs-none g (map request asked); noted = λ x. x }
 
-  module _ {i : ℕ} {b : Running} {s₁ : State} {words₁ answers₁ : List ℕ} (h : i < length asked)
-      (ran : Ran g asked i a s words answers b s₁ words₁ answers₁) where
-    pub ran-more : {c : Running} {s₂ : State} {words₂ answers₂ : List ℕ}
-        → Runs (serve-record g i (request (getD asked i (record { kind = 0; page = 0 })))) b s₁ words₁ answers₁ c s₂ words₂ answers₂
-        → Ran g asked (i + 1) a s words answers c s₂ words₂ answers₂
+  module _ {i : ℕ} {b : Running} {s₁ : State} {words₁ answers₁ census₁ filter₁ : List ℕ} (h : i < length asked)
+      (ran : Ran g asked i a s words answers census filter b s₁ words₁ answers₁ census₁ filter₁) where
+    pub ran-more : {c : Running} {s₂ : State} {words₂ answers₂ census₂ filter₂ : List ℕ}
+        → Served g i (request (getD asked i (record { kind = 0; page = 0 }))) b s₁ words₁ answers₁ census₁ filter₁ c s₂ words₂ answers₂ census₂ filter₂
+        → Ran g asked (i + 1) a s words answers census filter c s₂ words₂ answers₂ census₂ filter₂
     ran-more served =
-        record { runs = runs-more g (map request asked) i (ran .runs) (rw (request-at asked i (record { kind = 0; page = 0 }) h) at served) }
+        record {
+          runs = runs-more g (map request asked) i (ran .runs) (rw (request-at asked i (record { kind = 0; page = 0 }) h) at (served .runs));
+          noted = λ x. served .noted (ran .noted x);
+        }
 
-    pub ran-ready : (a .answer ≡ DONE → Admitted g (length asked) a s words answers) → b .answer ≡ DONE
-        → Serving g i b s₁ words₁ answers₁
-    ran-ready tested = runs-ready g (map request asked) tested h (ran .runs)
+    pub ran-ready : (a .answer ≡ DONE → Admitted g (length asked) a s words answers census filter) → b .answer ≡ DONE
+        → Serving g i b s₁ words₁ answers₁ census₁ filter₁
+    ran-ready tested = runs-ready g (map request asked) tested h (ran .runs) (ran .noted)
 
 -- ---- the whole
 
@@ -171,13 +181,13 @@ gives {x = x} {s = s} {c = c} d = (d .value, d .after, sym (does-give {s = s} {c
 
 -- The requests' answers, the state and the counts after are those of the call.
 pub run-answers : (g : Geometry) (requests : List Request) {fits : Bool} {a b : Running} {s s₁ s′ : State}
-    {words answers words′ answers′ given given′ : List ℕ} {answer : ℕ} {rec : Record}
-    → Begun g fits (length requests) (length words) (length answers) (length given) s a s₁
+    {words answers census filter words′ answers′ given given′ : List ℕ} {answer : ℕ} {rec : Record}
+    → Begun g fits (length requests) (length words) (length answers) (length given) s a s₁ census filter
     → Runs (serve-records g requests (length requests)) a s₁ words answers b s′ words′ answers′
     → Finished b given answer rec given′
     → Answers (run g (right-lengths fits given) requests words answers s) given (run-replied words′ answers′ answer) s′ given′
 unfolding run
-run-answers g requests {fits} {a} {b} {s} {s₁} {s′} {words} {answers} {words′} {answers′} {given} {given′} {answer} begun ran finished =
+run-answers g requests {fits} {a} {b} {s} {s₁} {s′} {words} {answers} {words′ = words′} {answers′} {given} {given′} {answer} begun ran finished =
     does-answers {m = run g (right-lengths fits given) requests words answers} {s = s} (counts (b .counts))
     (same? (a .answer) DONE
     (λ e. rw (finished .answered ∙ ran .same-answer ∙ e)
@@ -196,9 +206,9 @@ run-answers g requests {fits} {a} {b} {s} {s₁} {s′} {words} {answers} {words
 
 -- The same with lent requests.
 pub ran-answers : {g : Geometry} {asked : List Asked} {fits : Bool} {a b : Running} {s s₁ s′ : State}
-    {words answers words′ answers′ given given′ : List ℕ} {answer : ℕ} {rec : Record}
-    → Begun g fits (length asked) (length words) (length answers) (length given) s a s₁
-    → Ran g asked (length asked) a s₁ words answers b s′ words′ answers′
+    {words answers census filter words′ answers′ census′ filter′ given given′ : List ℕ} {answer : ℕ} {rec : Record}
+    → Begun g fits (length asked) (length words) (length answers) (length given) s a s₁ census filter
+    → Ran g asked (length asked) a s₁ words answers census filter b s′ words′ answers′ census′ filter′
     → Finished b given answer rec given′
     → Answers (run g (right-lengths fits given) (map request asked) words answers s) given (run-replied words′ answers′ answer) s′ given′
 ran-answers {g} {asked} begun ran finished =

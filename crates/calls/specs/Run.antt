@@ -9,12 +9,13 @@ use Rattle.lent.specs.Model.{counts}
 use Rattle.scope.specs.Geometry.{Geometry}
 use Rattle.scope.specs.Lent.{State, Request, most-requests}
 use Rattle.scope.specs.Operations.{no-counts}
-use Rattle.scope.specs.Replies.{Test, first-applying, right-sizes}
+use Rattle.scope.specs.Replies.{DONE, Test, first-applying, right-sizes}
 use Rattle.scope.specs.Boundary.{counts-words}
 use Rattle.scope.specs.Calls.{state-sizes, state-tests}
 use Rattle.calls.specs.declared.run.Request.{Request as Asked}
 use Rattle.calls.specs.declared.run.Running.{Running}
 use Rattle.scope.specs.Boundary.{put}
+use Rattle.calls.specs.Noted.{Noted}
 use Rattle.calls.specs.Sizes.{sizes-of-run, run-right, with-run}
 
 abbrev pub request : Asked → Request
@@ -34,11 +35,13 @@ run-tested g s n words answers others named tested =
     ∙ ap (λ (b : Bool). first-applying (state-tests g (right-sizes (state-sizes g s) && b) s)) named
     ∙ ap (λ (b : Bool). first-applying (state-tests g b s)) (sym (with-run g s n words answers others))
 
--- The tests made, and nothing else.
-pub record Begun (g : Geometry) (fits : Bool) (n words answers counted : ℕ) (s : State) (r : Running) (s′ : State) : Type 0 where
+-- The tests made, and where the run is admitted the notes taken; nothing else.
+pub record Begun (g : Geometry) (fits : Bool) (n words answers counted : ℕ) (s : State) (r : Running) (s′ : State)
+    (census filter : List ℕ) : Type 0 where
   pub tested : r .answer ≡ first-applying (run-tests g (fits && eqb counted counts-words) n words answers s)
   pub uncounted : counts (r .counts) ≡ no-counts
   pub kept : s′ ≡ s
+  pub noted : r .answer ≡ DONE → Noted g s′ census filter
 
 -- The counts handed over.
 pub record Finished (cur : Running) (given : List ℕ) (answer : ℕ) (rec : Record) (given′ : List ℕ) : Type 0 where

@@ -26,15 +26,17 @@ use Rattle.calls.specs.declared.run.Running.{Running}
 use Rattle.words.specs.Runs.{length-part}
 use Rattle.calls.specs.Answers.{admit-refuses, admit-serves}
 use Rattle.calls.specs.Room.{most-cost}
+use Rattle.calls.specs.Noted.{Noted}
 
 -- Request i can be served.
-pub record Serving (g : Geometry) (i : ℕ) (cur : Running) (s : State) (words answers : List ℕ) : Type 0 where
+pub record Serving (g : Geometry) (i : ℕ) (cur : Running) (s : State) (words answers census filter : List ℕ) : Type 0 where
   pub accepted : Accepted g
   pub lengths : Lengths g s
   pub sound : Sound g s
   pub part-fits : i * g .W + g .W ≤ length words
   pub answer-fits : i < length answers
   pub countable : Room-to-count most-cost (cur .counts)
+  pub noted : Noted g s census filter
 
 -- A part of a run, from a to b: where the run is admitted it does m to what is lent, and nothing else.
 pub record Runs (m : RunReplied → Step RunReplied) (a : Running) (s : State) (words answers : List ℕ)
@@ -42,6 +44,12 @@ pub record Runs (m : RunReplied → Step RunReplied) (a : Running) (s : State) (
   pub same-answer : b .answer ≡ a .answer
   pub does : Does (cond (eqb (a .answer) DONE) (m (run-replied words answers DONE)) (give (run-replied words answers DONE)))
       s (counts (a .counts)) (run-replied words′ answers′ DONE) s′ (counts (b .counts))
+
+-- What serving request i does: it keeps the notes too.
+pub record Served (g : Geometry) (i : ℕ) (q : Request) (a : Running) (s : State) (words answers census filter : List ℕ)
+    (b : Running) (s′ : State) (words′ answers′ census′ filter′ : List ℕ) : Type 0 where
+  pub runs : Runs (serve-record g i q) a s words answers b s′ words′ answers′
+  pub noted : Noted g s census filter → Noted g s′ census′ filter′
 
 -- ---- the part of the words that was lent
 

@@ -1,7 +1,9 @@
 // The five calls by value: 01's tests, then the steps, for every input. No call has a `requires`, and each contract settles the reply, the
 // record, every lent list and the counts by citing the call's definition. `fits` says whether the lengths are right that only the caller
 // knows, as that of the record's words at the C boundary.
+mod alone;
 mod counting;
+mod notes;
 pub mod run;
 mod tests;
 
@@ -126,7 +128,7 @@ pub fn read(
             erases: 0,
         },
     };
-    let done = requests::answers::read(work, g, page, chip, spare, directory, cache, buffer);
+    let done = alone::read(work, g, page, chip, spare, directory, cache, buffer);
     put_counts(counts, done.work.counts);
     let new = done.work.rec;
     Out {
@@ -169,7 +171,7 @@ pub fn write(
             erases: 0,
         },
     };
-    let written = requests::answers::write(work, g, page, chip, spare, directory, cache, buffer);
+    let written = alone::write(work, g, page, chip, spare, directory, cache, buffer);
     put_counts(counts, written.work.counts);
     let new = written.work.rec;
     Out {

@@ -1,7 +1,9 @@
 // A run in three parts, so that whoever has the requests can go through them: `begin` tests once, `serve` serves one request, `finish`
-// hands over the counts. What the parts hand on says whether the run was admitted; where it wasn't, nothing is done.
+// hands over the counts. What the parts hand on says whether the run was admitted; where it wasn't, nothing is done. Whoever goes through
+// the requests also owns the notes, which `begin` takes and every request keeps, so that a run searches the chip once.
 use crate::Out;
 use crate::counting::put_counts;
+use crate::notes::take_notes;
 use crate::tests::DONE;
 use crate::tests::record_answer;
 use crate::tests::run_lengths_right;
@@ -17,10 +19,11 @@ ghost use mathlib.Core.Path.{_≡_};
 ghost use lib.ListN.{length};
 ghost use Rattle.scope.specs.Requests.{replied};
 ghost use Rattle.lent.specs.Model.{geometry, state};
-ghost use Rattle.scope.specs.Calls.{serve, serve-record};
+ghost use Rattle.scope.specs.Calls.{serve};
 ghost use Rattle.scope.specs.Replies.{DONE};
 ghost use Rattle.calls.specs.Room.{most-cost};
-ghost use Rattle.calls.specs.Serve.{Serving, Runs};
+ghost use Rattle.calls.specs.Noted.{Noted};
+ghost use Rattle.calls.specs.Serve.{Serving, Served};
 ghost use Rattle.requests.specs.Ready.{Does-all, Ready-for};
 ghost use Rattle.calls.specs.Run.{request, Begun, Finished};
 
@@ -50,14 +53,18 @@ pub fn begin(
     spare: &mut [u32],
     directory: &mut [u32],
     cache: &mut [u32],
+    census: &mut [u32; 1024],
+    filter: &mut [u64; 1024],
 ) -> Running
+    requires { ⌜ length (now filter) ≡ 1024 ⌝ }
     ensures { λ r. ⌜ Begun (geometry g) fits n words answers counts
         (state (now (chip .entry)) (now (spare .entry)) (now (directory .entry)) (now (cache .entry)) rec) r
-        (state (now (chip .exit)) (now (spare .exit)) (now (directory .exit)) (now (cache .exit)) (r .rec)) ⌝ }
+        (state (now (chip .exit)) (now (spare .exit)) (now (directory .exit)) (now (cache .exit)) (r .rec))
+        (now (census .exit)) (now (filter .exit)) ⌝ }
 {
     let right = run_lengths_right(g, fits, n, words, answers, counts);
     let answer = state_answer(rec, right, g, chip, spare, directory, cache);
-    Running {
+    let begun = Running {
         answer,
         counts: Counts {
             reads: 0,
@@ -65,7 +72,12 @@ pub fn begin(
             erases: 0,
         },
         rec,
+    };
+    if answer != DONE {
+        return begun;
     }
+    take_notes(g, rec, spare, cache, census, filter);
+    begun
 }
 
 // The steps of a request that has passed its tests.
@@ -77,19 +89,47 @@ fn serve_request(
     spare: &mut [u32],
     directory: &mut [u32],
     cache: &mut [u32],
+    census: &mut [u32; 1024],
+    filter: &mut [u64; 1024],
     buffer: &mut [u32],
 ) -> Handed
     requires { ⌜ Ready-for (q .page) (geometry g) (state (now chip) (now spare) (now directory) (now cache) (work .rec)) most-cost (work .counts)
         × (length (now buffer) ≡ g .w) ⌝ }
+    requires { ⌜ Noted (geometry g) (state (now chip) (now spare) (now directory) (now cache) (work .rec)) (now census) (now filter) ⌝ }
     ensures { λ r. ⌜ Does-all (serve (geometry g) (request q) (now (buffer .entry)))
         (state (now (chip .entry)) (now (spare .entry)) (now (directory .entry)) (now (cache .entry)) (work .rec)) work
         (replied (now (buffer .exit)) (r .value))
         (state (now (chip .exit)) (now (spare .exit)) (now (directory .exit)) (now (cache .exit)) (r .work .rec)) (r .work) ⌝ }
+    ensures { λ r. ⌜ Noted (geometry g)
+        (state (now (chip .exit)) (now (spare .exit)) (now (directory .exit)) (now (cache .exit)) (r .work .rec))
+        (now (census .exit)) (now (filter .exit)) ⌝ }
 {
     if q.kind == 0 {
-        return read(work, g, q.page, chip, spare, directory, cache, buffer);
+        return read(
+            work,
+            g,
+            q.page,
+            chip,
+            spare,
+            census,
+            directory,
+            cache,
+            filter,
+            buffer,
+        );
     }
-    write(work, g, q.page, chip, spare, directory, cache, buffer)
+    write(
+        work,
+        g,
+        q.page,
+        chip,
+        spare,
+        census,
+        directory,
+        cache,
+        filter,
+        buffer,
+    )
 }
 
 // Request i: its tests, its steps on its own words, and its answer stored.
@@ -102,16 +142,18 @@ pub fn serve(
     spare: &mut [u32],
     directory: &mut [u32],
     cache: &mut [u32],
+    census: &mut [u32; 1024],
+    filter: &mut [u64; 1024],
     words: &mut [u32],
     answers: &mut [u32],
 ) -> Running
     requires { ⌜ (cur .answer ≡ DONE → Serving (geometry g) i cur
-        (state (now chip) (now spare) (now directory) (now cache) (cur .rec)) (now words) (now answers)) ⌝ }
-    ensures { λ r. ⌜ Runs (serve-record (geometry g) i (request q)) cur
+        (state (now chip) (now spare) (now directory) (now cache) (cur .rec)) (now words) (now answers) (now census) (now filter)) ⌝ }
+    ensures { λ r. ⌜ Served (geometry g) i (request q) cur
         (state (now (chip .entry)) (now (spare .entry)) (now (directory .entry)) (now (cache .entry)) (cur .rec))
-        (now (words .entry)) (now (answers .entry)) r
+        (now (words .entry)) (now (answers .entry)) (now (census .entry)) (now (filter .entry)) r
         (state (now (chip .exit)) (now (spare .exit)) (now (directory .exit)) (now (cache .exit)) (r .rec))
-        (now (words .exit)) (now (answers .exit)) ⌝ }
+        (now (words .exit)) (now (answers .exit)) (now (census .exit)) (now (filter .exit)) ⌝ }
 {
     if cur.answer != DONE {
         return cur;
@@ -134,6 +176,8 @@ pub fn serve(
         spare,
         directory,
         cache,
+        census,
+        filter,
         &mut words[from..to],
     );
     answers[i] = done.value;

@@ -159,6 +159,8 @@ pub fn run(
     let words_len = words.len();
     let answers_len = answers.len();
     let counts_len = counts.len();
+    let mut census = [0u32; 1024];
+    let mut filter = [0u64; 1024];
     let first = begin(
         r,
         true,
@@ -171,6 +173,8 @@ pub fn run(
         spare,
         directory,
         cache,
+        &mut census,
+        &mut filter,
     );
     let last = serve_all(
         first,
@@ -180,6 +184,8 @@ pub fn run(
         spare,
         directory,
         cache,
+        &mut census,
+        &mut filter,
         words,
         answers,
     );

@@ -18,16 +18,18 @@ pub fn serve_all(
     spare: &mut [u32],
     directory: &mut [u32],
     cache: &mut [u32],
+    census: &mut [u32; 1024],
+    filter: &mut [u64; 1024],
     words: &mut [u32],
     answers: &mut [u32],
 ) -> Running
     requires { ⌜ (first .answer ≡ DONE → Admitted (geometry g) (length (now requests)) first
-        (state (now chip) (now spare) (now directory) (now cache) (first .rec)) (now words) (now answers)) ⌝ }
+        (state (now chip) (now spare) (now directory) (now cache) (first .rec)) (now words) (now answers) (now census) (now filter)) ⌝ }
     ensures { λ last. ⌜ Ran (geometry g) (now (requests .entry)) (length (now (requests .entry))) first
         (state (now (chip .entry)) (now (spare .entry)) (now (directory .entry)) (now (cache .entry)) (first .rec))
-        (now (words .entry)) (now (answers .entry)) last
+        (now (words .entry)) (now (answers .entry)) (now (census .entry)) (now (filter .entry)) last
         (state (now (chip .exit)) (now (spare .exit)) (now (directory .exit)) (now (cache .exit)) (last .rec))
-        (now (words .exit)) (now (answers .exit)) ⌝ }
+        (now (words .exit)) (now (answers .exit)) (now (census .exit)) (now (filter .exit)) ⌝ }
 {
     let mut i = 0;
     let mut cur = first;
@@ -41,6 +43,8 @@ pub fn serve_all(
             spare,
             directory,
             cache,
+            census,
+            filter,
             words,
             answers,
         );

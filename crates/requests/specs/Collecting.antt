@@ -1,13 +1,13 @@
 -- Room in the data region, from a sound state: what each part of a collection asks for, from what the parts before it did.
 use Prim.Native.Nat.{ℕ, _+_, _*_, _-_, _≤_, _<_}
-use mathlib.Core.Path.{_≡_, refl, subst, subst₂}
+use mathlib.Core.Path.{_≡_, refl, sym, ap, subst, subst₂, _∙_}
 use mathlib.Core.List.{List, []}
 use native.Mathlib.Nat.{mul-le-mul-left}
 use native.Mathlib.Omega.{arith}
 use lib.ListN.{length}
 use Rattle.scope.specs.Geometry.{Geometry, blocks}
 use Rattle.scope.specs.Regions.{Data}
-use Rattle.scope.specs.SmallRecord.{next-offset}
+use Rattle.scope.specs.SmallRecord.{SmallRecord, next-offset}
 use Rattle.scope.specs.Lent.{State, Mapping, logical-at}
 use Rattle.scope.specs.Sound.{Sound}
 use Rattle.scope.specs.Room.{erased-blocks, victim, open-lowest, move-pages}
@@ -25,7 +25,6 @@ use Rattle.lent.specs.declared.Work.{Work}
 use Rattle.lent.specs.Model.{state}
 use Rattle.lent.specs.Shapes.{Room-to-count, room-after}
 use Rattle.steps.specs.Lies.{Chip-lent, Spare-lent}
-use Rattle.steps.specs.Whole.{Blocks-whole, open-full}
 use Rattle.update.specs.Index.{Index-ready, less-room}
 use Rattle.update.specs.Starts.{collection-starts}
 use Rattle.update.specs.Room.{opened-is, opening-counts}
@@ -46,11 +45,6 @@ pub record Collect-ready (g : Geometry) (s : State) (c : Counted) : Type 0 where
   pub room-ready : Room-ready g s c
   pub full : g .P ≤ next-offset Data (s .small)
   pub few : erased-blocks g Data s < 2
-
--- With the open block full, each block is wholly erased or full.
-pub whole : {g : Geometry} {s : State} {c : Counted} → Room-ready g s c → g .P ≤ next-offset Data (s .small)
-    → Blocks-whole g Data (s .spare)
-whole a full = open-full (a .ready .accepted) (a .ready .lengths .spare-fits) (data-of (a .ready .sound) .fits) full
 
 -- Something is cached: the foremost entry, say.
 follows-first : {g : Geometry} {s : State} → Sound g s → 1 ≤ s .small .used → Follows g (logical-at 0 (s .cache)) 0 [] s
@@ -93,9 +87,6 @@ module _ {g : Geometry} {chip spare directory cache : List ℕ} {w w₁ : Work}
     waited : update-bound g * length waiting ≤ update-bound g * (g .P - 1)
     waited = mul-le-mul-left (update-bound g) (omega (arith, after .few))
 
-    pub few-wait : length waiting ≤ 64
-    few-wait = omega (arith, after .few, copies .accepted .P-to)
-
     pub settle-ready : Index-ready g chip₂ spare₂ directory w₂ waiting
     settle-ready =
         record {
@@ -116,6 +107,10 @@ module _ {g : Geometry} {chip spare directory cache : List ℕ} {w w₁ : Work}
       settled : Index-settled g waiting (state chip₂ spare₂ directory cache₂ (w₂ .rec))
           (update-all g waiting (state chip₂ spare₂ directory cache₂ (w₂ .rec)))
       settled = settle-law (copies .accepted) waiting (after .below-L) _ (after .lengths) (after .index)
+
+      pub settled-keeps-used : w₃ .rec .used ≡ w₂ .rec .used
+      settled-keeps-used =
+          sym (ap (λ (s : State). s .small .used) (settles .after)) ∙ ap (λ (r : SmallRecord). r .used) (settled .only .small)
 
       pub erase-ready : Chip-lent g chip₃ × Spare-lent g spare₃ × (v < blocks g) × Room-to-count 1 (w₃ .counts)
       erase-ready =

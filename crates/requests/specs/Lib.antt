@@ -4,6 +4,7 @@ pub mod Ready
 pub mod Dropping
 pub mod Translating
 pub mod Waiting
+pub mod Filtered
 pub mod Copying
 pub mod Collecting
 pub mod Answering

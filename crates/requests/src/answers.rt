@@ -20,6 +20,8 @@ ghost use Rattle.scope.specs.Requests.{replied, read-place, read-steps, write-s
 ghost use Rattle.lent.specs.Model.{geometry, entry, state};
 ghost use Rattle.lent.specs.Shapes.{Does-by-chip};
 ghost use Rattle.promises.specs.Demands.{read-bound, write-bound};
+ghost use Rattle.steps.specs.Census.{Census};
+ghost use Rattle.steps.specs.Filter.{Filter};
 ghost use Rattle.requests.specs.Ready.{lent, Does-all, Ready-for};
 ghost use Rattle.requests.specs.Answering.{Place-ready, Writing-ready, placing};
 
@@ -53,24 +55,31 @@ pub fn read(
     l: u32,
     chip: &mut [u32],
     spare: &mut [u32],
+    census: &mut [u32],
     directory: &mut [u32],
     cache: &mut [u32],
+    filter: &mut [u64; 1024],
     buffer: &mut [u32],
 ) -> Handed
     requires { ⌜ Ready-for l (geometry g) (lent chip spare directory cache work) (read-bound (geometry g)) (work .counts)
         × (length (now buffer) ≡ g .w) ⌝ }
+    requires { ⌜ Census (geometry g) (now spare) (now census) ⌝ }
+    requires { ⌜ Filter (now cache) (work .rec .used) (now filter) ⌝ }
     ensures { λ r. ⌜ Does-all (read-steps (geometry g) l (now (buffer .entry)))
         (lent (chip .entry) (spare .entry) (directory .entry) (cache .entry) work) work
         (replied (now (buffer .exit)) (r .value))
         (lent (chip .exit) (spare .exit) (directory .exit) (cache .exit) (r .work)) (r .work) ⌝ }
+    ensures { λ _. ⌜ Census (geometry g) (now (spare .exit)) (now (census .exit)) ⌝ }
+    ensures { λ r. ⌜ Filter (now (cache .exit)) (r .work .rec .used) (now (filter .exit)) ⌝ }
 {
-    let at = translate(work, g, l, chip, spare, directory, cache);
+    let at = translate(work, g, l, chip, spare, census, directory, cache, filter);
     let translated = at.work;
     let place = decode(physical(at.value as usize, cache));
     read_place(translated, g, place, chip, buffer)
 }
 
 // With room in the open block: the next page is programmed with l's new words, the old one marked, and the entry at rank i set.
+// No other page is cached then than before, so that what was a filter of the cache still is one.
 fn place(
     work: Work,
     g: Geometry,
@@ -78,17 +87,22 @@ fn place(
     i: usize,
     chip: &mut [u32],
     spare: &mut [u32],
+    census: &mut [u32],
     cache: &mut [u32],
     buffer: &[u32],
 ) -> Work
     requires { ⌜ Writing-ready (geometry g) i (now chip) (now spare) (now cache) (now buffer) work ⌝ }
+    requires { ⌜ Census (geometry g) (now spare) (now census) ⌝ }
     ensures { λ r. ⌜ ((directory : List ℕ) → Does-all (placing (geometry g) l i (now (buffer .entry)))
         (state (now (chip .entry)) (now (spare .entry)) directory (now (cache .entry)) (work .rec)) work (replied (now (buffer .entry)) 0)
         (state (now (chip .exit)) (now (spare .exit)) directory (now (cache .exit)) (r .rec)) r) ⌝ }
+    ensures { λ _. ⌜ Census (geometry g) (now (spare .exit)) (now (census .exit)) ⌝ }
+    ensures { λ r. ⌜ ((filter : List ℕ) → Filter (now (cache .entry)) (work .rec .used) filter
+        → Filter (now (cache .exit)) (r .rec .used) filter) ⌝ }
 {
-    let programmed = program_next(g, Region::Data, l, buffer, chip, spare, work);
+    let programmed = program_next(g, Region::Data, l, buffer, chip, spare, census, work);
     let old = decode(physical(i, cache));
-    mark_old(old, spare);
+    mark_old(g, old, spare, census);
     set_entry(i, programmed.value, cache);
     programmed.work
 }
@@ -100,22 +114,28 @@ pub fn write(
     l: u32,
     chip: &mut [u32],
     spare: &mut [u32],
+    census: &mut [u32],
     directory: &mut [u32],
     cache: &mut [u32],
+    filter: &mut [u64; 1024],
     buffer: &[u32],
 ) -> Handed
     requires { ⌜ Ready-for l (geometry g) (lent chip spare directory cache work) (write-bound (geometry g)) (work .counts)
         × (length (now buffer) ≡ g .w) ⌝ }
+    requires { ⌜ Census (geometry g) (now spare) (now census) ⌝ }
+    requires { ⌜ Filter (now cache) (work .rec .used) (now filter) ⌝ }
     ensures { λ r. ⌜ Does-all (write-steps (geometry g) l (now (buffer .entry)))
         (lent (chip .entry) (spare .entry) (directory .entry) (cache .entry) work) work
         (replied (now (buffer .entry)) (r .value))
         (lent (chip .exit) (spare .exit) (directory .exit) (cache .exit) (r .work)) (r .work) ⌝ }
+    ensures { λ _. ⌜ Census (geometry g) (now (spare .exit)) (now (census .exit)) ⌝ }
+    ensures { λ r. ⌜ Filter (now (cache .exit)) (r .work .rec .used) (now (filter .exit)) ⌝ }
 {
-    let at = translate(work, g, l, chip, spare, directory, cache);
+    let at = translate(work, g, l, chip, spare, census, directory, cache, filter);
     let translated = at.work;
     let i = at.value as usize;
-    let room = make_room(translated, g, chip, spare, directory, cache);
-    let written = place(room, g, l, i, chip, spare, cache, buffer);
+    let room = make_room(translated, g, chip, spare, census, directory, cache, filter);
+    let written = place(room, g, l, i, chip, spare, census, cache, buffer);
     Handed {
         value: DONE,
         work: written,

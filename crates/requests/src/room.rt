@@ -14,6 +14,8 @@ ghost use Rattle.lent.specs.Model.{geometry};
 ghost use Rattle.scope.specs.Regions.{Data};
 ghost use Rattle.scope.specs.Room.{collect, open-or-collect, make-room};
 ghost use Rattle.scope.specs.Steps.{cache-follows};
+ghost use Rattle.steps.specs.Census.{Census};
+ghost use Rattle.steps.specs.Filter.{Filter};
 ghost use Rattle.requests.specs.Ready.{lent, Does-all};
 ghost use Rattle.requests.specs.Collecting.{Room-ready, Collect-ready};
 
@@ -23,21 +25,38 @@ fn collect(
     g: Geometry,
     chip: &mut [u32],
     spare: &mut [u32],
+    census: &mut [u32],
     directory: &mut [u32],
     cache: &mut [u32],
+    filter: &[u64; 1024],
 ) -> Work
     requires { ⌜ Collect-ready (geometry g) (lent chip spare directory cache work) (work .counts) ⌝ }
+    requires { ⌜ Census (geometry g) (now spare) (now census) ⌝ }
+    requires { ⌜ Filter (now cache) (work .rec .used) (now filter) ⌝ }
     ensures { λ r. ⌜ Does-all (collect (geometry g) Data (cache-follows (geometry g)))
         (lent (chip .entry) (spare .entry) (directory .entry) (cache .entry) work) work tt
         (lent (chip .exit) (spare .exit) (directory .exit) (cache .exit) r) r ⌝ }
+    ensures { λ _. ⌜ Census (geometry g) (now (spare .exit)) (now (census .exit)) ⌝ }
+    ensures { λ r. ⌜ Filter (now (cache .exit)) (r .rec .used) (now (filter .entry)) ⌝ }
 {
-    let v = victim(g, Region::Data, spare);
-    let opened = open_lowest(g, Region::Data, spare, work);
-    let copied = move_pages(opened, g, v, chip, spare, cache);
+    let v = victim(g, Region::Data, spare, census);
+    let opened = open_lowest(g, Region::Data, spare, census, work);
+    let mut waiting = [0u32; 192];
+    let copied = move_pages(
+        opened,
+        g,
+        v,
+        chip,
+        spare,
+        census,
+        cache,
+        filter,
+        &mut waiting,
+    );
     let moved = copied.work;
-    let waiting = copied.waiting;
-    let settled = settle(moved, g, waiting, chip, spare, directory);
-    erase(g, v, chip, spare, settled)
+    let n = copied.n;
+    let settled = settle(moved, g, n, &waiting, chip, spare, census, directory);
+    erase(g, v, chip, spare, census, settled)
 }
 
 // The open block is full.
@@ -46,19 +65,25 @@ fn open_or_collect(
     g: Geometry,
     chip: &mut [u32],
     spare: &mut [u32],
+    census: &mut [u32],
     directory: &mut [u32],
     cache: &mut [u32],
+    filter: &[u64; 1024],
 ) -> Work
     requires { ⌜ Room-ready (geometry g) (lent chip spare directory cache work) (work .counts)
         × (g .p ≤ work .rec .«data_offset») ⌝ }
+    requires { ⌜ Census (geometry g) (now spare) (now census) ⌝ }
+    requires { ⌜ Filter (now cache) (work .rec .used) (now filter) ⌝ }
     ensures { λ r. ⌜ Does-all (open-or-collect (geometry g) Data (cache-follows (geometry g)))
         (lent (chip .entry) (spare .entry) (directory .entry) (cache .entry) work) work tt
         (lent (chip .exit) (spare .exit) (directory .exit) (cache .exit) r) r ⌝ }
+    ensures { λ _. ⌜ Census (geometry g) (now (spare .exit)) (now (census .exit)) ⌝ }
+    ensures { λ r. ⌜ Filter (now (cache .exit)) (r .rec .used) (now (filter .entry)) ⌝ }
 {
-    if 2 <= erased_blocks(g, Region::Data, spare) {
-        return open_lowest(g, Region::Data, spare, work);
+    if 2 <= erased_blocks(g, Region::Data, spare, census) {
+        return open_lowest(g, Region::Data, spare, census, work);
     }
-    collect(work, g, chip, spare, directory, cache)
+    collect(work, g, chip, spare, census, directory, cache, filter)
 }
 
 // Room for the next data page.
@@ -67,16 +92,22 @@ pub fn make_room(
     g: Geometry,
     chip: &mut [u32],
     spare: &mut [u32],
+    census: &mut [u32],
     directory: &mut [u32],
     cache: &mut [u32],
+    filter: &[u64; 1024],
 ) -> Work
     requires { ⌜ Room-ready (geometry g) (lent chip spare directory cache work) (work .counts) ⌝ }
+    requires { ⌜ Census (geometry g) (now spare) (now census) ⌝ }
+    requires { ⌜ Filter (now cache) (work .rec .used) (now filter) ⌝ }
     ensures { λ r. ⌜ Does-all (make-room (geometry g) Data (cache-follows (geometry g)))
         (lent (chip .entry) (spare .entry) (directory .entry) (cache .entry) work) work tt
         (lent (chip .exit) (spare .exit) (directory .exit) (cache .exit) r) r ⌝ }
+    ensures { λ _. ⌜ Census (geometry g) (now (spare .exit)) (now (census .exit)) ⌝ }
+    ensures { λ r. ⌜ Filter (now (cache .exit)) (r .rec .used) (now (filter .entry)) ⌝ }
 {
     if work.rec.data_offset < g.p {
         return work;
     }
-    open_or_collect(work, g, chip, spare, directory, cache)
+    open_or_collect(work, g, chip, spare, census, directory, cache, filter)
 }

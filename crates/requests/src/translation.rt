@@ -19,6 +19,8 @@ ghost use Rattle.scope.specs.Operations.{nothing};
 ghost use Rattle.scope.specs.Cache.{is-changed};
 ghost use Rattle.scope.specs.Steps.{write-back, drop-entry, drop-if-full, fetch, translate};
 ghost use Rattle.promises.specs.Update.{update-bound};
+ghost use Rattle.steps.specs.Census.{Census};
+ghost use Rattle.steps.specs.Filter.{Filter};
 ghost use Rattle.requests.specs.Ready.{lent, Does-all, Ready, Ready-for};
 ghost use Rattle.requests.specs.Translating.{translate-bound, Fetches, Does-fetch};
 
@@ -29,19 +31,22 @@ fn write_back_if_changed(
     i: usize,
     chip: &mut [u32],
     spare: &mut [u32],
+    census: &mut [u32],
     directory: &mut [u32],
     cache: &[u32],
 ) -> Work
     requires { ⌜ Ready (geometry g) (lent chip spare directory cache work) (update-bound (geometry g)) (work .counts)
         × (i < work .rec .used) ⌝ }
+    requires { ⌜ Census (geometry g) (now spare) (now census) ⌝ }
     ensures { λ r. ⌜ Does-all (cond (is-changed i (now (cache .entry))) (write-back (geometry g) i) nothing)
         (lent (chip .entry) (spare .entry) (directory .entry) (cache .entry) work) work tt
         (lent (chip .exit) (spare .exit) (directory .exit) (cache .exit) r) r ⌝ }
+    ensures { λ _. ⌜ Census (geometry g) (now (spare .exit)) (now (census .exit)) ⌝ }
 {
     if is_changed(i, cache) {
         let l = logical(i, cache);
         let place = physical(i, cache);
-        return update_one(work, g, l, place, chip, spare, directory);
+        return update_one(work, g, l, place, chip, spare, census, directory);
     }
     work
 }
@@ -52,18 +57,24 @@ fn drop_entry(
     g: Geometry,
     chip: &mut [u32],
     spare: &mut [u32],
+    census: &mut [u32],
     directory: &mut [u32],
     cache: &mut [u32],
+    filter: &mut [u64; 1024],
 ) -> Work
     requires { ⌜ Ready (geometry g) (lent chip spare directory cache work) (update-bound (geometry g)) (work .counts)
         × (1 ≤ work .rec .used) ⌝ }
+    requires { ⌜ Census (geometry g) (now spare) (now census) ⌝ }
+    requires { ⌜ Filter (now cache) (work .rec .used) (now filter) ⌝ }
     ensures { λ r. ⌜ Does-all (drop-entry (geometry g))
         (lent (chip .entry) (spare .entry) (directory .entry) (cache .entry) work) work tt
         (lent (chip .exit) (spare .exit) (directory .exit) (cache .exit) r) r ⌝ }
+    ensures { λ _. ⌜ Census (geometry g) (now (spare .exit)) (now (census .exit)) ⌝ }
+    ensures { λ r. ⌜ Filter (now (cache .exit)) (r .rec .used) (now (filter .exit)) ⌝ }
 {
     let i = (work.rec.used - 1) as usize;
-    let written = write_back_if_changed(work, g, i, chip, spare, directory, cache);
-    forget(i, cache, written)
+    let written = write_back_if_changed(work, g, i, chip, spare, census, directory, cache);
+    forget(g, i, cache, filter, written)
 }
 
 // It is, where all are used.
@@ -72,18 +83,24 @@ fn drop_if_full(
     g: Geometry,
     chip: &mut [u32],
     spare: &mut [u32],
+    census: &mut [u32],
     directory: &mut [u32],
     cache: &mut [u32],
+    filter: &mut [u64; 1024],
 ) -> Work
     requires { ⌜ Ready (geometry g) (lent chip spare directory cache work) (update-bound (geometry g)) (work .counts) ⌝ }
+    requires { ⌜ Census (geometry g) (now spare) (now census) ⌝ }
+    requires { ⌜ Filter (now cache) (work .rec .used) (now filter) ⌝ }
     ensures { λ r. ⌜ Does-all (drop-if-full (geometry g))
         (lent (chip .entry) (spare .entry) (directory .entry) (cache .entry) work) work tt
         (lent (chip .exit) (spare .exit) (directory .exit) (cache .exit) r) r ⌝ }
+    ensures { λ _. ⌜ Census (geometry g) (now (spare .exit)) (now (census .exit)) ⌝ }
+    ensures { λ r. ⌜ Filter (now (cache .exit)) (r .rec .used) (now (filter .exit)) ⌝ }
 {
     if work.rec.used < g.c {
         return work;
     }
-    drop_entry(work, g, chip, spare, directory, cache)
+    drop_entry(work, g, chip, spare, census, directory, cache, filter)
 }
 
 // What l's translation page holds for l enters the cache, in front.
@@ -94,15 +111,18 @@ fn fetch(
     chip: &[u32],
     directory: &[u32],
     cache: &mut [u32],
+    filter: &mut [u64; 1024],
 ) -> Work
     requires { ⌜ Fetches (geometry g) l (now chip) (now directory) (now cache) work ⌝ }
+    requires { ⌜ Filter (now cache) (work .rec .used) (now filter) ⌝ }
     ensures { λ r. ⌜ Does-fetch (fetch (geometry g) l)
         (now (chip .entry)) (now (directory .entry)) (now (cache .entry)) work 0 (now (cache .exit)) r ⌝ }
+    ensures { λ r. ⌜ Filter (now (cache .exit)) (r .rec .used) (now (filter .exit)) ⌝ }
 {
     let page = named(l / g.w, directory);
     let got = word_for(g, l, page, chip, work);
     let read = got.work;
-    enter(l, got.value, cache, read)
+    enter(l, got.value, cache, filter, read)
 }
 
 // The rank that l's entry then has is handed back.
@@ -112,22 +132,28 @@ pub fn translate(
     l: u32,
     chip: &mut [u32],
     spare: &mut [u32],
+    census: &mut [u32],
     directory: &mut [u32],
     cache: &mut [u32],
+    filter: &mut [u64; 1024],
 ) -> Handed
     requires { ⌜ Ready-for l (geometry g) (lent chip spare directory cache work) (translate-bound (geometry g)) (work .counts) ⌝ }
+    requires { ⌜ Census (geometry g) (now spare) (now census) ⌝ }
+    requires { ⌜ Filter (now cache) (work .rec .used) (now filter) ⌝ }
     ensures { λ r. ⌜ Does-all (translate (geometry g) l)
         (lent (chip .entry) (spare .entry) (directory .entry) (cache .entry) work) work (r .value)
         (lent (chip .exit) (spare .exit) (directory .exit) (cache .exit) (r .work)) (r .work) ⌝ }
+    ensures { λ _. ⌜ Census (geometry g) (now (spare .exit)) (now (census .exit)) ⌝ }
+    ensures { λ r. ⌜ Filter (now (cache .exit)) (r .work .rec .used) (now (filter .exit)) ⌝ }
 {
     let rec = work.rec;
-    let i = rank_of(g, rec, l, cache);
+    let i = rank_of(g, rec, l, cache, filter);
     if i < g.c as usize {
         touch(i, cache);
         return Handed { value: 0, work };
     }
-    let freed = drop_if_full(work, g, chip, spare, directory, cache);
-    let fetched = fetch(freed, g, l, chip, directory, cache);
+    let freed = drop_if_full(work, g, chip, spare, census, directory, cache, filter);
+    let fetched = fetch(freed, g, l, chip, directory, cache, filter);
     Handed {
         value: 0,
         work: fetched,

@@ -19,7 +19,7 @@ use Rattle.flash.specs.Cases.{same?, below?, and-true}
 use Rattle.flash.specs.Counting.{all-each}
 use Rattle.soundness.specs.Counted.{decided-same}
 use Rattle.soundness.specs.Erased.{is-erased-word}
-use Rattle.soundness.specs.Bitmap.{has, put}
+use Rattle.words.specs.Bitmap.{has, put}
 use Rattle.soundness.specs.Seen.{window, taken, differ, differ-in, noted, differ-windows}
 use Rattle.words.specs.Runs.{getD-any}
 

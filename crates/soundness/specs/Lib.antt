@@ -1,6 +1,5 @@
 -- The modules of this crate.
 pub mod Bools
-pub mod Bitmap
 pub mod Seen
 pub mod Sizes
 pub mod Pages

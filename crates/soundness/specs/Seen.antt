@@ -14,7 +14,7 @@ use Rattle.scope.specs.Counting.{all, some}
 use Rattle.flash.specs.Cases.{on, same?, clash, and-true, true-and, or-right, is-false}
 use Rattle.flash.specs.Counting.{all-each, each-all}
 use Rattle.soundness.specs.Bools.{same-test, or-none, eqb-sym, all-not-some, all-stops, all-done}
-use Rattle.soundness.specs.Bitmap.{has, put, empty, has-empty, length-put, has-put-same, has-put-other}
+use Rattle.words.specs.Bitmap.{has, put, empty, has-empty, length-put, has-put-same, has-put-other}
 
 abbrev pub window : ℕ
 window = 65536

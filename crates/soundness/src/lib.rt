@@ -1,5 +1,4 @@
 // Document 01's tests in code: the geometry, the lengths, and the seven rules of a sound state, each a leaf of its own.
-pub mod bitmap;
 pub mod blocks;
 pub mod directory;
 pub mod entries;

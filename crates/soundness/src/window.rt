@@ -4,9 +4,9 @@ ghost use mathlib.Core.Path.{_≡_};
 ghost use mathlib.Core.Bool.{not, cond, _&&_};
 ghost use Prim.Native.Nat.{_/_, _%_};
 ghost use lib.Dec.{eqb};
-ghost use Rattle.soundness.specs.Bitmap.{has, put};
+ghost use Rattle.words.specs.Bitmap.{has, put};
 ghost use Rattle.soundness.specs.Seen.{window};
-use crate::bitmap;
+use words::bitmap;
 
 pub const WINDOW: usize = 65536;
 

@@ -45,7 +45,7 @@ pub record Spare-lies (spare : List ℕ) (p : ℕ) : Type 0 where
   pub page-to : p < 65536
   pub words : p * 2 + 2 ≤ length spare
 
-few-pages : {g : Geometry} → Accepted g → pages g ≤ 65536
+pub few-pages : {g : Geometry} → Accepted g → pages g ≤ 65536
 few-pages {g} ok = omega (arith, mul-le-mul-right (g .P) (ok .D+T-to), ok .P-to)
 
 pub words-lie : {g : Geometry} {chip : List ℕ} → Chip-lent g chip → (p : ℕ) → p < pages g → Words-lie g chip p

@@ -1,11 +1,12 @@
 // A region's numbers, of the geometry and of the small record, and the searches among its blocks.
+use crate::census::ERASED_PAGE;
 use lent::Geometry;
 use lent::Record;
 use lent::Region;
 use lent::Work;
-use words::blocks::erased_among;
-use words::blocks::fewest_valid_among;
-use words::blocks::lowest_erased_among;
+use words::census::count_equal;
+use words::census::fewest_below;
+use words::census::lowest_equal;
 ghost use mathlib.Core.Path.{_≡_};
 ghost use Rattle.lent.specs.Model.{geometry, small, region};
 ghost use Rattle.scope.specs.Regions.{first-block, region-blocks};
@@ -13,7 +14,8 @@ ghost use Rattle.scope.specs.SmallRecord.{open-block, next-offset, with-open};
 ghost use Rattle.scope.specs.Lent.{State};
 ghost use Rattle.scope.specs.Room.{erased-blocks, lowest-erased, victim, open-lowest};
 ghost use Rattle.lent.specs.Shapes.{Does-by-spare};
-ghost use Rattle.steps.specs.Whole.{Blocks-whole};
+ghost use Rattle.scope.specs.Geometry.{Accepted};
+ghost use Rattle.steps.specs.Census.{Census};
 
 pub fn first_block(g: Geometry, r: Region) -> u32
     ensures { λ x. ⌜ x ≡ first-block (geometry g) (region r) ⌝ }
@@ -71,44 +73,41 @@ pub fn with_open(rec: Record, r: Region, b: u32, offset: u32) -> Record
 }
 
 // How many blocks are wholly erased.
-pub fn erased_blocks(g: Geometry, r: Region, spare: &[u32]) -> u32
-    requires { ⌜ Blocks-whole (geometry g) (region r) (now spare) ⌝ }
+pub fn erased_blocks(g: Geometry, r: Region, spare: &[u32], census: &[u32]) -> u32
+    requires { ⌜ Accepted (geometry g) × Census (geometry g) (now spare) (now census) ⌝ }
     ensures { λ n. ⌜ ((s : State) → s .spare ≡ now (spare .entry) → erased-blocks (geometry g) (region r) s ≡ n) ⌝ }
 {
     let first = first_block(g, r) as usize;
     let n = region_blocks(g, r) as usize;
-    let p = g.p as usize;
-    erased_among(spare, first, n, p) as u32
+    count_equal(census, first, n, ERASED_PAGE * g.p) as u32
 }
 
 // The lowest of them.
-pub fn lowest_erased(g: Geometry, r: Region, spare: &[u32]) -> u32
-    requires { ⌜ Blocks-whole (geometry g) (region r) (now spare) ⌝ }
+pub fn lowest_erased(g: Geometry, r: Region, spare: &[u32], census: &[u32]) -> u32
+    requires { ⌜ Accepted (geometry g) × Census (geometry g) (now spare) (now census) ⌝ }
     ensures { λ b. ⌜ ((s : State) → s .spare ≡ now (spare .entry) → lowest-erased (geometry g) (region r) s ≡ b) ⌝ }
 {
     let first = first_block(g, r) as usize;
     let n = region_blocks(g, r) as usize;
-    let p = g.p as usize;
-    (first + lowest_erased_among(spare, first, n, p)) as u32
+    (first + lowest_equal(census, first, n, ERASED_PAGE * g.p)) as u32
 }
 
 // The block to collect.
-pub fn victim(g: Geometry, r: Region, spare: &[u32]) -> u32
-    requires { ⌜ Blocks-whole (geometry g) (region r) (now spare) ⌝ }
+pub fn victim(g: Geometry, r: Region, spare: &[u32], census: &[u32]) -> u32
+    requires { ⌜ Accepted (geometry g) × Census (geometry g) (now spare) (now census) ⌝ }
     ensures { λ v. ⌜ ((s : State) → s .spare ≡ now (spare .entry) → victim (geometry g) (region r) s ≡ v) ⌝ }
 {
     let first = first_block(g, r) as usize;
     let n = region_blocks(g, r) as usize;
-    let p = g.p as usize;
-    (first + fewest_valid_among(spare, first, n, p)) as u32
+    (first + fewest_below(census, first, n, ERASED_PAGE)) as u32
 }
 
 // The lowest wholly erased block becomes the open one.
-pub fn open_lowest(g: Geometry, r: Region, spare: &[u32], work: Work) -> Work
-    requires { ⌜ Blocks-whole (geometry g) (region r) (now spare) ⌝ }
+pub fn open_lowest(g: Geometry, r: Region, spare: &[u32], census: &[u32], work: Work) -> Work
+    requires { ⌜ Accepted (geometry g) × Census (geometry g) (now spare) (now census) ⌝ }
     ensures { λ x. ⌜ Does-by-spare (open-lowest (geometry g) (region r)) (now (spare .entry)) work tt x ⌝ }
 {
-    let b = lowest_erased(g, r, spare);
+    let b = lowest_erased(g, r, spare, census);
     let rec = work.rec;
     let counts = work.counts;
     Work {

@@ -2,6 +2,8 @@
 use crate::blocks::next_offset;
 use crate::blocks::open_block;
 use crate::blocks::with_open;
+use crate::census::ERASED_PAGE;
+use crate::census::restate;
 use lent::Entry;
 use lent::Geometry;
 use lent::Handed;
@@ -30,20 +32,31 @@ ghost use Rattle.scope.specs.Steps.{word-for};
 ghost use Rattle.lent.specs.Model.{geometry, small, region, entry};
 ghost use Rattle.lent.specs.Shapes.{Does-flash, Does-by-chip, Room-to-count};
 ghost use Rattle.steps.specs.Lies.{Chip-lent, Spare-lent, next-page, Has-next};
+ghost use Rattle.steps.specs.Census.{Census};
 ghost use Rattle.steps.specs.Chip.{Claimed, Begun, marked, relocate};
 
 // Block b is erased.
-pub fn erase(g: Geometry, b: u32, chip: &mut [u32], spare: &mut [u32], work: Work) -> Work
+pub fn erase(
+    g: Geometry,
+    b: u32,
+    chip: &mut [u32],
+    spare: &mut [u32],
+    census: &mut [u32],
+    work: Work,
+) -> Work
     requires { ⌜ Chip-lent (geometry g) (now chip) × Spare-lent (geometry g) (now spare) × (b < blocks (geometry g))
         × Room-to-count 1 (work .counts) ⌝ }
+    requires { ⌜ Census (geometry g) (now spare) (now census) ⌝ }
     ensures { λ r. ⌜ Does-flash (perform (geometry g) (Erase b)) (now (chip .entry)) (now (spare .entry)) work tt
         (now (chip .exit)) (now (spare .exit)) r ⌝ }
+    ensures { λ _. ⌜ Census (geometry g) (now (spare .exit)) (now (census .exit)) ⌝ }
 {
     let p = g.p as usize;
     let w = g.w as usize;
     let at = b as usize * p;
     fill_erased(chip, at * w, p * w);
     fill_erased(spare, at * 2, p * 2);
+    census[b as usize] = ERASED_PAGE * g.p;
     count_erase(work)
 }
 
@@ -56,22 +69,28 @@ pub fn is_valid(p: u32, spare: &[u32]) -> bool
 }
 
 // Page p is marked invalid.
-pub fn mark(p: u32, spare: &mut [u32])
-    requires { ⌜ p * 2 < length (now spare) ⌝ }
+pub fn mark(g: Geometry, p: u32, spare: &mut [u32], census: &mut [u32])
+    requires { ⌜ Spare-lent (geometry g) (now spare) × (p < pages (geometry g)) ⌝ }
+    requires { ⌜ Census (geometry g) (now spare) (now census) ⌝ }
     ensures { λ _. ⌜ now (spare .exit) ≡ set (now (spare .entry)) (p * 2) invalid ⌝ }
+    ensures { λ _. ⌜ Census (geometry g) (now (spare .exit)) (now (census .exit)) ⌝ }
 {
-    spare[p as usize * 2] = INVALID;
+    let at = p as usize * 2;
+    restate(census, (p / g.p) as usize, spare[at], INVALID);
+    spare[at] = INVALID;
 }
 
 // The former page is, if there is one.
-pub fn mark_old(old: Entry, spare: &mut [u32])
-    requires { ⌜ ((p : ℕ) → entry old ≡ Place p → p * 2 < length (now spare)) ⌝ }
+pub fn mark_old(g: Geometry, old: Entry, spare: &mut [u32], census: &mut [u32])
+    requires { ⌜ Spare-lent (geometry g) (now spare) × ((p : ℕ) → entry old ≡ Place p → p < pages (geometry g)) ⌝ }
+    requires { ⌜ Census (geometry g) (now spare) (now census) ⌝ }
     ensures { λ _. ⌜ now (spare .exit) ≡ marked (entry old) (now (spare .entry)) ⌝ }
+    ensures { λ _. ⌜ Census (geometry g) (now (spare .exit)) (now (census .exit)) ⌝ }
 {
     let Entry::Place(p) = old else {
         return;
     };
-    mark(p, spare);
+    mark(g, p, spare, census);
 }
 
 // The open block's next page.
@@ -83,17 +102,28 @@ pub fn next_page(g: Geometry, r: Region, rec: Record) -> u32
 }
 
 // It is claimed for an owner; its words are the caller's to store.
-pub fn claim_next(g: Geometry, r: Region, owner: u32, spare: &mut [u32], work: Work) -> Handed
+pub fn claim_next(
+    g: Geometry,
+    r: Region,
+    owner: u32,
+    spare: &mut [u32],
+    census: &mut [u32],
+    work: Work,
+) -> Handed
     requires { ⌜ Spare-lent (geometry g) (now spare) × Has-next (geometry g) (region r) (small (work .rec))
         × Room-to-count 1 (work .counts) ⌝ }
+    requires { ⌜ Census (geometry g) (now spare) (now census) ⌝ }
     ensures { λ x. ⌜ Claimed (geometry g) (region r) owner (now (spare .entry)) work (x .value) (now (spare .exit)) (x .work) ⌝ }
+    ensures { λ _. ⌜ Census (geometry g) (now (spare .exit)) (now (census .exit)) ⌝ }
 {
     let rec = work.rec;
     let counts = work.counts;
-    let q = next_page(g, r, rec);
-    store_two(spare, q as usize * 2, VALID, owner);
     let b = open_block(rec, r);
     let i = next_offset(rec, r);
+    let q = next_page(g, r, rec);
+    let at = q as usize * 2;
+    restate(census, b as usize, spare[at], VALID);
+    store_two(spare, at, VALID, owner);
     let next = Work {
         rec: with_open(rec, r, b, i + 1),
         counts,
@@ -112,18 +142,21 @@ pub fn program_next(
     words: &[u32],
     chip: &mut [u32],
     spare: &mut [u32],
+    census: &mut [u32],
     work: Work,
 ) -> Handed
     requires { ⌜ Chip-lent (geometry g) (now chip) × Spare-lent (geometry g) (now spare) × (length (now words) ≡ geometry g .W) ⌝ }
     requires { ⌜ Has-next (geometry g) (region r) (small (work .rec)) × Room-to-count 1 (work .counts) ⌝ }
+    requires { ⌜ Census (geometry g) (now spare) (now census) ⌝ }
     ensures { λ x. ⌜ Does-flash (program-next (geometry g) (region r) owner (now (words .entry))) (now (chip .entry))
         (now (spare .entry)) work (x .value) (now (chip .exit)) (now (spare .exit)) (x .work) ⌝ }
+    ensures { λ _. ⌜ Census (geometry g) (now (spare .exit)) (now (census .exit)) ⌝ }
 {
     let w = g.w as usize;
     let rec = work.rec;
     let q = next_page(g, r, rec) as usize;
     copy_in(chip, q * w, words);
-    claim_next(g, r, owner, spare, work)
+    claim_next(g, r, owner, spare, census, work)
 }
 
 // Where a page has gone, and its owner.
@@ -140,12 +173,15 @@ pub fn relocate(
     p: u32,
     chip: &mut [u32],
     spare: &mut [u32],
+    census: &mut [u32],
     work: Work,
 ) -> Moved
     requires { ⌜ Chip-lent (geometry g) (now chip) × Spare-lent (geometry g) (now spare) × (p < pages (geometry g)) ⌝ }
     requires { ⌜ Has-next (geometry g) (region r) (small (work .rec)) × Room-to-count 2 (work .counts) ⌝ }
+    requires { ⌜ Census (geometry g) (now spare) (now census) ⌝ }
     ensures { λ x. ⌜ Does-flash (relocate (geometry g) (region r) p) (now (chip .entry)) (now (spare .entry)) work
         (record { logical = x .owner; physical = x .page }) (now (chip .exit)) (now (spare .exit)) (x .work) ⌝ }
+    ensures { λ _. ⌜ Census (geometry g) (now (spare .exit)) (now (census .exit)) ⌝ }
 {
     let w = g.w as usize;
     let from = p as usize;
@@ -154,8 +190,8 @@ pub fn relocate(
     copy_within(chip, from * w, q * w, w);
     let owner = spare[from * 2 + 1];
     let read = count_read(work);
-    let claimed = claim_next(g, r, owner, spare, read);
-    mark(p, spare);
+    let claimed = claim_next(g, r, owner, spare, census, read);
+    mark(g, p, spare, census);
     let done = claimed.work;
     Moved {
         owner,

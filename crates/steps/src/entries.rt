@@ -3,28 +3,44 @@ use lent::Geometry;
 use lent::NONE;
 use lent::Record;
 use lent::Work;
+use words::bitmap;
 use words::entries::put_front;
 use words::entries::to_front;
 use words::runs::store_three;
 use words::runs::store_two;
 ghost use mathlib.Core.Path.{_≡_};
-ghost use Prim.Native.Nat.{_+_, _*_, _≤_, _<_};
+ghost use Prim.Native.Nat.{ℕ, _+_, _*_, _≤_, _<_};
 ghost use lib.ListN.{length};
-ghost use Rattle.scope.specs.Sound.{rank-of};
+ghost use Rattle.scope.specs.Geometry.{Accepted};
+ghost use Rattle.scope.specs.Sound.{Entries-fit, rank-of};
 ghost use Rattle.scope.specs.Cache.{is-changed, touch, enter, forget, set-entry};
 ghost use Rattle.scope.specs.Lent.{logical-at, physical-at};
 ghost use Rattle.lent.specs.declared.Work.{Work};
 ghost use Rattle.lent.specs.Model.{geometry};
 ghost use Rattle.lent.specs.Shapes.{Does-cache};
 ghost use Rattle.steps.specs.Entries.{Cache-lent};
+ghost use Rattle.steps.specs.Filter.{Filter, bit-of};
+ghost use Rattle.words.specs.Bitmap.{has};
+ghost use mathlib.Core.Bool.{true};
 
-// The rank of logical page l; C where it isn't cached.
-pub fn rank_of(g: Geometry, rec: Record, l: u32, cache: &[u32]) -> usize
+// The bit of a logical page in the filter.
+fn bit_of(l: u32) -> usize
+    ensures { λ r. ⌜ r ≡ bit-of l ⌝ }
+{
+    l as usize % 65536
+}
+
+// The rank of logical page l; C where it isn't cached, which the filter mostly tells.
+pub fn rank_of(g: Geometry, rec: Record, l: u32, cache: &[u32], filter: &[u64; 1024]) -> usize
     requires { ⌜ Cache-lent (geometry g) (now cache) (rec .used) ⌝ }
+    requires { ⌜ Filter (now cache) (rec .used) (now filter) ⌝ }
     ensures { λ i. ⌜ (i ≤ geometry g .C) × (rank-of (geometry g) (now (cache .entry)) (rec .used) l ≡ i) ⌝ }
 {
-    let used = rec.used as usize;
     let n = g.c as usize;
+    if !bitmap::has(filter, bit_of(l)) {
+        return n;
+    }
+    let used = rec.used as usize;
     words::entries::rank_of(cache, used, n, l)
 }
 
@@ -59,12 +75,15 @@ pub fn touch(i: usize, cache: &mut [u32])
 }
 
 // An entry for logical page l, in front and unchanged, in the place of the first unused one.
-pub fn enter(l: u32, place: u32, cache: &mut [u32], work: Work) -> Work
+pub fn enter(l: u32, place: u32, cache: &mut [u32], filter: &mut [u64; 1024], work: Work) -> Work
     requires { ⌜ (work .rec .used * 3 + 3 ≤ length (now cache)) × (work .rec .used < 4294967295) ⌝ }
+    requires { ⌜ Filter (now cache) (work .rec .used) (now filter) ⌝ }
     ensures { λ r. ⌜ Does-cache (enter l place) (now (cache .entry)) work 0 (now (cache .exit)) r ⌝ }
+    ensures { λ r. ⌜ Filter (now (cache .exit)) (r .rec .used) (now (filter .exit)) ⌝ }
 {
     let mut next = work;
     let used = work.rec.used;
+    bitmap::put(filter, bit_of(l));
     put_front(cache, used as usize, l, place, 0);
     let more = used + 1;
     next.rec.used = more;
@@ -72,11 +91,21 @@ pub fn enter(l: u32, place: u32, cache: &mut [u32], work: Work) -> Work
 }
 
 // The entry at rank i, the last, is dropped.
-pub fn forget(i: usize, cache: &mut [u32], work: Work) -> Work
-    requires { ⌜ (i * 3 + 3 ≤ length (now cache)) × (1 ≤ work .rec .used) ⌝ }
+pub fn forget(
+    g: Geometry,
+    i: usize,
+    cache: &mut [u32],
+    filter: &mut [u64; 1024],
+    work: Work,
+) -> Work
+    requires { ⌜ (i * 3 + 3 ≤ length (now cache)) × (i + 1 ≡ work .rec .used) ⌝ }
+    requires { ⌜ Accepted (geometry g) × Entries-fit (geometry g) (now cache) (work .rec .used) ⌝ }
+    requires { ⌜ Filter (now cache) (work .rec .used) (now filter) ⌝ }
     ensures { λ r. ⌜ Does-cache (forget i) (now (cache .entry)) work tt (now (cache .exit)) r ⌝ }
+    ensures { λ r. ⌜ Filter (now (cache .exit)) (r .rec .used) (now (filter .exit)) ⌝ }
 {
     let mut next = work;
+    bitmap::flip(filter, bit_of(cache[i * 3]));
     store_three(cache, i * 3, NONE, NONE, NONE);
     let less = work.rec.used - 1;
     next.rec.used = less;
@@ -89,4 +118,17 @@ pub fn set_entry(i: usize, place: u32, cache: &mut [u32])
     ensures { λ _. ⌜ ((w : Work) → Does-cache (set-entry i place) (now (cache .entry)) w tt (now (cache .exit)) w) ⌝ }
 {
     store_two(cache, i * 3 + 1, place, 1);
+}
+
+// The filter is filled: whatever was in it, the pages of the first n entries have their bits too.
+pub fn fill(n: usize, cache: &[u32], filter: &mut [u64; 1024])
+    requires { ⌜ (n * 3 ≤ length (now cache)) × (length (now filter) ≡ 1024) ⌝ }
+    ensures { λ _. ⌜ (length (now (filter .exit)) ≡ 1024)
+        × ((i : ℕ) → i < n → has (now (filter .exit)) (bit-of (logical-at i (now (cache .entry)))) ≡ true) ⌝ }
+{
+    let mut i = 0;
+    while i < n {
+        bitmap::put(filter, bit_of(cache[i * 3]));
+        i += 1;
+    }
 }

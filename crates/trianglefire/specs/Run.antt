@@ -17,38 +17,41 @@ use Rattle.scope.specs.Boundary.{counts-words, requests-of}
 use Rattle.scope.specs.Contracts.{right-lengths, Answers}
 use Rattle.calls.specs.declared.run.Running.{Running}
 use Rattle.calls.specs.Run.{Begun, Finished}
-use Rattle.calls.specs.Serve.{Serving, Runs}
+use Rattle.calls.specs.Noted.{Noted}
+use Rattle.calls.specs.Serve.{Serving, Runs, Served}
 use Rattle.calls.specs.Ran.{Admitted, runs-none, runs-more, runs-ready, run-answers}
 use Rattle.trianglefire.specs.Asked.{half-as-many, words-at, request-at}
 
 -- ---- the loop
 
 -- What the run's tests have found, for those that are served only where the run is admitted.
-abbrev pub Tested : Geometry → ℕ → Running → State → List ℕ → List ℕ → Type 0
-Tested g n a s words answers = a .answer ≡ DONE → Admitted g n a s words answers
+abbrev pub Tested : Geometry → ℕ → Running → State → List ℕ → List ℕ → List ℕ → List ℕ → Type 0
+Tested g n a s words answers census filter = a .answer ≡ DONE → Admitted g n a s words answers census filter
 
 -- The loop before request i of n: those before it are served.
-pub record Turned (g : Geometry) (ws : List ℕ) (n i : ℕ) (a : Running) (s : State) (words answers : List ℕ)
-    (b : Running) (s′ : State) (words′ answers′ : List ℕ) : Type 0 where
+pub record Turned (g : Geometry) (ws : List ℕ) (n i : ℕ) (a : Running) (s : State) (words answers census filter : List ℕ)
+    (b : Running) (s′ : State) (words′ answers′ census′ filter′ : List ℕ) : Type 0 where
   pub all : n ≡ length ws / 2
   pub so-far : i ≤ n
   pub countable : n < 2 ^ 64
-  pub tested : Tested g n a s words answers
+  pub tested : Tested g n a s words answers census filter
   pub runs : Runs (serve-records g (requests-of ws) i) a s words answers b s′ words′ answers′
+  pub noted : Noted g s census filter → Noted g s′ census′ filter′
 
-module _ {g : Geometry} {ws : List ℕ} {n : ℕ} {a : Running} {s : State} {words answers : List ℕ} where
-  pub start : n ≡ length ws / 2 → n < 2 ^ 64 → Tested g n a s words answers → Turned g ws n 0 a s words answers a s words answers
+module _ {g : Geometry} {ws : List ℕ} {n : ℕ} {a : Running} {s : State} {words answers census filter : List ℕ} where
+  pub start : n ≡ length ws / 2 → n < 2 ^ 64 → Tested g n a s words answers census filter
+      → Turned g ws n 0 a s words answers census filter a s words answers census filter
   start e few tested =
-      record { all = e; so-far = omega arith; countable = few; tested = tested; runs = runs-none g (requests-of ws) }
+      record { all = e; so-far = omega arith; countable = few; tested = tested; runs = runs-none g (requests-of ws); noted = λ x. x }
 
-  module _ {i : ℕ} {b : Running} {s₁ : State} {words₁ answers₁ : List ℕ} (before : Turned g ws n i a s words answers b s₁ words₁ answers₁)
-      (h : i < n) where
-    pub ready : b .answer ≡ DONE → Serving g i b s₁ words₁ answers₁
-    ready = runs-ready g (requests-of ws) (before .tested) h (before .runs)
+  module _ {i : ℕ} {b : Running} {s₁ : State} {words₁ answers₁ census₁ filter₁ : List ℕ}
+      (before : Turned g ws n i a s words answers census filter b s₁ words₁ answers₁ census₁ filter₁) (h : i < n) where
+    pub ready : b .answer ≡ DONE → Serving g i b s₁ words₁ answers₁ census₁ filter₁
+    ready = runs-ready g (requests-of ws) (before .tested) h (before .runs) (before .noted)
 
-    pub turn : {c : Running} {s₂ : State} {words₂ answers₂ : List ℕ}
-        → Runs (serve-record g i (words-at ws i)) b s₁ words₁ answers₁ c s₂ words₂ answers₂
-        → Turned g ws n (i + 1) a s words answers c s₂ words₂ answers₂
+    pub turn : {c : Running} {s₂ : State} {words₂ answers₂ census₂ filter₂ : List ℕ}
+        → Served g i (words-at ws i) b s₁ words₁ answers₁ census₁ filter₁ c s₂ words₂ answers₂ census₂ filter₂
+        → Turned g ws n (i + 1) a s words answers census filter c s₂ words₂ answers₂ census₂ filter₂
     turn {c} {s₂} {words₂} {answers₂} served =
         record {
           all = before .all;
@@ -57,10 +60,12 @@ module _ {g : Geometry} {ws : List ℕ} {n : ℕ} {a : Running} {s : State} {wor
           tested = before .tested;
           runs = runs-more g (requests-of ws) i (before .runs)
               (subst (λ (q : Request). Runs (serve-record g i q) b s₁ words₁ answers₁ c s₂ words₂ answers₂)
-              (sym (request-at ws i (omega (arith, before .all)))) served);
+              (sym (request-at ws i (omega (arith, before .all)))) (served .runs));
+          noted = λ x. served .noted (before .noted x);
         }
 
-  pub turned : {i : ℕ} {b : Running} {s′ : State} {words′ answers′ : List ℕ} → Turned g ws n i a s words answers b s′ words′ answers′ → n ≤ i
+  pub turned : {i : ℕ} {b : Running} {s′ : State} {words′ answers′ census′ filter′ : List ℕ}
+      → Turned g ws n i a s words answers census filter b s′ words′ answers′ census′ filter′ → n ≤ i
       → Runs (serve-records g (requests-of ws) (length ws / 2)) a s words answers b s′ words′ answers′
   turned {i} {b} {s′} {words′} {answers′} t h =
       subst (λ (k : ℕ). Runs (serve-records g (requests-of ws) k) a s words answers b s′ words′ answers′) last (t .runs)
@@ -80,14 +85,14 @@ last-first false whole three = refl
 
 -- Begun, served to the last request and finished, with the record that is handed on, is the call.
 pub run-words-answers : (g : Geometry) (ws : List ℕ) (five : Bool) {fits : Bool} {n : ℕ} {a b : Running} {s s₁ : State}
-    {chip spare directory cache words answers words′ answers′ given given′ : List ℕ} {answer : ℕ} {rec : Record}
+    {chip spare directory cache words answers census filter words′ answers′ given given′ : List ℕ} {answer : ℕ} {rec : Record}
     → fits ≡ (five && eqb (length ws % 2) 0) → n ≡ length ws / 2
-    → Begun g fits n (length words) (length answers) (length given) s a s₁
+    → Begun g fits n (length words) (length answers) (length given) s a s₁ census filter
     → Runs (serve-records g (requests-of ws) (length ws / 2)) a s₁ words answers b (state chip spare directory cache (b .rec)) words′ answers′
     → Finished b given answer rec given′
     → Answers (run g (right-lengths five given && eqb (length ws % 2) 0) (requests-of ws) words answers s) given
     (run-replied words′ answers′ answer) (state chip spare directory cache rec) given′
-run-words-answers g ws five {fits} {n} {s = s} {chip = chip} {spare} {directory} {cache} {words} {answers} {words′} {answers′} {given} {given′} {answer} {rec}
+run-words-answers g ws five {fits} {n} {s = s} {chip = chip} {spare} {directory} {cache} {words} {answers} {words′ = words′} {answers′} {given} {given′} {answer} {rec}
     whole half begun ran finished =
     let many = half-as-many ws in
     let answered = run-answers g (requests-of ws) (rw (half ∙ sym many) at begun) (rw (sym many) at ran) finished in

@@ -41,11 +41,13 @@ fn serve_words(
     spare: &mut [u32],
     directory: &mut [u32],
     cache: &mut [u32],
+    census: &mut [u32; 1024],
+    filter: &mut [u64; 1024],
     words: &mut [u32],
     answers: &mut [u32],
 ) -> Running
     requires { ⌜ Tested (geometry g) (length (now requests) / 2) first
-        (state (now chip) (now spare) (now directory) (now cache) (first .rec)) (now words) (now answers) ⌝ }
+        (state (now chip) (now spare) (now directory) (now cache) (first .rec)) (now words) (now answers) (now census) (now filter) ⌝ }
     ensures { λ r. ⌜ Runs (serve-records (geometry g) (requests-of (now (requests .entry))) (length (now (requests .entry)) / 2)) first
         (state (now (chip .entry)) (now (spare .entry)) (now (directory .entry)) (now (cache .entry)) (first .rec))
         (now (words .entry)) (now (answers .entry)) r
@@ -60,13 +62,26 @@ fn serve_words(
             kind: requests[REQUEST_WORDS * i],
             page: requests[REQUEST_WORDS * i + 1],
         };
-        cur = serve(cur, i, q, g, chip, spare, directory, cache, words, answers);
+        cur = serve(
+            cur,
+            i,
+            q,
+            g,
+            chip,
+            spare,
+            directory,
+            cache,
+            census,
+            filter,
+            words,
+            answers,
+        );
         i += 1;
     }
     cur
 }
 
-// The whole run over the loaded record.
+// The whole run over the loaded record. The notes last as long as it does.
 pub fn run_words(
     rec: Record,
     five: bool,
@@ -90,6 +105,8 @@ pub fn run_words(
 {
     let fits = whole_requests(five, requests.len());
     let n = requests.len() / REQUEST_WORDS;
+    let mut census = [0u32; 1024];
+    let mut filter = [0u64; 1024];
     let first = begin(
         rec,
         fits,
@@ -102,6 +119,8 @@ pub fn run_words(
         spare,
         directory,
         cache,
+        &mut census,
+        &mut filter,
     );
     let last = serve_words(
         first,
@@ -111,6 +130,8 @@ pub fn run_words(
         spare,
         directory,
         cache,
+        &mut census,
+        &mut filter,
         words,
         answers,
     );

@@ -17,7 +17,6 @@ use Rattle.region.specs.Collect.{opened-lowest}
 use Rattle.lent.specs.declared.Work.{Work}
 use Rattle.lent.specs.Model.{small}
 use Rattle.lent.specs.Shapes.{Does-by-spare, Room-to-count, room-after}
-use Rattle.steps.specs.Whole.{Blocks-whole, open-full}
 use Rattle.update.specs.Index.{Does-index, no-cache, index-state, Index-lent, index-lengths, less-room, Room-ready}
 use Rattle.update.specs.Starts.{Starts, collection-starts}
 use Rattle.update.specs.Room.{opened-is, opening-counts}
@@ -27,10 +26,6 @@ use Rattle.update.specs.Moving.{Copy-ready, Copied-upto, still-lent, sti
 pub record Full-ready (g : Geometry) (chip spare directory : List ℕ) (w : Work) : Type 0 where
   pub ready : Room-ready g chip spare directory w
   pub full : g .P ≤ w .rec .«translation_offset»
-
-pub full-whole : {g : Geometry} {chip spare directory : List ℕ} {w : Work} → Full-ready g chip spare directory w
-    → Blocks-whole g Translation spare
-full-whole h = open-full (h .ready .lent .accepted) (h .ready .lent .spare-fits) (h .ready .holds .fits) (h .full)
 
 pub record Collect-ready (g : Geometry) (chip spare directory : List ℕ) (w : Work) : Type 0 where
   pub full : Full-ready g chip spare directory w

@@ -19,25 +19,27 @@ use Rattle.words.specs.Runs.{length-part}
 use Rattle.promises.specs.Stored.{length-set-words}
 use Rattle.steps.specs.Lies.{Chip-lent, words-lie}
 use Rattle.steps.specs.Chip.{one-word-set}
-use Rattle.update.specs.declared.Waiting.{Waiting}
 
--- The first n pairs of two lists.
-unfoldable pub first-moves : ℕ → List ℕ → List ℕ → List Mapping
-first-moves zero logical physical = []
-first-moves (suc n) logical physical =
-    first-moves n logical physical ++ record { logical = getD logical n 0; physical = getD physical n 0 } ∷ []
+-- The first n mappings of a list that has three words for each: the logical page, the physical page, and the translation page, which is
+-- reckoned once for all the times that it is looked at.
+unfoldable pub first-moves : ℕ → List ℕ → List Mapping
+first-moves zero waiting = []
+first-moves (suc n) waiting =
+    first-moves n waiting ++ record { logical = getD waiting (n * 3) 0; physical = getD waiting (n * 3 + 1) 0 } ∷ []
 
-abbrev pub moves : Waiting → List Mapping
-moves w = first-moves (w .n) (w .logical) (w .physical)
+pub record Waits-in (g : Geometry) (n : ℕ) (waiting : List ℕ) : Type 0 where
+  pub long : length waiting ≡ 192
+  pub few : n ≤ 64
+  pub of-pages : (i : ℕ) → i < n → getD waiting (i * 3 + 2) 0 ≡ translation-page g (getD waiting (i * 3) 0)
 
-module _ (logical physical : List ℕ) where
-  pub no-moves : first-moves 0 logical physical ≡ []
+module _ (waiting : List ℕ) where
+  pub no-moves : first-moves 0 waiting ≡ []
   unfolding first-moves
   no-moves = refl
 
   pub one-more : (n : ℕ)
-      → first-moves (n + 1) logical physical
-      ≡ first-moves n logical physical ++ record { logical = getD logical n 0; physical = getD physical n 0 } ∷ []
+      → first-moves (n + 1) waiting
+      ≡ first-moves n waiting ++ record { logical = getD waiting (n * 3) 0; physical = getD waiting (n * 3 + 1) 0 } ∷ []
   unfolding first-moves
   one-more n = rw add-one
 

@@ -190,7 +190,7 @@ pub record Finish-ready (g : Geometry) (spare directory : List ℕ) (w : Work) (
   pub lent : Spare-lent g spare
   pub next : Has-next g Translation (small (w .rec))
   pub listed : t < length directory
-  pub former : (p : ℕ) → named t directory ≡ Place p → p * 2 < length spare
+  pub former : (p : ℕ) → named t directory ≡ Place p → p < pages g
   pub counting : Room-to-count 1 (w .counts)
 
 pub finish-ready : {g : Geometry} {chip spare directory : List ℕ} {w : Work} {t : ℕ} → Roomy g chip spare directory w t 1
@@ -200,7 +200,7 @@ finish-ready h =
       lent = spare-of (h .lent);
       next = h .next;
       listed = h .listed;
-      former = λ p e. omega (arith, h .lent .spare-fits, h .former p e);
+      former = h .former;
       counting = h .counting;
     }
 

@@ -9,24 +9,17 @@ use steps::chip::set_word;
 use touched::next_touched;
 use touched::set_words;
 ghost use mathlib.Core.List.{[], _∷_};
-ghost use Prim.Native.Nat.{_≤_};
 ghost use Rattle.scope.specs.Lent.{translation-page};
 ghost use Rattle.scope.specs.Steps.{of-page, update, update-all};
 ghost use Rattle.lent.specs.Model.{geometry};
-ghost use Rattle.update.specs.Moves.{moves};
+ghost use Rattle.steps.specs.Census.{Census};
+ghost use Rattle.update.specs.Moves.{first-moves, Waits-in};
 ghost use Rattle.update.specs.Index.{Does-index, Index-ready};
 ghost use Rattle.update.specs.Writing.{Page-ready};
 
 pub mod page;
 pub mod room;
 pub mod touched;
-
-// What waits during a data collection: at most 64 mappings.
-pub struct Waiting {
-    pub logical: [u32; 64],
-    pub physical: [u32; 64],
-    pub n: usize,
-}
 
 // The translation page of logical page l is updated with that one mapping.
 pub fn update_one(
@@ -36,19 +29,22 @@ pub fn update_one(
     place: u32,
     chip: &mut [u32],
     spare: &mut [u32],
+    census: &mut [u32],
     directory: &mut [u32],
 ) -> Work
     requires { ⌜ Index-ready (geometry g) (now chip) (now spare) (now directory) work (record { logical = l; physical = place } ∷ []) ⌝ }
+    requires { ⌜ Census (geometry g) (now spare) (now census) ⌝ }
     ensures { λ r. ⌜ Does-index (update (geometry g) (translation-page (geometry g) l) (record { logical = l; physical = place } ∷ []))
         (now (chip .entry)) (now (spare .entry)) (now (directory .entry)) work tt
         (now (chip .exit)) (now (spare .exit)) (now (directory .exit)) r ⌝ }
+    ensures { λ _. ⌜ Census (geometry g) (now (spare .exit)) (now (census .exit)) ⌝ }
 {
     let t = l / g.w;
-    let begun = begin(work, g, t, chip, spare, directory);
+    let begun = begin(work, g, t, chip, spare, census, directory);
     let rec = begun.rec;
     let q = next_page(g, Region::Translation, rec);
     set_word(g, q, l, place, chip);
-    finish(begun, g, t, spare, directory)
+    finish(begun, g, t, spare, census, directory)
 }
 
 // Translation page t is updated with all that waits for it.
@@ -56,43 +52,53 @@ fn update_page(
     work: Work,
     g: Geometry,
     t: u32,
-    waiting: Waiting,
+    n: usize,
+    waiting: &[u32; 192],
     chip: &mut [u32],
     spare: &mut [u32],
+    census: &mut [u32],
     directory: &mut [u32],
 ) -> Work
-    requires { ⌜ Page-ready (geometry g) (now chip) (now spare) (now directory) work t × (waiting .n ≤ 64) ⌝ }
-    ensures { λ r. ⌜ Does-index (update (geometry g) t (of-page (geometry g) t (moves waiting)))
+    requires { ⌜ Page-ready (geometry g) (now chip) (now spare) (now directory) work t ⌝ }
+    requires { ⌜ Census (geometry g) (now spare) (now census) ⌝ }
+    requires { ⌜ Waits-in (geometry g) n (now waiting) ⌝ }
+    ensures { λ r. ⌜ Does-index (update (geometry g) t (of-page (geometry g) t (first-moves n (now (waiting .entry)))))
         (now (chip .entry)) (now (spare .entry)) (now (directory .entry)) work tt
         (now (chip .exit)) (now (spare .exit)) (now (directory .exit)) r ⌝ }
+    ensures { λ _. ⌜ Census (geometry g) (now (spare .exit)) (now (census .exit)) ⌝ }
 {
-    let begun = begin(work, g, t, chip, spare, directory);
+    let begun = begin(work, g, t, chip, spare, census, directory);
     let rec = begun.rec;
     let q = next_page(g, Region::Translation, rec);
-    set_words(g, q, t, waiting, chip);
-    finish(begun, g, t, spare, directory)
+    set_words(g, q, t, n, waiting, chip);
+    finish(begun, g, t, spare, census, directory)
 }
 
-// All that waits is settled: each translation page that it touches, in rising number, is updated once.
+// The first n mappings that wait are settled: each translation page that they touch, in rising number, is updated once.
 pub fn settle(
     work: Work,
     g: Geometry,
-    waiting: Waiting,
+    n: usize,
+    waiting: &[u32; 192],
     chip: &mut [u32],
     spare: &mut [u32],
+    census: &mut [u32],
     directory: &mut [u32],
 ) -> Work
-    requires { ⌜ Index-ready (geometry g) (now chip) (now spare) (now directory) work (moves waiting) × (waiting .n ≤ 64) ⌝ }
-    ensures { λ r. ⌜ Does-index (update-all (geometry g) (moves waiting))
+    requires { ⌜ Index-ready (geometry g) (now chip) (now spare) (now directory) work (first-moves n (now waiting)) ⌝ }
+    requires { ⌜ Census (geometry g) (now spare) (now census) ⌝ }
+    requires { ⌜ Waits-in (geometry g) n (now waiting) ⌝ }
+    ensures { λ r. ⌜ Does-index (update-all (geometry g) (first-moves n (now (waiting .entry))))
         (now (chip .entry)) (now (spare .entry)) (now (directory .entry)) work tt
         (now (chip .exit)) (now (spare .exit)) (now (directory .exit)) r ⌝ }
+    ensures { λ _. ⌜ Census (geometry g) (now (spare .exit)) (now (census .exit)) ⌝ }
 {
     let m = directory.len() as u32;
     let mut settled = work;
-    let mut t = next_touched(g, waiting, 0, m);
+    let mut t = next_touched(n, waiting, 0, m);
     while t < m {
-        settled = update_page(settled, g, t, waiting, chip, spare, directory);
-        t = next_touched(g, waiting, t + 1, m);
+        settled = update_page(settled, g, t, n, waiting, chip, spare, census, directory);
+        t = next_touched(n, waiting, t + 1, m);
     }
     settled
 }

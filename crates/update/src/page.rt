@@ -10,6 +10,7 @@ use steps::chip::mark_old;
 use steps::directory::named;
 use steps::directory::names_it;
 ghost use Rattle.lent.specs.Model.{geometry};
+ghost use Rattle.steps.specs.Census.{Census};
 ghost use Rattle.update.specs.Writing.{Page-ready, Begins, Finish-ready, Written};
 
 // Room is made, and the open block's next page has the words of translation page t, or none throughout.
@@ -19,13 +20,16 @@ pub(crate) fn begin(
     t: u32,
     chip: &mut [u32],
     spare: &mut [u32],
+    census: &mut [u32],
     directory: &mut [u32],
 ) -> Work
     requires { ⌜ Page-ready (geometry g) (now chip) (now spare) (now directory) work t ⌝ }
+    requires { ⌜ Census (geometry g) (now spare) (now census) ⌝ }
     ensures { λ r. ⌜ Begins (geometry g) t (now (chip .entry)) (now (spare .entry)) (now (directory .entry)) work
         (now (chip .exit)) (now (spare .exit)) (now (directory .exit)) r ⌝ }
+    ensures { λ _. ⌜ Census (geometry g) (now (spare .exit)) (now (census .exit)) ⌝ }
 {
-    let made = room(work, g, chip, spare, directory);
+    let made = room(work, g, chip, spare, census, directory);
     let former = named(t, directory);
     begin_next(g, Region::Translation, former, chip, made)
 }
@@ -36,14 +40,17 @@ pub(crate) fn finish(
     g: Geometry,
     t: u32,
     spare: &mut [u32],
+    census: &mut [u32],
     directory: &mut [u32],
 ) -> Work
     requires { ⌜ Finish-ready (geometry g) (now spare) (now directory) work t ⌝ }
+    requires { ⌜ Census (geometry g) (now spare) (now census) ⌝ }
     ensures { λ r. ⌜ Written (geometry g) t (now (spare .entry)) (now (directory .entry)) work (now (spare .exit)) (now (directory .exit)) r ⌝ }
+    ensures { λ _. ⌜ Census (geometry g) (now (spare .exit)) (now (census .exit)) ⌝ }
 {
     let former = named(t, directory);
-    let claimed = claim_next(g, Region::Translation, t, spare, work);
-    mark_old(former, spare);
+    let claimed = claim_next(g, Region::Translation, t, spare, census, work);
+    mark_old(g, former, spare, census);
     names_it(t, claimed.value, directory);
     claimed.work
 }

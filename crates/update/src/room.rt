@@ -14,6 +14,7 @@ ghost use Rattle.scope.specs.Regions.{Translation};
 ghost use Rattle.scope.specs.Room.{move-if-valid, move-pages, collect, open-or-collect, make-room};
 ghost use Rattle.scope.specs.Steps.{directory-follows};
 ghost use Rattle.lent.specs.Model.{geometry};
+ghost use Rattle.steps.specs.Census.{Census};
 ghost use Rattle.update.specs.Index.{Does-index, Room-ready};
 ghost use Rattle.update.specs.Moving.{Move-ready, Copy-ready};
 ghost use Rattle.update.specs.Collecting.{Full-ready, Collect-ready};
@@ -25,17 +26,20 @@ fn move_if_valid(
     p: u32,
     chip: &mut [u32],
     spare: &mut [u32],
+    census: &mut [u32],
     directory: &mut [u32],
 ) -> Work
     requires { ⌜ Move-ready (geometry g) (now chip) (now spare) (now directory) work p ⌝ }
+    requires { ⌜ Census (geometry g) (now spare) (now census) ⌝ }
     ensures { λ r. ⌜ Does-index (move-if-valid (geometry g) Translation directory-follows p)
         (now (chip .entry)) (now (spare .entry)) (now (directory .entry)) work []
         (now (chip .exit)) (now (spare .exit)) (now (directory .exit)) r ⌝ }
+    ensures { λ _. ⌜ Census (geometry g) (now (spare .exit)) (now (census .exit)) ⌝ }
 {
     if !is_valid(p, spare) {
         return work;
     }
-    let moved = relocate(g, Region::Translation, p, chip, spare, work);
+    let moved = relocate(g, Region::Translation, p, chip, spare, census, work);
     names_it(moved.owner, moved.page, directory);
     moved.work
 }
@@ -47,17 +51,20 @@ fn move_pages(
     v: u32,
     chip: &mut [u32],
     spare: &mut [u32],
+    census: &mut [u32],
     directory: &mut [u32],
 ) -> Work
     requires { ⌜ Copy-ready (geometry g) (now chip) (now spare) (now directory) work v ⌝ }
+    requires { ⌜ Census (geometry g) (now spare) (now census) ⌝ }
     ensures { λ r. ⌜ Does-index (move-pages (geometry g) Translation directory-follows v (g .p))
         (now (chip .entry)) (now (spare .entry)) (now (directory .entry)) work []
         (now (chip .exit)) (now (spare .exit)) (now (directory .exit)) r ⌝ }
+    ensures { λ _. ⌜ Census (geometry g) (now (spare .exit)) (now (census .exit)) ⌝ }
 {
     let mut moved = work;
     let mut i = 0;
     while i < g.p {
-        moved = move_if_valid(moved, g, v * g.p + i, chip, spare, directory);
+        moved = move_if_valid(moved, g, v * g.p + i, chip, spare, census, directory);
         i += 1;
     }
     moved
@@ -69,17 +76,20 @@ fn collect(
     g: Geometry,
     chip: &mut [u32],
     spare: &mut [u32],
+    census: &mut [u32],
     directory: &mut [u32],
 ) -> Work
     requires { ⌜ Collect-ready (geometry g) (now chip) (now spare) (now directory) work ⌝ }
+    requires { ⌜ Census (geometry g) (now spare) (now census) ⌝ }
     ensures { λ r. ⌜ Does-index (collect (geometry g) Translation directory-follows)
         (now (chip .entry)) (now (spare .entry)) (now (directory .entry)) work tt
         (now (chip .exit)) (now (spare .exit)) (now (directory .exit)) r ⌝ }
+    ensures { λ _. ⌜ Census (geometry g) (now (spare .exit)) (now (census .exit)) ⌝ }
 {
-    let v = victim(g, Region::Translation, spare);
-    let opened = open_lowest(g, Region::Translation, spare, work);
-    let moved = move_pages(opened, g, v, chip, spare, directory);
-    erase(g, v, chip, spare, moved)
+    let v = victim(g, Region::Translation, spare, census);
+    let opened = open_lowest(g, Region::Translation, spare, census, work);
+    let moved = move_pages(opened, g, v, chip, spare, census, directory);
+    erase(g, v, chip, spare, census, moved)
 }
 
 // Where the open block is full.
@@ -88,17 +98,20 @@ fn open_or_collect(
     g: Geometry,
     chip: &mut [u32],
     spare: &mut [u32],
+    census: &mut [u32],
     directory: &mut [u32],
 ) -> Work
     requires { ⌜ Full-ready (geometry g) (now chip) (now spare) (now directory) work ⌝ }
+    requires { ⌜ Census (geometry g) (now spare) (now census) ⌝ }
     ensures { λ r. ⌜ Does-index (open-or-collect (geometry g) Translation directory-follows)
         (now (chip .entry)) (now (spare .entry)) (now (directory .entry)) work tt
         (now (chip .exit)) (now (spare .exit)) (now (directory .exit)) r ⌝ }
+    ensures { λ _. ⌜ Census (geometry g) (now (spare .exit)) (now (census .exit)) ⌝ }
 {
-    if 2 <= erased_blocks(g, Region::Translation, spare) {
-        return open_lowest(g, Region::Translation, spare, work);
+    if 2 <= erased_blocks(g, Region::Translation, spare, census) {
+        return open_lowest(g, Region::Translation, spare, census, work);
     }
-    collect(work, g, chip, spare, directory)
+    collect(work, g, chip, spare, census, directory)
 }
 
 // Make room: afterwards the open block has a page to program.
@@ -107,16 +120,19 @@ pub fn room(
     g: Geometry,
     chip: &mut [u32],
     spare: &mut [u32],
+    census: &mut [u32],
     directory: &mut [u32],
 ) -> Work
     requires { ⌜ Room-ready (geometry g) (now chip) (now spare) (now directory) work ⌝ }
+    requires { ⌜ Census (geometry g) (now spare) (now census) ⌝ }
     ensures { λ r. ⌜ Does-index (make-room (geometry g) Translation directory-follows)
         (now (chip .entry)) (now (spare .entry)) (now (directory .entry)) work tt
         (now (chip .exit)) (now (spare .exit)) (now (directory .exit)) r ⌝ }
+    ensures { λ _. ⌜ Census (geometry g) (now (spare .exit)) (now (census .exit)) ⌝ }
 {
     let offset = work.rec.translation_offset;
     if offset < g.p {
         return work;
     }
-    open_or_collect(work, g, chip, spare, directory)
+    open_or_collect(work, g, chip, spare, census, directory)
 }

@@ -3,3 +3,4 @@ pub mod Runs
 pub mod Entries
 pub mod States
 pub mod Searches
+pub mod Bitmap

@@ -1,13 +1,12 @@
 -- Searches below a bound as a loop makes them: none found so far, or the best of those passed.
-use Prim.Native.Nat.{ℕ, suc, _+_, _*_, _≤_, _<_}
+use Prim.Native.Nat.{ℕ, suc, _+_, _≤_, _<_}
 use mathlib.Core.Path.{_≡_, refl, sym, _∙_}
 use mathlib.Core.Logic.{_⊎_, inl, inr, ⊎-elim}
 use mathlib.Core.Bool.{Bool, true, false, cond}
-use native.Mathlib.Nat.{mul-le-mul-right, mul-le-mul-left, add-mul}
 use native.Mathlib.Numerals.{add-one}
 use native.Mathlib.Omega.{arith}
 use lib.Dec.{ltb}
-use borrow.Author.Tests.{lt-ltb, le-ltb}
+use borrow.Author.Tests.{lt-ltb, le-ltb, ltb-true, ltb-false}
 use Rattle.scope.specs.Counting.{lowest, fewest}
 use Rattle.flash.specs.Cases.{on, below?, last, clash}
 use Rattle.flash.specs.Searching.{lowest-cases, Is-fewest, fewest-cases}
@@ -32,8 +31,11 @@ fewest-unique n f size a b h k =
     (λ m. absurd (omega (arith, h .lower-more b m (k .passes), k .least a (h .below) (h .passes))))
     (λ m. omega arith))
 
--- Of the numbers below i: the one with the fewest, and its size; n and more than any size where none passes.
-module _ (f : ℕ → Bool) (size : ℕ → ℕ) (most n : ℕ) where
+-- Of the numbers below i whose size is below the limit: the one with the fewest, and its size; n and the limit where there is none.
+module _ (size : ℕ → ℕ) (limit n : ℕ) where
+  abbrev f : ℕ → Bool
+  f i = ltb (size i) limit
+
   pub record Found (i at best : ℕ) : Type 0 where
     pub fewest-one : Is-fewest i f size at
     pub its-size : best ≡ size at
@@ -41,13 +43,13 @@ module _ (f : ℕ → Bool) (size : ℕ → ℕ) (most n : ℕ) where
   pub record Not-found (i at best : ℕ) : Type 0 where
     pub fails : (k : ℕ) → k < i → f k ≡ false
     pub is-n : at ≡ n
-    pub more : best ≡ suc most
+    pub none : best ≡ limit
 
   abbrev pub Best-so-far : ℕ → ℕ → ℕ → Type 0
   Best-so-far i at best = Found i at best ⊎ Not-found i at best
 
-  pub best-of-none : Best-so-far 0 n (most + 1)
-  best-of-none = inr (record { fails = λ k h. absurd (omega arith); is-n = refl; more = omega arith })
+  pub best-of-none : Best-so-far 0 n limit
+  best-of-none = inr (record { fails = λ k h. absurd (omega arith); is-n = refl; none = refl })
 
   -- One that fails changes nothing; one that passes takes the place if it has fewer.
   best-fails : (i at best : ℕ) → Best-so-far i at best → f i ≡ false → Best-so-far (suc i) at best
@@ -64,12 +66,12 @@ module _ (f : ℕ → Bool) (size : ℕ → ℕ) (most n : ℕ) where
       (λ x. inr (record {
         fails = λ k l. last k i l (x .fails k) (λ e. rw e p);
         is-n = x .is-n;
-        more = x .more;
+        none = x .none;
       }))
       h
 
-  best-kept : (i at best : ℕ) → Best-so-far i at best → f i ≡ true → size i ≤ most → best ≤ size i → Best-so-far (suc i) at best
-  best-kept i at best h p small more = ⊎-elim
+  best-kept : (i at best : ℕ) → Best-so-far i at best → f i ≡ true → best ≤ size i → Best-so-far (suc i) at best
+  best-kept i at best h p more = ⊎-elim
       (λ x. inl (record {
         fewest-one = record {
           below = omega (arith, x .fewest-one .below);
@@ -79,7 +81,7 @@ module _ (f : ℕ → Bool) (size : ℕ → ℕ) (most n : ℕ) where
         };
         its-size = x .its-size;
       }))
-      (λ x. absurd (omega (arith, x .more)))
+      (λ x. absurd (omega (arith, x .none, ltb-true (size i) limit p)))
       h
 
   best-taken : (i at best : ℕ) → Best-so-far i at best → f i ≡ true → size i < best → Best-so-far (suc i) i (size i)
@@ -96,24 +98,24 @@ module _ (f : ℕ → Bool) (size : ℕ → ℕ) (most n : ℕ) where
         its-size = refl;
       })
 
-  -- A turn: v is the size where i passes, and more than any size where it fails.
-  pub best-of-more : (i at best v at′ best′ : ℕ) → ((k : ℕ) → size k ≤ most) → Best-so-far i at best
-      → v ≡ cond (f i) (size i) (most + 1) → at′ ≡ cond (ltb v best) i at → best′ ≡ cond (ltb v best) v best
-      → Best-so-far (i + 1) at′ best′
-  best-of-more i at best v at′ best′ small h e place smallest = rw (add-one, place, smallest) (on (f i) passing failing)
+  -- A turn: the next one takes the place if it has fewer.
+  pub best-of-more : (i at best at′ best′ : ℕ) → Best-so-far i at best
+      → at′ ≡ cond (ltb (size i) best) i at → best′ ≡ cond (ltb (size i) best) (size i) best → Best-so-far (i + 1) at′ best′
+  best-of-more i at best at′ best′ h place smallest = rw (add-one, place, smallest) (on (f i) passing failing)
     where
-      passing : f i ≡ true → Best-so-far (suc i) (cond (ltb v best) i at) (cond (ltb v best) v best)
+      passing : f i ≡ true → Best-so-far (suc i) (cond (ltb (size i) best) i at) (cond (ltb (size i) best) (size i) best)
       passing p =
-          let is : v ≡ size i = e ∙ (rw p refl) in
-          below? v best
-          (λ l. rw (lt-ltb v best l, is) (best-taken i at best h p (omega arith)))
-          (λ l. rw (le-ltb v best l) (best-kept i at best h p (small i) (omega arith)))
+          below? (size i) best
+          (λ l. rw (lt-ltb (size i) best l) (best-taken i at best h p l))
+          (λ l. rw (le-ltb (size i) best l) (best-kept i at best h p l))
 
-      failing : f i ≡ false → Best-so-far (suc i) (cond (ltb v best) i at) (cond (ltb v best) v best)
+      failing : f i ≡ false → Best-so-far (suc i) (cond (ltb (size i) best) i at) (cond (ltb (size i) best) (size i) best)
       failing p =
-          let is : v ≡ most + 1 = e ∙ (rw p refl) in
-          let as-many : best ≤ v = ⊎-elim (λ x. omega (arith, x .its-size, small at)) (λ x. omega (arith, x .more)) h in
-          rw (le-ltb v best as-many) (best-fails i at best h p)
+          let no-fewer : best ≤ size i =
+          ⊎-elim
+          (λ x. omega (arith, x .its-size, ltb-true (size at) limit (x .fewest-one .passes), ltb-false (size i) limit p))
+          (λ x. omega (arith, x .none, ltb-false (size i) limit p)) h in
+          rw (le-ltb (size i) best no-fewer) (best-fails i at best h p)
 
   pub best-of-all : (at best : ℕ) → Best-so-far n at best → at ≡ fewest n f size
   best-of-all at best h = ⊎-elim
@@ -126,17 +128,3 @@ module _ (f : ℕ → Bool) (size : ℕ → ℕ) (most n : ℕ) where
       (λ y. x .is-n ∙ sym (y .is-n))
       (fewest-cases n f size))
       h
-
--- ---- blocks
-
--- Block i of those from `first` on lies in the list, with its p pages of two words each.
-pub record Block-lies (first p i len : ℕ) : Type 0 where
-  pub number : first + i < len
-  pub pages : ((first + i) * p + p) * 2 ≤ len
-
-pub block-lies : (first n p i len : ℕ) → (first + n) * p * 2 ≤ len → 1 ≤ p → i < n → Block-lies first p i len
-block-lies first n p i len fits some below =
-    let after : (first + i + 1) * p ≤ (first + n) * p = mul-le-mul-right p (omega arith) in
-    let one : (first + i + 1) * p ≡ (first + i) * p + 1 * p = add-mul (first + i) 1 p in
-    let least : (first + i) * 1 ≤ (first + i) * p = mul-le-mul-left (first + i) some in
-    record { number = omega arith; pages = omega arith }

@@ -20,6 +20,10 @@ all-counted n f =
     (λ p. rw p (eq-eqb (count n f) n (count-each n f (all-each n f p))))
     (λ p. rw p (ne-eqb (count n f) n (λ e. clash (each-all n f (each-counted n f e)) p)))
 
+-- One more counted.
+pub count-next : (f : ℕ → Bool) (i k b : ℕ) → k ≡ count i f → b ≡ cond (f i) 1 0 → k + b ≡ count (i + 1) f
+count-next f i k b e q = rw (add-one, e, q) refl
+
 -- One more page counted, where turn i looks at a page of its own.
 pub count-more : (spare : List ℕ) (page : ℕ → ℕ) (state i k b : ℕ) → page i * 2 < length spare
     → k ≡ count i (λ j. eqb (state-of (page j) spare) state) → b ≡ cond (eqb (getD spare (page i * 2) 0) state) 1 0

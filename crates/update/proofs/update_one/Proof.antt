@@ -9,26 +9,29 @@ div-t : tie.Need-div-t
 div-t c = search needs
 
 begin-requires : tie.Need-begin-requires
-begin-requires c κs = page-ready _ (c .before .before .before .before .before .before .before .pre)
+begin-requires c κs =
+    let start = c .before .before .before .before .before .before .before .before .before in
+    (page-ready _ (start .pre .0), start .pre .1)
 
 next-page-requires : tie.Need-next-page-requires
 next-page-requires c κs =
-    let begun = c .before .before .before .before .before .before .before in
-    let ready = page-ready _ (begun .before .before .before .before .before .before .before .before .pre) in
-    (ready .lent .accepted, still-roomy ready (begun .begin .ensures) .next)
+    let begun = c .before .before .before .before .before .before .before .before .before in
+    let ready = page-ready _ (begun .before .before .before .before .before .before .before .before .before .before .pre .0) in
+    (ready .lent .accepted, still-roomy ready (begun .begin .ensures .0) .next)
 
 set-word-requires : tie.Need-set-word-requires
 set-word-requires c κs =
     let chosen = c .before in
-    let begun = chosen .before .before .before .before .before .before .before .before in
-    let ready = page-ready _ (begun .before .before .before .before .before .before .before .before .pre) in
-    (chip-of (still-roomy ready (begun .begin .ensures) .lent), next-here ready (begun .begin .ensures) (chosen .next-page .ensures))
+    let begun = chosen .before .before .before .before .before .before .before .before .before .before in
+    let begins = begun .begin .ensures .0 in
+    let ready = page-ready _ (begun .before .before .before .before .before .before .before .before .before .before .pre .0) in
+    (chip-of (still-roomy ready begins .lent), next-here ready begins (chosen .next-page .ensures))
 
 finish-requires : tie.Need-finish-requires
 finish-requires c κs =
-    let begun = c .before .before .before .before .before .before .before .before .before .before .before .before .before .before in
-    let ready = page-ready _ (begun .before .before .before .before .before .before .before .before .pre) in
-    finish-ready (still-roomy ready (begun .begin .ensures))
+    let begun = c .before .before .before .before .before .before .before .before .before .before .before .before .before .before .before .before .before in
+    let ready = page-ready _ (begun .before .before .before .before .before .before .before .before .before .before .pre .0) in
+    (finish-ready (still-roomy ready (begun .begin .ensures .0)), begun .begin .ensures .1)
 
 same-length : tie.Need-same-length
 same-length c = search needs
@@ -39,15 +42,20 @@ same-length-2 c = search needs
 same-length-3 : tie.Need-same-length-3
 same-length-3 c = search needs
 
+same-length-4 : tie.Need-same-length-4
+same-length-4 c = search needs
+
 returns : tie.Need-returns
 returns c =
-    let finished = c .before .before .before .before in
-    let stored = finished .before .before .before .before .before in
+    let finished = c .before .before .before .before .before .before in
+    let stored = finished .before .before .before .before .before .before in
     let chosen = stored .before .before in
-    let begun = chosen .before .before .before .before .before .before .before .before in
-    let ready = page-ready _ (begun .before .before .before .before .before .before .before .before .pre) in
-    update-does _ (begun .begin .ensures) (one-word ready (begun .begin .ensures) (chosen .next-page .ensures) _ (stored .set-word .ensures))
-    (finished .finish .ensures)
+    let begun = chosen .before .before .before .before .before .before .before .before .before .before in
+    let begins = begun .begin .ensures .0 in
+    let ready = page-ready _ (begun .before .before .before .before .before .before .before .before .before .before .pre .0) in (
+      update-does _ begins (one-word ready begins (chosen .next-page .ensures) _ (stored .set-word .ensures)) (finished .finish .ensures .0),
+      finished .finish .ensures .1,
+    )
 
 pub update-one-spec : {M : Type 1} → statement M
 update-one-spec =
@@ -61,4 +69,5 @@ update-one-spec =
     same-length
     same-length-2
     same-length-3
+    same-length-4
     returns)

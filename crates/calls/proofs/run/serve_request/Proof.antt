@@ -9,8 +9,8 @@ use Rattle.calls.proofs.run.serve_request.Tie as tie
 
 read-requires : tie.Need-read-requires
 read-requires c κs =
-    let (ready, long) = c .before .before .before .before .before .before .before .before .before .before .before .before .pre in
-    (ready-less _ _ (read-few (ready .ready .accepted)) ready, long)
+    let ((ready, long), noted) = c .before .before .before .before .before .before .before .before .before .before .before .before .before .before .pre in
+    ((ready-less _ _ (read-few (ready .ready .accepted)) ready, long), (noted .counted, noted .filtered))
 
 same-length : tie.Need-same-length
 same-length c = search needs
@@ -29,12 +29,16 @@ same-length-5 c = search needs
 
 returns : tie.Need-returns
 unfolding serve
-returns c = does-cond-true _ _ _ (eq-eqb _ _ (c .before .before .before .before .before .before .before .before .before .before .before .before .before .before .before .before .if1 .taken)) (c .before .before .before .before .before .before .before .before .before .before .read .ensures)
+returns c =
+    let done = c .before .before .before .before .before .before .before .before .before .before in (
+      does-cond-true _ _ _ (eq-eqb _ _ (done .before .before .before .before .before .before .before .before .if1 .taken)) (done .read .ensures .0),
+      record { counted = done .read .ensures .1 .0; filtered = done .read .ensures .1 .1 },
+    )
 
 write-requires : tie.Need-write-requires
 write-requires c κs =
-    let (ready, long) = c .before .before .before .before .before .before .before .before .before .before .before .before .pre in
-    (ready-less _ _ (write-few (ready .ready .accepted)) ready, long)
+    let ((ready, long), noted) = c .before .before .before .before .before .before .before .before .before .before .before .before .before .before .pre in
+    ((ready-less _ _ (write-few (ready .ready .accepted)) ready, long), (noted .counted, noted .filtered))
 
 same-length-6 : tie.Need-same-length-6
 same-length-6 c = search needs
@@ -53,7 +57,11 @@ same-length-10 c = search needs
 
 returns-2 : tie.Need-returns-2
 unfolding serve
-returns-2 c = does-cond-false _ _ _ (ne-eqb _ _ (c .before .before .before .before .before .before .before .before .before .before .before .before .before .before .if1 .left)) (c .before .before .before .before .before .before .before .before .write .ensures)
+returns-2 c =
+    let done = c .before .before .before .before .before .before .before .before in (
+      does-cond-false _ _ _ (ne-eqb _ _ (done .before .before .before .before .before .before .before .before .if1 .left)) (done .write .ensures .0),
+      record { counted = done .write .ensures .1 .0; filtered = done .write .ensures .1 .1 },
+    )
 
 pub serve-request-spec : {M : Type 1} → statement M
 serve-request-spec =

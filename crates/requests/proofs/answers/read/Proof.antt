@@ -4,20 +4,23 @@ use borrow.Author.Needs.{needs}
 use Rattle.scope.specs.Lent.{decode}
 use Rattle.lent.specs.Model.{geometry}
 use Rattle.requests.specs.Answering.{read-begins, translated-lies, place-ready, read-does}
+use Rattle.requests.specs.Filtered.{filter-still, read-place-keeps-used}
 use Rattle.requests.proofs.answers.read.Statement.{statement}
 use Rattle.requests.proofs.answers.read.Tie as tie
 
 translate-requires : tie.Need-translate-requires
-translate-requires c κs = read-begins (c .before .before .before .before .before .before .before .before .before .pre .0)
+translate-requires c κs =
+    let start = c .before .before .before .before .before .before .before .before .before .before .before .before in
+    (read-begins (start .pre .0 .0), start .pre .1)
 
 cast-physical : tie.Need-cast-physical
 cast-physical c = search needs
 
 physical-requires : tie.Need-physical-requires
 physical-requires c κs =
-    let translated = c .before .before .before .before .before .before .before .before .before .before .before in
-    translated-lies (translated .before .before .before .before .before .before .before .before .before .before .pre .0)
-    (translated .translate .ensures)
+    let translated = c .before .before .before .before .before .before .before .before .before .before .before .before .before in
+    let start = translated .before .before .before .before .before .before .before .before .before .before .before .before .before in
+    translated-lies (start .pre .0 .0) (translated .translate .ensures .0)
 
 decode-requires : tie.Need-decode-requires
 decode-requires c κs = search needs
@@ -25,10 +28,10 @@ decode-requires c κs = search needs
 read-place-requires : tie.Need-read-place-requires
 read-place-requires c κs =
     let seen = c .before .before .before in
-    let translated = seen .before .before .before .before .before .before .before .before .before .before .before .before in
-    let start = translated .before .before .before .before .before .before .before .before .before .before in
-    place-ready (start .pre .0) (translated .translate .ensures) (c .before .before .decode .ensures ∙ ap decode (seen .physical .ensures))
-    (start .pre .1)
+    let translated = seen .before .before .before .before .before .before .before .before .before .before .before .before .before .before in
+    let start = translated .before .before .before .before .before .before .before .before .before .before .before .before .before in
+    place-ready (start .pre .0 .0) (translated .translate .ensures .0) (c .before .before .decode .ensures ∙ ap decode (seen .physical .ensures))
+    (start .pre .0 .1)
 
 same-length : tie.Need-same-length
 same-length c = search needs
@@ -45,14 +48,22 @@ same-length-4 c = search needs
 same-length-5 : tie.Need-same-length-5
 same-length-5 c = search needs
 
+same-length-6 : tie.Need-same-length-6
+same-length-6 c = search needs
+
 returns : tie.Need-returns
 returns c =
     let seen = c .before .before .before .before .before .before in
-    let translated = seen .before .before .before .before .before .before .before .before .before .before .before .before in
-    let a = translated .before .before .before .before .before .before .before .before .before .before .args in
-    read-does (geometry (a .g)) (a .l) (a .buffer .now) (translated .translate .ensures)
-    (ap decode (sym (seen .physical .ensures)) ∙ sym (c .before .before .before .before .before .decode .ensures))
-    (c .before .before .read-place .ensures _ _ _)
+    let translated = seen .before .before .before .before .before .before .before .before .before .before .before .before .before .before in
+    let a = translated .before .before .before .before .before .before .before .before .before .before .before .before .before .args in
+    let is-place = ap decode (sym (seen .physical .ensures)) ∙ sym (c .before .before .before .before .before .decode .ensures) in
+    let reads = c .before .before .read-place .ensures in (
+      read-does (geometry (a .g)) (a .l) (a .buffer .now) (translated .translate .ensures .0) is-place (reads _ _ _),
+      (
+        translated .translate .ensures .1 .0,
+        filter-still (read-place-keeps-used (geometry (a .g)) (a .buffer .now) _ reads) (translated .translate .ensures .1 .1),
+      ),
+    )
 
 pub read-spec : {M : Type 1} → statement M
 read-spec =
@@ -68,4 +79,5 @@ read-spec =
     same-length-3
     same-length-4
     same-length-5
+    same-length-6
     returns)

@@ -1,10 +1,12 @@
 -- `requests::translation::drop_entry` meets its contract: the write-back leaves the cache and the number of used entries as they were.
-use Prim.Native.Nat.{_-_}
-use mathlib.Core.Path.{refl}
+use Prim.Native.Nat.{ℕ, _-_}
+use mathlib.Core.Path.{refl, sym, subst}
 use native.Mathlib.Omega.{arith}
 use borrow.Author.Needs.{needs}
+use Rattle.scope.specs.Sound.{Entries-fit}
 use Rattle.lent.specs.Model.{geometry}
 use Rattle.requests.specs.Translating.{written-keeps-used, drop-entry-does}
+use Rattle.requests.specs.Filtered.{filter-still}
 use Rattle.requests.proofs.translation.drop_entry.Statement.{statement}
 use Rattle.requests.proofs.translation.drop_entry.Tie as tie
 
@@ -16,17 +18,21 @@ cast-i c = search needs
 
 write-back-if-changed-requires : tie.Need-write-back-if-changed-requires
 write-back-if-changed-requires c κs =
-    let (ready, some) = c .before .before .before .before .before .before .before .before .before .pre in
-    (ready, omega (arith, some))
+    let start = c .before .before .before .before .before .before .before .before .before .before .before in
+    ((start .pre .0 .0, omega (arith, start .pre .0 .1)), start .pre .1 .0)
 
 forget-requires : tie.Need-forget-requires
 forget-requires c κs =
-    let written = c .before .before .before .before .before .before .before in
-    let start = written .before .before .before .before .before .before .before .before .before .before in
-    let ready = start .pre .0 in
-    let used = written-keeps-used ready (start .args .work .rec .used - 1) (omega (arith, start .pre .1))
-    (written .write-back-if-changed .ensures) in
-    (omega (arith, start .pre .1, ready .sound .rule-5 .at-most, ready .lengths .cache-fits), omega (arith, start .pre .1))
+    let written = c .before .before .before .before .before .before .before .before .before .before in
+    let start = written .before .before .before .before .before .before .before .before .before .before .before .before in
+    let (ready, some) = start .pre .0 in
+    let used = written-keeps-used ready (start .args .work .rec .used - 1) (omega (arith, some)) (written .write-back-if-changed .ensures .0) in (
+      (omega (arith, some, ready .sound .rule-5 .at-most, ready .lengths .cache-fits), omega (arith, some, used)),
+      (
+        (ready .accepted, subst (λ (n : ℕ). Entries-fit (geometry (start .args .g)) (start .args .cache .now) n) (sym used) (ready .sound .rule-5)),
+        filter-still used (start .pre .1 .1),
+      ),
+    )
 
 same-length : tie.Need-same-length
 same-length c = search needs
@@ -40,12 +46,16 @@ same-length-3 c = search needs
 same-length-4 : tie.Need-same-length-4
 same-length-4 c = search needs
 
+same-length-5 : tie.Need-same-length-5
+same-length-5 c = search needs
+
 returns : tie.Need-returns
 returns c =
-    let written = c .before .before .before .before .before .before .before .before .before .before in
-    drop-entry-does
-    (geometry (written .before .before .before .before .before .before .before .before .before .before .args .g)) _ refl refl
-    (written .write-back-if-changed .ensures) (c .before .before .forget .ensures _ _ _)
+    let written = c .before .before .before .before .before .before .before .before .before .before .before .before .before in
+    let g = geometry (written .before .before .before .before .before .before .before .before .before .before .before .before .args .g) in (
+      drop-entry-does g _ refl refl (written .write-back-if-changed .ensures .0) (c .before .before .forget .ensures .0 _ _ _),
+      (written .write-back-if-changed .ensures .1, c .before .before .forget .ensures .1),
+    )
 
 pub drop-entry-spec : {M : Type 1} → statement M
 drop-entry-spec =
@@ -59,4 +69,5 @@ drop-entry-spec =
     same-length-2
     same-length-3
     same-length-4
+    same-length-5
     returns)

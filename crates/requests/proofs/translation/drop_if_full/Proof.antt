@@ -7,13 +7,16 @@ use Rattle.requests.proofs.translation.drop_if_full.Statement.{statemen
 use Rattle.requests.proofs.translation.drop_if_full.Tie as tie
 
 returns : tie.Need-returns
-returns c = drop-none-does (geometry (c .before .before .before .before .before .before .before .args .g)) (c .if1 .taken)
+returns c =
+    let start = c .before .before .before .before .before .before .before .before in
+    (drop-none-does (geometry (start .args .g)) (c .if1 .taken), start .pre .1)
 
 drop-entry-requires : tie.Need-drop-entry-requires
 drop-entry-requires c κs =
-    let tested = c .before .before .before .before in
-    let ready = tested .before .before .before .before .before .before .before .pre in
-    (ready, omega (arith, tested .if1 .left, ready .accepted .C-from))
+    let tested = c .before .before .before .before .before .before in
+    let start = tested .before .before .before .before .before .before .before .before in
+    let ready = start .pre .0 in
+    ((ready, omega (arith, tested .if1 .left, ready .accepted .C-from)), start .pre .1)
 
 same-length : tie.Need-same-length
 same-length c = search needs
@@ -27,12 +30,15 @@ same-length-3 c = search needs
 same-length-4 : tie.Need-same-length-4
 same-length-4 c = search needs
 
+same-length-5 : tie.Need-same-length-5
+same-length-5 c = search needs
+
 returns-2 : tie.Need-returns-2
 returns-2 c =
-    let dropped = c .before .before .before .before .before .before .before .before in
-    let tested = dropped .before .before .before .before .before in
-    drop-last-does (geometry (tested .before .before .before .before .before .before .before .args .g)) (tested .if1 .left)
-    (dropped .drop-entry .ensures)
+    let dropped = c .before .before .before .before .before .before .before .before .before .before in
+    let tested = dropped .before .before .before .before .before .before .before in
+    let g = geometry (tested .before .before .before .before .before .before .before .before .args .g) in
+    (drop-last-does g (tested .if1 .left) (dropped .drop-entry .ensures .0), dropped .drop-entry .ensures .1)
 
 pub drop-if-full-spec : {M : Type 1} → statement M
 drop-if-full-spec =
@@ -44,4 +50,5 @@ drop-if-full-spec =
     same-length-2
     same-length-3
     same-length-4
+    same-length-5
     returns-2)

@@ -5,6 +5,7 @@ use borrow.Author.Needs.{needs}
 use Rattle.promises.specs.Index.{page-below}
 use Rattle.lent.specs.Model.{geometry}
 use Rattle.requests.specs.Translating.{fetch-does, read-keeps-used}
+use Rattle.requests.specs.Filtered.{filter-still}
 use Rattle.requests.proofs.translation.fetch.Statement.{statement}
 use Rattle.requests.proofs.translation.fetch.Tie as tie
 
@@ -14,11 +15,11 @@ div-named c = search needs
 named-requires : tie.Need-named-requires
 named-requires c κs =
     let start = c .before .before .before .before in
-    omega (arith, page-below (start .pre .accepted) (start .args .l) (start .pre .below), start .pre .directory-fits)
+    omega (arith, page-below (start .pre .0 .accepted) (start .args .l) (start .pre .0 .below), start .pre .0 .directory-fits)
 
 word-for-requires : tie.Need-word-for-requires
 word-for-requires c κs =
-    let ready = c .before .before .before .before .before .pre in (
+    let ready = c .before .before .before .before .before .pre .0 in (
       record { accepted = ready .accepted; chip-fits = ready .chip-fits },
       λ q e. ready .on-chip q (sym (c .named .ensures) ∙ e),
       ready .countable,
@@ -26,22 +27,33 @@ word-for-requires c κs =
 
 enter-requires : tie.Need-enter-requires
 enter-requires c κs =
-    let start = c .before .before .before .before .before .before .before .before in
-    let used = read-keeps-used (geometry (start .args .g)) (start .args .l) _ (c .before .before .word-for .ensures) in
-    (omega (arith, start .pre .cache-fits, start .pre .room), omega (arith, start .pre .room, start .pre .accepted .C-to))
+    let start = c .before .before .before .before .before .before .before .before .before in
+    let used = read-keeps-used (geometry (start .args .g)) (start .args .l) _ (c .before .before .before .word-for .ensures) in
+    let ready = start .pre .0 in (
+      (omega (arith, used, ready .cache-fits, ready .room), omega (arith, used, ready .room, ready .accepted .C-to)),
+      filter-still used (start .pre .1),
+    )
 
 same-length : tie.Need-same-length
 same-length c = search needs
 
 returns : tie.Need-returns
-returns c spare =
-    let word = c .before .before .before .before .before in
-    let a = word .before .before .before .before .before .before .args in
-    fetch-does (geometry (a .g)) (a .l) (sym (word .before .named .ensures))
-    (word .word-for .ensures spare (a .directory .now) (a .cache .now))
-    (c .before .before .enter .ensures (a .chip .now) spare (a .directory .now))
+returns c =
+    let word = c .before .before .before .before .before .before in
+    let a = word .before .before .before .before .before .before .args in (
+      λ spare. fetch-does (geometry (a .g)) (a .l) (sym (word .before .named .ensures))
+          (word .word-for .ensures spare (a .directory .now) (a .cache .now))
+          (c .before .before .enter .ensures .0 (a .chip .now) spare (a .directory .now)),
+      c .before .before .enter .ensures .1,
+    )
 
 pub fetch-spec : {M : Type 1} → statement M
 fetch-spec =
     tie.close
-    (tie.spec div-named named-requires word-for-requires enter-requires same-length returns)
+    (tie.spec
+    div-named
+    named-requires
+    word-for-requires
+    enter-requires
+    same-length
+    returns)

@@ -4,49 +4,61 @@ use borrow.Author.Needs.{needs}
 use Rattle.lent.specs.Model.{geometry}
 use Rattle.update.specs.Index.{less-room}
 use Rattle.requests.specs.Translating.{hit-does, miss-does, fetch-ready}
+use Rattle.requests.specs.Filtered.{found-in-use, touched-filter}
 use Rattle.requests.proofs.translation.translate.Statement.{statement}
 use Rattle.requests.proofs.translation.translate.Tie as tie
 
 rank-of-requires : tie.Need-rank-of-requires
 rank-of-requires c κs =
-    let ready = c .before .before .before .before .before .before .pre .ready in
-    record { cache-fits = ready .lengths .cache-fits; used-to = ready .sound .rule-5 .at-most }
+    let start = c .before .before .before .before .before .before .before .before in
+    let ready = start .pre .0 .ready in
+    (record { cache-fits = ready .lengths .cache-fits; used-to = ready .sound .rule-5 .at-most }, start .pre .1 .1)
 
 cast-if1 : tie.Need-cast-if1
 cast-if1 c = search needs
 
 touch-requires : tie.Need-touch-requires
 touch-requires c κs =
-    omega
-    (arith, c .before .if1 .taken, c .before .before .before .before .before .before .before .before .before .before .pre .ready .lengths .cache-fits)
+    let ready = c .before .before .before .before .before .before .before .before .before .before .before .before .pre .0 .ready in
+    omega (arith, c .before .if1 .taken, ready .lengths .cache-fits)
 
 same-length : tie.Need-same-length
 same-length c = search needs
 
 returns : tie.Need-returns
 returns c =
-    let found = c .before .before .before .before .before .before in
-    let a = found .before .before .before .before .before .before .before .args in
-    hit-does (geometry (a .g)) (a .l) (found .rank-of .ensures .1) (c .before .before .before .before .if1 .taken)
-    (c .before .before .touch .ensures (a .work) _ _ _)
+    let tested = c .before .before .before .before in
+    let found = tested .before .before in
+    let start = found .before .before .before .before .before .before .before .before .before in
+    let a = start .args in (
+      hit-does (geometry (a .g)) (a .l) (found .rank-of .ensures .1) (tested .if1 .taken) (c .before .before .touch .ensures (a .work) _ _ _),
+      (
+        start .pre .1 .0,
+        touched-filter (start .pre .1 .1)
+            (found-in-use (geometry (a .g)) (a .cache .now) (a .work .rec .used) (a .l) (found .rank-of .ensures .1) (tested .if1 .taken))
+            (c .before .before .touch .ensures (a .work)),
+      ),
+    )
 
 drop-if-full-requires : tie.Need-drop-if-full-requires
 drop-if-full-requires c κs =
-    let ready = c .before .before .before .before .before .before .before .before .before .before .before .before .before .pre .ready in
-    record {
-      accepted = ready .accepted;
-      lengths = ready .lengths;
-      sound = ready .sound;
-      countable = less-room (omega arith) (ready .countable);
-    }
+    let start = c .before .before .before .before .before .before .before .before .before .before .before .before .before .before .before .before .before in
+    let ready = start .pre .0 .ready in (
+      record {
+        accepted = ready .accepted;
+        lengths = ready .lengths;
+        sound = ready .sound;
+        countable = less-room (omega arith) (ready .countable);
+      },
+      start .pre .1,
+    )
 
 fetch-requires : tie.Need-fetch-requires
 fetch-requires c κs =
-    let freed = c .before .before .before .before .before .before .before .before .before .before .before in
-    fetch-ready
-    (freed .before .before .before .before .before .before .before .before .before .before .before .before .before .before .args .l)
-    (freed .before .before .before .before .before .before .before .before .before .before .before .before .before .before .pre)
-    (freed .drop-if-full .ensures)
+    let freed = c .before .before .before .before .before .before .before .before .before .before .before .before .before .before in
+    let found = freed .before .before .before .before .before .before .before .before .before in
+    let start = found .before .before .before .before .before .before .before .before .before in
+    (fetch-ready (start .args .l) (start .pre .0) (freed .drop-if-full .ensures .0), freed .drop-if-full .ensures .1 .1)
 
 same-length-2 : tie.Need-same-length-2
 same-length-2 c = search needs
@@ -60,13 +72,19 @@ same-length-4 c = search needs
 same-length-5 : tie.Need-same-length-5
 same-length-5 c = search needs
 
+same-length-6 : tie.Need-same-length-6
+same-length-6 c = search needs
+
 returns-2 : tie.Need-returns-2
 returns-2 c =
-    let freed = c .before .before .before .before .before .before .before .before .before .before .before .before .before .before in
-    let missed = freed .before .before .before .before .before .before .before in
-    let a = missed .before .before .before .before .before .before .before .args in
-    miss-does (geometry (a .g)) (a .l) (missed .rank-of .ensures .1) (freed .before .before .before .before .before .if1 .left)
-    (freed .drop-if-full .ensures) (c .before .before .fetch .ensures _)
+    let freed = c .before .before .before .before .before .before .before .before .before .before .before .before .before .before .before .before .before in
+    let tested = freed .before .before .before .before .before .before .before in
+    let missed = tested .before .before in
+    let a = missed .before .before .before .before .before .before .before .before .before .args in (
+      miss-does (geometry (a .g)) (a .l) (missed .rank-of .ensures .1) (tested .if1 .left) (freed .drop-if-full .ensures .0)
+          (c .before .before .fetch .ensures .0 _),
+      (freed .drop-if-full .ensures .1 .0, c .before .before .fetch .ensures .1),
+    )
 
 pub translate-spec : {M : Type 1} → statement M
 translate-spec =
@@ -83,4 +101,5 @@ translate-spec =
     same-length-3
     same-length-4
     same-length-5
+    same-length-6
     returns-2)

@@ -1,7 +1,8 @@
--- `steps::blocks::erased_blocks` meets its contract: the first pages tell which blocks are wholly erased.
+-- `steps::blocks::erased_blocks` meets its contract: the erased blocks have the number of P erased pages.
 use native.Mathlib.Omega.{arith}
 use borrow.Author.Needs.{needs}
-use Rattle.steps.specs.Whole.{region-lies, erased-counted}
+use Rattle.lent.specs.Model.{region}
+use Rattle.steps.specs.Census.{numbers-lie, blocks-few, erased-counted}
 use Rattle.steps.proofs.blocks.erased_blocks.Statement.{statement}
 use Rattle.steps.proofs.blocks.erased_blocks.Tie as tie
 
@@ -17,27 +18,17 @@ region-blocks-requires c κs = search needs
 cast-n : tie.Need-cast-n
 cast-n c = search needs
 
-cast-p : tie.Need-cast-p
-cast-p c = search needs
+mul-count-equal : tie.Need-mul-count-equal
+mul-count-equal c = omega (arith, c .before .before .before .before .before .pre .0 .P-to)
 
-erased-among-requires : tie.Need-erased-among-requires
-erased-among-requires c κs =
-    let after = c .before in
-    let start = after .before .before .before in
-    omega (arith, region-lies (start .pre) (after .before .first-block .ensures) (after .region-blocks .ensures))
+count-equal-requires : tie.Need-count-equal-requires
+count-equal-requires c κs = numbers-lie (c .before .before .before .before .before .pre .0) (c .before .before .before .before .before .pre .1) (region (c .before .before .before .before .before .args .r)) (c .before .before .first-block .ensures) (c .before .region-blocks .ensures)
 
 cast-result : tie.Need-cast-result
-cast-result c =
-    let after = c .before .before in
-    let start = after .before .before .before in
-    omega (arith, region-lies (start .pre) (after .before .first-block .ensures) (after .region-blocks .ensures))
+cast-result c = omega (arith, blocks-few (c .before .before .before .before .before .before .pre .0) (c .before .before .before .before .before .before .pre .1) (region (c .before .before .before .before .before .before .args .r)) (c .before .before .before .first-block .ensures) (c .before .before .region-blocks .ensures), c .before .before .before .before .before .before .pre .0 .P-to)
 
 returns : tie.Need-returns
-returns c =
-    let after = c .before .before in
-    let start = after .before .before .before in
-    λ s lent. erased-counted (start .pre) (after .before .first-block .ensures) (after .region-blocks .ensures) s lent
-    (c .erased-among .ensures .1)
+returns c = λ s lent. erased-counted (c .before .before .before .before .before .before .pre .0) (c .before .before .before .before .before .before .pre .1) (region (c .before .before .before .before .before .before .args .r)) (c .before .before .before .first-block .ensures) (c .before .before .region-blocks .ensures) s lent (c .count-equal .ensures .1)
 
 pub erased-blocks-spec : {M : Type 1} → statement M
 erased-blocks-spec =
@@ -47,7 +38,7 @@ erased-blocks-spec =
     cast-first
     region-blocks-requires
     cast-n
-    cast-p
-    erased-among-requires
+    mul-count-equal
+    count-equal-requires
     cast-result
     returns)

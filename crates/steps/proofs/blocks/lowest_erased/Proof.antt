@@ -1,7 +1,8 @@
--- `steps::blocks::lowest_erased` meets its contract: the first pages tell which blocks are wholly erased.
+-- `steps::blocks::lowest_erased` meets its contract: the erased blocks have the number of P erased pages.
 use native.Mathlib.Omega.{arith}
 use borrow.Author.Needs.{needs}
-use Rattle.steps.specs.Whole.{region-lies, lowest-found}
+use Rattle.lent.specs.Model.{region}
+use Rattle.steps.specs.Census.{numbers-lie, blocks-few, lowest-found}
 use Rattle.steps.proofs.blocks.lowest_erased.Statement.{statement}
 use Rattle.steps.proofs.blocks.lowest_erased.Tie as tie
 
@@ -17,33 +18,20 @@ region-blocks-requires c κs = search needs
 cast-n : tie.Need-cast-n
 cast-n c = search needs
 
-cast-p : tie.Need-cast-p
-cast-p c = search needs
+mul-lowest-equal : tie.Need-mul-lowest-equal
+mul-lowest-equal c = omega (arith, c .before .before .before .before .before .pre .0 .P-to)
 
-lowest-erased-among-requires : tie.Need-lowest-erased-among-requires
-lowest-erased-among-requires c κs =
-    let after = c .before in
-    let start = after .before .before .before in
-    omega (arith, region-lies (start .pre) (after .before .first-block .ensures) (after .region-blocks .ensures))
+lowest-equal-requires : tie.Need-lowest-equal-requires
+lowest-equal-requires c κs = numbers-lie (c .before .before .before .before .before .pre .0) (c .before .before .before .before .before .pre .1) (region (c .before .before .before .before .before .args .r)) (c .before .before .first-block .ensures) (c .before .region-blocks .ensures)
 
 add-result : tie.Need-add-result
-add-result c =
-    let after = c .before .before in
-    let start = after .before .before .before in
-    omega (arith, region-lies (start .pre) (after .before .first-block .ensures) (after .region-blocks .ensures))
+add-result c = omega (arith, blocks-few (c .before .before .before .before .before .before .pre .0) (c .before .before .before .before .before .before .pre .1) (region (c .before .before .before .before .before .before .args .r)) (c .before .before .before .first-block .ensures) (c .before .before .region-blocks .ensures), c .before .before .before .before .before .before .pre .0 .P-to)
 
 cast-result : tie.Need-cast-result
-cast-result c =
-    let after = c .before .before in
-    let start = after .before .before .before in
-    omega (arith, region-lies (start .pre) (after .before .first-block .ensures) (after .region-blocks .ensures))
+cast-result c = omega (arith, blocks-few (c .before .before .before .before .before .before .pre .0) (c .before .before .before .before .before .before .pre .1) (region (c .before .before .before .before .before .before .args .r)) (c .before .before .before .first-block .ensures) (c .before .before .region-blocks .ensures), c .before .before .before .before .before .before .pre .0 .P-to)
 
 returns : tie.Need-returns
-returns c =
-    let after = c .before .before in
-    let start = after .before .before .before in
-    λ s lent. lowest-found (start .pre) (after .before .first-block .ensures) (after .region-blocks .ensures) s lent
-    (c .lowest-erased-among .ensures .1)
+returns c = λ s lent. lowest-found (c .before .before .before .before .before .before .pre .0) (c .before .before .before .before .before .before .pre .1) (region (c .before .before .before .before .before .before .args .r)) (c .before .before .before .first-block .ensures) (c .before .before .region-blocks .ensures) s lent (c .lowest-equal .ensures .1)
 
 pub lowest-erased-spec : {M : Type 1} → statement M
 lowest-erased-spec =
@@ -53,8 +41,8 @@ lowest-erased-spec =
     cast-first
     region-blocks-requires
     cast-n
-    cast-p
-    lowest-erased-among-requires
+    mul-lowest-equal
+    lowest-equal-requires
     add-result
     cast-result
     returns)

@@ -15,7 +15,7 @@ with-open-requires c κs = search needs
 returns : tie.Need-returns
 returns c =
     let found = c .before .before .before in
-    let a = found .before .before .args in
+    let a = found .before .before .before .args in
     λ chip directory cache. open-does (geometry (a .g)) (region (a .r))
     (found .lowest-erased .ensures (state chip (a .spare .now) directory cache (a .work .rec)) refl) (c .with-open .ensures)
 

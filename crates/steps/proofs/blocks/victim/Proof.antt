@@ -1,7 +1,8 @@
--- `steps::blocks::victim` meets its contract: the first pages tell which blocks are full.
+-- `steps::blocks::victim` meets its contract: a block with no erased page has a number below that of one.
 use native.Mathlib.Omega.{arith}
 use borrow.Author.Needs.{needs}
-use Rattle.steps.specs.Whole.{region-lies, victim-found}
+use Rattle.lent.specs.Model.{region}
+use Rattle.steps.specs.Census.{numbers-lie, blocks-few, victim-found}
 use Rattle.steps.proofs.blocks.victim.Statement.{statement}
 use Rattle.steps.proofs.blocks.victim.Tie as tie
 
@@ -17,33 +18,17 @@ region-blocks-requires c κs = search needs
 cast-n : tie.Need-cast-n
 cast-n c = search needs
 
-cast-p : tie.Need-cast-p
-cast-p c = search needs
-
-fewest-valid-among-requires : tie.Need-fewest-valid-among-requires
-fewest-valid-among-requires c κs =
-    let after = c .before in
-    let start = after .before .before .before in
-    omega (arith, region-lies (start .pre) (after .before .first-block .ensures) (after .region-blocks .ensures))
+fewest-below-requires : tie.Need-fewest-below-requires
+fewest-below-requires c κs = numbers-lie (c .before .before .before .before .pre .0) (c .before .before .before .before .pre .1) (region (c .before .before .before .before .args .r)) (c .before .first-block .ensures) (c .region-blocks .ensures)
 
 add-result : tie.Need-add-result
-add-result c =
-    let after = c .before .before in
-    let start = after .before .before .before in
-    omega (arith, region-lies (start .pre) (after .before .first-block .ensures) (after .region-blocks .ensures))
+add-result c = omega (arith, blocks-few (c .before .before .before .before .before .pre .0) (c .before .before .before .before .before .pre .1) (region (c .before .before .before .before .before .args .r)) (c .before .before .first-block .ensures) (c .before .region-blocks .ensures), c .before .before .before .before .before .pre .0 .P-to)
 
 cast-result : tie.Need-cast-result
-cast-result c =
-    let after = c .before .before in
-    let start = after .before .before .before in
-    omega (arith, region-lies (start .pre) (after .before .first-block .ensures) (after .region-blocks .ensures))
+cast-result c = omega (arith, blocks-few (c .before .before .before .before .before .pre .0) (c .before .before .before .before .before .pre .1) (region (c .before .before .before .before .before .args .r)) (c .before .before .first-block .ensures) (c .before .region-blocks .ensures), c .before .before .before .before .before .pre .0 .P-to)
 
 returns : tie.Need-returns
-returns c =
-    let after = c .before .before in
-    let start = after .before .before .before in
-    λ s lent. victim-found (start .pre) (after .before .first-block .ensures) (after .region-blocks .ensures) s lent
-    (c .fewest-valid-among .ensures .1)
+returns c = λ s lent. victim-found (c .before .before .before .before .before .pre .0) (c .before .before .before .before .before .pre .1) (region (c .before .before .before .before .before .args .r)) (c .before .before .first-block .ensures) (c .before .region-blocks .ensures) s lent (c .fewest-below .ensures .1)
 
 pub victim-spec : {M : Type 1} → statement M
 victim-spec =
@@ -53,8 +38,7 @@ victim-spec =
     cast-first
     region-blocks-requires
     cast-n
-    cast-p
-    fewest-valid-among-requires
+    fewest-below-requires
     add-result
     cast-result
     returns)

@@ -1,5 +1,5 @@
 -- `steps::chip::mark_old` meets its contract, for a place and for none.
-use mathlib.Core.Path.{sym, ap, _∙_}
+use mathlib.Core.Path.{refl, sym, ap, _∙_}
 use borrow.Author.Needs.{needs}
 use Rattle.lent.specs.Model.{entry}
 use Rattle.steps.specs.Chip.{marked}
@@ -14,21 +14,24 @@ enum-told : tie.Need-enum-told
 enum-told c = search needs
 
 returns : tie.Need-returns
-returns c = search needs
+returns c = (search needs, c .before .before .before .before .pre .1)
 
 mark-requires : tie.Need-mark-requires
-mark-requires c κs = c .before .before .before .before .before .pre _ (ap entry (c .before .before .old .given .1))
+mark-requires c κs = ((c .before .before .before .before .before .before .before .pre .0 .0, c .before .before .before .before .before .before .before .pre .0 .1 _ (ap entry (c .before .before .before .old .given .1))), c .before .before .before .before .before .before .before .pre .1)
 
 same-length : tie.Need-same-length
 same-length c = search needs
 
+same-length-2 : tie.Need-same-length-2
+same-length-2 c = search needs
+
 returns-2 : tie.Need-returns-2
-returns-2 c =
-    let former = c .before .before .before .before .before in
-    let start = former .before .before .before in
-    c .before .before .mark .ensures
-    ∙ sym (ap (λ (e : Entry). marked (entry e) (start .args .spare .now)) (former .old .given .1))
+returns-2 c = (
+  c .before .before .before .before .mark .ensures .0 ∙ sym (ap (λ (e : Entry). marked (entry e) (c .before .before .before .before .before .before .before .before .before .before .before .before .args .spare .now)) (c .before .before .before .before .before .before .before .before .old .given .1)),
+  c .before .before .before .before .mark .ensures .1,
+)
 
 pub mark-old-spec : {M : Type 1} → statement M
 mark-old-spec =
-    tie.close (tie.spec enum-known-old enum-told returns mark-requires same-length returns-2)
+    tie.close
+    (tie.spec enum-known-old enum-told returns mark-requires same-length same-length-2 returns-2)

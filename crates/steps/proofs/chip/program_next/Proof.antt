@@ -10,25 +10,19 @@ cast-w : tie.Need-cast-w
 cast-w c = search needs
 
 next-page-requires : tie.Need-next-page-requires
-next-page-requires c κs =
-    let start = c .before .before .before .before .before in
-    (start .pre .0 .0 .accepted, start .pre .1 .0)
+next-page-requires c κs = (c .before .before .before .before .before .before .pre .0 .0 .accepted, c .before .before .before .before .before .before .pre .1 .0 .0)
 
 cast-q : tie.Need-cast-q
 cast-q c = search needs
 
 mul-copy-in : tie.Need-mul-copy-in
-mul-copy-in c =
-    let start = c .before .before .before .before .before .before .before in
-    omega (arith, next-words-lie (start .pre .1 .0) (c .before .next-page .ensures) (start .pre .0 .0))
+mul-copy-in c = omega (arith, next-words-lie (c .before .before .before .before .before .before .before .before .pre .1 .0 .0) (c .before .next-page .ensures) (c .before .before .before .before .before .before .before .before .pre .0 .0))
 
 copy-in-requires : tie.Need-copy-in-requires
-copy-in-requires c κs =
-    let start = c .before .before .before .before .before .before .before in
-    omega (arith, next-words-lie (start .pre .1 .0) (c .before .next-page .ensures) (start .pre .0 .0))
+copy-in-requires c κs = omega (arith, next-words-lie (c .before .before .before .before .before .before .before .before .pre .1 .0 .0) (c .before .next-page .ensures) (c .before .before .before .before .before .before .before .before .pre .0 .0), c .before .before .before .before .before .before .before .before .pre .0 .2)
 
 claim-next-requires : tie.Need-claim-next-requires
-claim-next-requires c κs = search needs
+claim-next-requires c κs = ((c .before .before .before .before .before .before .before .before .before .before .before .before .before .pre .0 .1, c .before .before .before .before .before .before .before .before .before .before .before .before .before .pre .1 .0 .0, c .before .before .before .before .before .before .before .before .before .before .before .before .before .pre .1 .0 .1), c .before .before .before .before .before .before .before .before .before .before .before .before .before .pre .1 .1)
 
 same-length : tie.Need-same-length
 same-length c = search needs
@@ -36,13 +30,11 @@ same-length c = search needs
 same-length-2 : tie.Need-same-length-2
 same-length-2 c = search needs
 
+same-length-3 : tie.Need-same-length-3
+same-length-3 c = search needs
+
 returns : tie.Need-returns
-returns c =
-    let claims = c .before .before in
-    let copies = claims .before .before .before .before in
-    let next = copies .before .before in
-    let start = next .before .before .before .before .before .before in
-    program-does (start .args .words .now) (next .next-page .ensures) (copies .copy-in .ensures) (claims .claim-next .ensures)
+returns c = (program-does (c .before .before .before .before .before .before .before .before .before .before .before .before .before .before .before .before .before .before .args .words .now) (c .before .before .before .before .before .before .before .before .before .before .before .next-page .ensures) (c .before .before .before .before .before .before .before .before .before .copy-in .ensures) (c .before .before .before .before .claim-next .ensures .0), c .before .before .before .before .claim-next .ensures .1)
 
 pub program-next-spec : {M : Type 1} → statement M
 program-next-spec =
@@ -56,4 +48,5 @@ program-next-spec =
     claim-next-requires
     same-length
     same-length-2
+    same-length-3
     returns)

@@ -2,7 +2,7 @@
 use Prim.Native.Nat.{_+_, _*_}
 use native.Mathlib.Omega.{arith}
 use borrow.Author.Needs.{needs}
-use Rattle.steps.specs.Lies.{next-same, next-words-lie, words-lie, spare-lies, pages-apart}
+use Rattle.steps.specs.Lies.{spare-still, next-same, next-words-lie, words-lie, spare-lies, pages-apart}
 use Rattle.steps.specs.Chip.{relocate-does}
 use Rattle.lent.specs.Shapes.{room-after-read}
 use Rattle.words.specs.Runs.{getD-any}
@@ -13,28 +13,22 @@ cast-w : tie.Need-cast-w
 cast-w c = search needs
 
 next-page-requires : tie.Need-next-page-requires
-next-page-requires c κs = (c .before .before .before .before .pre .0 .0 .accepted, c .before .before .before .before .pre .1 .0)
+next-page-requires c κs = (c .before .before .before .before .before .pre .0 .0 .accepted, c .before .before .before .before .before .pre .1 .0 .0)
 
 cast-q : tie.Need-cast-q
 cast-q c = search needs
 
 mul-copy-within : tie.Need-mul-copy-within
-mul-copy-within c =
-    let start = c .before .before .before .before .before .before in
-    omega (arith, words-lie (start .pre .0 .0) (start .args .p) (start .pre .0 .2))
+mul-copy-within c = omega (arith, words-lie (c .before .before .before .before .before .before .before .pre .0 .0) (c .before .before .before .before .before .before .before .args .p) (c .before .before .before .before .before .before .before .pre .0 .2))
 
 mul-copy-within-2 : tie.Need-mul-copy-within-2
-mul-copy-within-2 c =
-    let start = c .before .before .before .before .before .before in
-    omega (arith, next-words-lie (start .pre .1 .0) (c .before .next-page .ensures) (start .pre .0 .0))
+mul-copy-within-2 c = omega (arith, next-words-lie (c .before .before .before .before .before .before .before .pre .1 .0 .0) (c .before .next-page .ensures) (c .before .before .before .before .before .before .before .pre .0 .0))
 
 copy-within-requires : tie.Need-copy-within-requires
 copy-within-requires c κs =
-    let start = c .before .before .before .before .before .before in
-    let a = start .args in
-    let from = words-lie (start .pre .0 .0) (a .p) (start .pre .0 .2) in
-    let to = next-words-lie (start .pre .1 .0) (c .before .next-page .ensures) (start .pre .0 .0) in
-    ((from .words, to .words), pages-apart (a .g .w) (a .p) (c .before .next-page .result))
+    let from = words-lie (c .before .before .before .before .before .before .before .pre .0 .0) (c .before .before .before .before .before .before .before .args .p) (c .before .before .before .before .before .before .before .pre .0 .2) in
+    let to = next-words-lie (c .before .before .before .before .before .before .before .pre .1 .0 .0) (c .before .next-page .ensures) (c .before .before .before .before .before .before .before .pre .0 .0) in
+    ((from .words, to .words), pages-apart (c .before .before .before .before .before .before .before .args .g .w) (c .before .before .before .before .before .before .before .args .p) (c .before .next-page .result))
 
 mul-owner : tie.Need-mul-owner
 mul-owner c = search needs
@@ -53,15 +47,11 @@ count-read-requires c κs = search needs
 
 claim-next-requires : tie.Need-claim-next-requires
 claim-next-requires c κs =
-    let start = c .before .before .before .before .before .before .before .before .before .before .before .before in
-    let read = c .before .count-read .ensures in
-    (start .pre .0 .1, next-same (read .0) (start .pre .1 .0), room-after-read 1 _ _ (start .pre .1 .1) (read .1))
+    let read = c .before .before .count-read .ensures in
+    ((c .before .before .before .before .before .before .before .before .before .before .before .before .before .before .pre .0 .1, next-same (read .0) (c .before .before .before .before .before .before .before .before .before .before .before .before .before .before .pre .1 .0 .0), room-after-read 1 _ _ (c .before .before .before .before .before .before .before .before .before .before .before .before .before .before .pre .1 .0 .1) (read .1)), c .before .before .before .before .before .before .before .before .before .before .before .before .before .before .pre .1 .1)
 
 mark-requires : tie.Need-mark-requires
-mark-requires c κs =
-    let claimed = c .before .before .before in
-    let start = claimed .before .before .before .before .before .before .before .before .before .before .before .before .before in
-    omega (arith, spare-lies (start .pre .0 .1) (start .args .p) (start .pre .0 .2), claimed .claim-next .kept .1 .1 .1 .0)
+mark-requires c κs = ((spare-still (c .before .before .before .before .before .before .before .before .before .before .before .before .before .before .before .before .before .before .before .before .before .pre .0 .1) (c .before .before .before .before .before .before .claim-next .kept .1 .1 .1 .0), c .before .before .before .before .before .before .before .before .before .before .before .before .before .before .before .before .before .before .before .before .before .pre .0 .2), c .before .before .before .before .before .before .claim-next .ensures .1)
 
 same-length : tie.Need-same-length
 same-length c = search needs
@@ -69,19 +59,17 @@ same-length c = search needs
 same-length-2 : tie.Need-same-length-2
 same-length-2 c = search needs
 
+same-length-3 : tie.Need-same-length-3
+same-length-3 c = search needs
+
 returns : tie.Need-returns
-returns c =
-    let marks = c .before .before .before in
-    let claims = marks .before .before .before .before in
-    let reads = claims .before .before in
-    let copies = reads .before .before .before .before in
-    let next = copies .before .before in
-    let start = next .before .before .before .before .before in
-    let a = start .args in
-    relocate-does (a .p)
-    (getD-any (a .spare .now) (a .p * 2 + 1) 0 4294967295 (omega (arith, spare-lies (start .pre .0 .1) (a .p) (start .pre .0 .2))))
-    (next .next-page .ensures) (copies .copy-within .ensures) (reads .count-read .ensures .0) (reads .count-read .ensures .1)
-    (claims .claim-next .ensures) (marks .mark .ensures)
+returns c = (
+  relocate-does (c .before .before .before .before .before .before .before .before .before .before .before .before .before .before .before .before .before .before .before .before .before .before .before .before .before .before .before .args .p)
+      (getD-any (c .before .before .before .before .before .before .before .before .before .before .before .before .before .before .before .before .before .before .before .before .before .before .before .before .before .before .before .args .spare .now) (c .before .before .before .before .before .before .before .before .before .before .before .before .before .before .before .before .before .before .before .before .before .before .before .before .before .before .before .args .p * 2 + 1) 0 4294967295 (omega (arith, spare-lies (c .before .before .before .before .before .before .before .before .before .before .before .before .before .before .before .before .before .before .before .before .before .before .before .before .before .before .before .pre .0 .1) (c .before .before .before .before .before .before .before .before .before .before .before .before .before .before .before .before .before .before .before .before .before .before .before .before .before .before .before .args .p) (c .before .before .before .before .before .before .before .before .before .before .before .before .before .before .before .before .before .before .before .before .before .before .before .before .before .before .before .pre .0 .2))))
+      (c .before .before .before .before .before .before .before .before .before .before .before .before .before .before .before .before .before .before .before .before .before .next-page .ensures) (c .before .before .before .before .before .before .before .before .before .before .before .before .before .before .before .before .before .before .before .copy-within .ensures) (c .before .before .before .before .before .before .before .before .before .before .before .before .before .before .before .count-read .ensures .0) (c .before .before .before .before .before .before .before .before .before .before .before .before .before .before .before .count-read .ensures .1)
+      (c .before .before .before .before .before .before .before .before .before .before .before .before .claim-next .ensures .0) (c .before .before .before .before .before .mark .ensures .0),
+  c .before .before .before .before .before .mark .ensures .1,
+)
 
 pub relocate-spec : {M : Type 1} → statement M
 relocate-spec =
@@ -102,4 +90,5 @@ relocate-spec =
     mark-requires
     same-length
     same-length-2
+    same-length-3
     returns)

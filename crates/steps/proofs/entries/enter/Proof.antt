@@ -1,26 +1,45 @@
 -- `steps::entries::enter` meets its contract.
 use mathlib.Core.Path.{refl}
+use native.Mathlib.Nat.{mod-lt}
+use native.Mathlib.Omega.{arith}
 use borrow.Author.Needs.{needs}
 use Rattle.steps.specs.Entries.{enter-does}
+use Rattle.steps.specs.Filter.{filter-gains}
 use Rattle.steps.proofs.entries.enter.Statement.{statement}
 use Rattle.steps.proofs.entries.enter.Tie as tie
+
+bit-of-requires : tie.Need-bit-of-requires
+bit-of-requires c κs = search needs
+
+put-requires : tie.Need-put-requires
+put-requires c κs = omega (arith, c .bit-of .ensures, mod-lt (c .before .before .before .args .l) {m = 65536} (omega arith))
 
 cast-put-front : tie.Need-cast-put-front
 cast-put-front c = search needs
 
 put-front-requires : tie.Need-put-front-requires
-put-front-requires c κs = search needs
+put-front-requires c κs = c .before .before .before .before .before .pre .0 .0
 
 add-more : tie.Need-add-more
-add-more c = search needs
+add-more c = omega (arith, c .before .before .before .before .before .before .before .before .pre .0 .1)
 
 same-length : tie.Need-same-length
 same-length c = search needs
 
 returns : tie.Need-returns
-returns c =
-    let start = c .before .before .before .before .before .before in
-    enter-does refl (start .args .l) (start .args .place) (c .before .before .before .put-front .ensures) refl
+returns c = (
+  enter-does refl (c .before .before .before .before .before .before .before .before .before .args .l) (c .before .before .before .before .before .before .before .before .before .args .place) (c .before .before .before .put-front .ensures) refl,
+  filter-gains (c .before .before .before .before .before .before .before .before .before .pre .1) (c .before .before .before .before .before .before .before .before .before .args .l) (c .before .before .before .before .before .before .before .before .before .args .place) (c .before .before .before .before .before .before .before .before .before .pre .0 .0) refl (c .before .before .before .before .before .before .bit-of .ensures) (c .before .before .before .before .before .put .ensures) (c .before .before .before .put-front .ensures),
+)
 
 pub enter-spec : {M : Type 1} → statement M
-enter-spec = tie.close (tie.spec cast-put-front put-front-requires add-more same-length returns)
+enter-spec =
+    tie.close
+    (tie.spec
+    bit-of-requires
+    put-requires
+    cast-put-front
+    put-front-requires
+    add-more
+    same-length
+    returns)

@@ -1,5 +1,7 @@
 -- `run::run_words` meets its contract: a run in its parts.
+use Prim.Native.Nat.{ℕ}
 use mathlib.Core.Path.{refl, _∙_}
+use lib.ListN.{length-replicate}
 use borrow.Author.Needs.{needs}
 use denote.Ref.{now}
 use Rattle.lent.specs.Model.{geometry}
@@ -12,11 +14,11 @@ whole-requests-requires : tie.Need-whole-requests-requires
 whole-requests-requires c κs = search needs
 
 begin-requires : tie.Need-begin-requires
-begin-requires c κs = search needs
+begin-requires c κs = length-replicate {A = ℕ} 1024 0
 
 serve-words-requires : tie.Need-serve-words-requires
 serve-words-requires c κs =
-    begun-admits (c .before .before .before .before .before .before .before .before .before .before .before .before .before .before .begin .ensures)
+    begun-admits (c .before .before .before .before .before .before .before .before .before .before .before .before .before .before .before .before .begin .ensures)
 
 finish-requires : tie.Need-finish-requires
 finish-requires c κs = search needs
@@ -24,22 +26,22 @@ finish-requires c κs = search needs
 same-length : tie.Need-same-length
 same-length c =
     let again = c .before .before .before .before .before .before .before .before .before .before .before .before .before .before .before in
-    again .chip2 .given ∙ again .before .before .before .before .before .before .before .before .before .before .before .before .before .before .before .chip .given
+    again .chip2 .given ∙ again .before .before .before .before .before .before .before .before .before .before .before .before .before .before .before .before .before .chip .given
 
 same-length-2 : tie.Need-same-length-2
 same-length-2 c =
     let again = c .before .before .before .before .before .before .before .before .before .before .before .before .before in
-    again .spare2 .given ∙ again .before .before .before .before .before .before .before .before .before .before .before .before .before .before .before .spare .given
+    again .spare2 .given ∙ again .before .before .before .before .before .before .before .before .before .before .before .before .before .before .before .before .before .spare .given
 
 same-length-3 : tie.Need-same-length-3
 same-length-3 c =
     let again = c .before .before .before .before .before .before .before .before .before .before .before in
-    again .directory2 .given ∙ again .before .before .before .before .before .before .before .before .before .before .before .before .before .before .before .directory .given
+    again .directory2 .given ∙ again .before .before .before .before .before .before .before .before .before .before .before .before .before .before .before .before .before .directory .given
 
 same-length-4 : tie.Need-same-length-4
 same-length-4 c =
     let again = c .before .before .before .before .before .before .before .before .before in
-    again .cache2 .given ∙ again .before .before .before .before .before .before .before .before .before .before .before .before .before .before .before .cache .given
+    again .cache2 .given ∙ again .before .before .before .before .before .before .before .before .before .before .before .before .before .before .before .before .before .cache .given
 
 same-length-5 : tie.Need-same-length-5
 same-length-5 c = search needs
@@ -53,8 +55,8 @@ same-length-7 c = search needs
 returns : tie.Need-returns
 returns c =
     let served = c .before .before .before .before .before .before .before .before .before .before .before .before .before .before .before .before in
-    let begun = served .before .before .before .before .before .before .before .before .before .before .before .before .before .before .before in
-    let tested = begun .before .before .before .before .before in
+    let begun = served .before .before .before .before .before .before .before .before .before .before .before .before .before .before .before .before .before in
+    let tested = begun .before .before .before .before .before .before .before in
     let a = tested .before .before .before .before .before .before .before .before .before .args in
     run-words-answers (geometry (a .g)) (now (a .requests)) (a .five) (tested .whole-requests .ensures) refl
     (begun .begin .ensures) (served .serve-words .ensures) (c .before .before .finish .ensures)

@@ -10,9 +10,9 @@ use Rattle.trianglefire.proofs.run.serve_words.Statement.{statement}
 use Rattle.trianglefire.proofs.run.serve_words.Tie as tie
 
 abbrev Inv-loop : tie.InvT-loop
-Inv-loop requests g chip₀ spare₀ directory₀ cache₀ words₀ answers₀ n i₀ cur₀ chip spare directory cache words answers i cur =
-    Turned (geometry g) requests n i cur₀ (state chip₀ spare₀ directory₀ cache₀ (cur₀ .rec)) words₀ answers₀
-    cur (state chip spare directory cache (cur .rec)) words answers
+Inv-loop requests g chip₀ spare₀ directory₀ cache₀ census₀ filter₀ words₀ answers₀ n i₀ cur₀ chip spare directory cache census filter words answers i cur =
+    Turned (geometry g) requests n i cur₀ (state chip₀ spare₀ directory₀ cache₀ (cur₀ .rec)) words₀ answers₀ census₀ filter₀
+    cur (state chip spare directory cache (cur .rec)) words answers census filter
     × (length chip ≡ length chip₀)
     × (length spare ≡ length spare₀)
     × (length directory ≡ length directory₀)
@@ -21,41 +21,41 @@ Inv-loop requests g chip₀ spare₀ directory₀ cache₀ words₀ answers₀ n
     × (length answers ≡ length answers₀)
 
 abbrev μ-loop : tie.MeasureT-loop
-μ-loop requests g chip₀ spare₀ directory₀ cache₀ words₀ answers₀ n i₀ cur₀ chip spare directory cache words answers i cur =
+μ-loop requests g chip₀ spare₀ directory₀ cache₀ census₀ filter₀ words₀ answers₀ n i₀ cur₀ chip spare directory cache census filter words answers i cur =
     n - i
 
 loop-holds : tie.Need-loop-holds Inv-loop μ-loop
 loop-holds c = (start refl (omega arith) (c .before .before .before .before .before .before .before .pre), refl, refl, refl, refl, refl, refl)
 
-mul-t16 : tie.Need-mul-t16 Inv-loop μ-loop
-mul-t16 c = search needs
+mul-t18 : tie.Need-mul-t18 Inv-loop μ-loop
+mul-t18 c = search needs
 
-mul-t17 : tie.Need-mul-t17 Inv-loop μ-loop
-mul-t17 c = search needs
+mul-t19 : tie.Need-mul-t19 Inv-loop μ-loop
+mul-t19 c = search needs
 
-shared-slice-read-t19 : tie.Need-shared-slice-read-t19 Inv-loop μ-loop
-shared-slice-read-t19 c = search needs
-
-mul-t20 : tie.Need-mul-t20 Inv-loop μ-loop
-mul-t20 c = search needs
-
-add-t21 : tie.Need-add-t21 Inv-loop μ-loop
-add-t21 c = search needs
+shared-slice-read-t21 : tie.Need-shared-slice-read-t21 Inv-loop μ-loop
+shared-slice-read-t21 c = search needs
 
 mul-t22 : tie.Need-mul-t22 Inv-loop μ-loop
 mul-t22 c = search needs
 
-shared-slice-read-t24 : tie.Need-shared-slice-read-t24 Inv-loop μ-loop
-shared-slice-read-t24 c = search needs
+add-t23 : tie.Need-add-t23 Inv-loop μ-loop
+add-t23 c = search needs
+
+mul-t24 : tie.Need-mul-t24 Inv-loop μ-loop
+mul-t24 c = search needs
+
+shared-slice-read-t26 : tie.Need-shared-slice-read-t26 Inv-loop μ-loop
+shared-slice-read-t26 c = search needs
 
 serve-requires : tie.Need-serve-requires Inv-loop μ-loop
 serve-requires c κs =
-    let test = c .before .before .before .before .before .before .before .before in
+    let test = c .before .before .before .before .before .before .before .before .before .before in
     ready (test .before .loop .inv .0) (test .loop-test .taken)
 
 add-i : tie.Need-add-i Inv-loop μ-loop
 add-i c =
-    let test = c .before .before .before .before .before .before .before .before .before .before .before .before .before .before .before .before .before .before .before .before .before in
+    let test = c .before .before .before .before .before .before .before .before .before .before .before .before .before .before .before .before .before .before .before .before .before .before .before in
     omega (arith, test .loop-test .taken, test .before .loop .inv .0 .countable)
 
 loop-less : tie.Need-loop-less Inv-loop μ-loop
@@ -64,7 +64,7 @@ loop-less c = search needs
 loop-again : tie.Need-loop-again Inv-loop μ-loop
 loop-again c =
     let served = c .before .before .before .before .before .before .before .before .before .before .before .before in
-    let test = served .before .before .before .before .before .before .before .before .before in
+    let test = served .before .before .before .before .before .before .before .before .before .before .before in
     let inv = test .before .loop .inv in (
       turn (inv .0) (test .loop-test .taken) (served .serve .ensures),
       c .before .before .before .before .before .before .before .before .before .before .before .chip .given ∙ inv .1,
@@ -103,13 +103,13 @@ serve-words-spec =
     Inv-loop
     μ-loop
     loop-holds
-    mul-t16
-    mul-t17
-    shared-slice-read-t19
-    mul-t20
-    add-t21
+    mul-t18
+    mul-t19
+    shared-slice-read-t21
     mul-t22
-    shared-slice-read-t24
+    add-t23
+    mul-t24
+    shared-slice-read-t26
     serve-requires
     add-i
     loop-less

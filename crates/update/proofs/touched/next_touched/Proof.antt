@@ -1,36 +1,40 @@
 -- `update::touched::next_touched` meets its contract: the lowest of those passed.
 use native.Mathlib.Omega.{arith}
-use mathlib.Core.Path.{_≡_, sym, subst}
+use mathlib.Core.Path.{_≡_, sym, ap, subst, _∙_}
 use Prim.Native.Nat.{_-_, _≤_}
 use borrow.Author.Needs.{needs}
+use Rattle.lent.specs.declared.Geometry.{Geometry}
 use Rattle.lent.specs.Model.{geometry}
-use Rattle.update.specs.Moves.{first-moves, no-moves, one-more, Next-touched, none-touched, one-touched}
+use Rattle.update.specs.Moves.{first-moves, Waits-in, no-moves, one-more, nearer, Next-touched, none-touched, one-touched}
 use Rattle.update.proofs.touched.next_touched.Statement.{statement}
 use Rattle.update.proofs.touched.next_touched.Tie as tie
 
 abbrev Inv-loop : tie.InvT-loop
-Inv-loop g from m waiting n best₀ i₀ best i =
-    (i ≤ n) × Next-touched (geometry g) (first-moves i (waiting .logical) (waiting .physical)) from m best
+Inv-loop n waiting from m best₀ i₀ best i =
+    (i ≤ n) × ((g : Geometry) → Waits-in (geometry g) n waiting → Next-touched (geometry g) (first-moves i waiting) from m best)
 
 abbrev μ-loop : tie.MeasureT-loop
-μ-loop g from m waiting n best₀ i₀ best i = n - i
+μ-loop n waiting from m best₀ i₀ best i = n - i
 
 loop-holds : tie.Need-loop-holds Inv-loop μ-loop
 loop-holds c =
     let a = c .args in (
       omega arith,
-      subst (λ w. Next-touched (geometry (a .g)) w (a .from) (a .m) (a .m)) (sym (no-moves (a .t2 .logical) (a .t2 .physical)))
-          (none-touched (geometry (a .g)) (a .from) (a .m) (c .pre .2)),
+      λ g _. subst (λ w. Next-touched (geometry g) w (a .from) (a .m) (a .m)) (sym (no-moves (a .waiting .now)))
+          (none-touched (geometry g) (a .from) (a .m) (c .pre .1)),
     )
 
 mul-nearer : tie.Need-mul-nearer Inv-loop μ-loop
 mul-nearer c = search needs
 
+add-nearer : tie.Need-add-nearer Inv-loop μ-loop
+add-nearer c = search needs
+
+mul-nearer-2 : tie.Need-mul-nearer-2 Inv-loop μ-loop
+mul-nearer-2 c = search needs
+
 element-copy-out-nearer : tie.Need-element-copy-out-nearer Inv-loop μ-loop
 element-copy-out-nearer c = search needs
-
-div-nearer : tie.Need-div-nearer Inv-loop μ-loop
-div-nearer c = search needs
 
 nearer-requires : tie.Need-nearer-requires Inv-loop μ-loop
 nearer-requires c κs = search needs
@@ -43,20 +47,22 @@ loop-less c = search needs
 
 loop-again : tie.Need-loop-again Inv-loop μ-loop
 loop-again c =
-    let at-loop = c .before .before .before .before in
+    let tested = c .before .before in
+    let at-loop = tested .before in
     let a = at-loop .before .args in
     let i = at-loop .loop .i in (
       omega arith,
-      subst (λ w. Next-touched (geometry (a .g)) w (a .from) (a .m) (c .nearer .result)) (sym (one-more (a .t2 .logical) (a .t2 .physical) i))
-          (one-touched (geometry (a .g)) (a .from) (a .m) _ _ _ _ (at-loop .loop .inv .1) (c .nearer .ensures)),
+      λ g waits. subst (λ w. Next-touched (geometry g) w (a .from) (a .m) (c .nearer .result)) (sym (one-more (a .waiting .now) i))
+          (one-touched (geometry g) (a .from) (a .m) _ _ _ _ (at-loop .loop .inv .1 g waits)
+          (c .nearer .ensures ∙ ap (nearer (at-loop .loop .best) (a .from)) (waits .of-pages i (tested .loop-test .taken)))),
     )
 
 returns : tie.Need-returns Inv-loop μ-loop
-returns c =
+returns c g waits =
     let a = c .before .before .args in
-    let end : c .before .loop .i ≡ a .t2 .n = omega arith in
-    subst (λ n. Next-touched (geometry (a .g)) (first-moves n (a .t2 .logical) (a .t2 .physical)) (a .from) (a .m) (c .before .loop .best))
-    end (c .before .loop .inv .1)
+    let end : c .before .loop .i ≡ a .n = omega arith in
+    subst (λ n. Next-touched (geometry g) (first-moves n (a .waiting .now)) (a .from) (a .m) (c .before .loop .best))
+    end (c .before .loop .inv .1 g waits)
 
 pub next-touched-spec : {M : Type 1} → statement M
 next-touched-spec =
@@ -66,8 +72,9 @@ next-touched-spec =
     μ-loop
     loop-holds
     mul-nearer
+    add-nearer
+    mul-nearer-2
     element-copy-out-nearer
-    div-nearer
     nearer-requires
     add-i
     loop-less

@@ -1,0 +1,53 @@
+-- `alone::read` meets its contract.
+use Prim.Native.Nat.{ℕ}
+use mathlib.Core.Path.{sym}
+use lib.ListN.{length-replicate}
+use borrow.Author.Needs.{needs}
+use Rattle.calls.specs.Noted.{notable}
+use Rattle.calls.proofs.alone.read.Statement.{statement}
+use Rattle.calls.proofs.alone.read.Tie as tie
+
+take-notes-requires : tie.Need-take-notes-requires
+take-notes-requires c κs =
+    let ready = c .before .before .before .before .before .before .before .before .before .before .pre .0 .ready in
+    (notable (ready .accepted) (ready .lengths) (ready .sound), length-replicate {A = ℕ} 1024 0)
+
+slice-aggregate-read : tie.Need-slice-aggregate-read
+slice-aggregate-read c = sym (c .before .before .before .take-notes .ensures .1 .1)
+
+read-requires : tie.Need-read-requires
+read-requires c κs =
+    let noted = c .before .before .before .before .before .before .before in
+    (noted .before .before .before .before .before .before .before .before .before .before .before .pre, (noted .take-notes .ensures .0, noted .take-notes .ensures .1 .0))
+
+same-length : tie.Need-same-length
+same-length c = search needs
+
+same-length-2 : tie.Need-same-length-2
+same-length-2 c = search needs
+
+same-length-3 : tie.Need-same-length-3
+same-length-3 c = search needs
+
+same-length-4 : tie.Need-same-length-4
+same-length-4 c = search needs
+
+same-length-5 : tie.Need-same-length-5
+same-length-5 c = search needs
+
+returns : tie.Need-returns
+returns c = c .before .before .before .before .before .before .before .before .before .before .before .read .ensures .0
+
+pub read-spec : {M : Type 1} → statement M
+read-spec =
+    tie.close
+    (tie.spec
+    take-notes-requires
+    slice-aggregate-read
+    read-requires
+    same-length
+    same-length-2
+    same-length-3
+    same-length-4
+    same-length-5
+    returns)

@@ -1,0 +1,62 @@
+-- The filter of the cached pages from step to step: only translate changes the number of entries in use, and the others change no more of
+-- an entry than the place that it names.
+use Prim.Native.Nat.{ℕ, _<_}
+use mathlib.Core.Path.{_≡_, sym, ap, subst}
+use mathlib.Core.List.{List, []}
+use native.Mathlib.Omega.{arith}
+use Rattle.scope.specs.Geometry.{Geometry}
+use Rattle.scope.specs.Regions.{Data}
+use Rattle.scope.specs.Lent.{Entry, Place, Nowhere, State}
+use Rattle.scope.specs.Sound.{rank-of}
+use Rattle.scope.specs.Operations.{Counts, Erase, apply, give, look, perform, set-cache, set-small, _>>=_}
+use Rattle.scope.specs.Room.{read-page, program-next, open-lowest}
+use Rattle.scope.specs.Cache.{touch, set-entry}
+use Rattle.scope.specs.Requests.{Replied, read-place}
+use Rattle.cache.specs.Ranks.{rank-found}
+use Rattle.lent.specs.declared.Work.{Work}
+use Rattle.lent.specs.Does.{Does}
+use Rattle.lent.specs.Shapes.{Does-flash, Does-by-chip, Does-cache}
+use Rattle.steps.specs.Filter.{Filter, filter-moved, filter-placed}
+
+-- A page that was found is cached.
+pub found-in-use : (g : Geometry) (cache : List ℕ) (used l : ℕ) {i : ℕ} → rank-of g cache used l ≡ i → i < g .C → i < used
+found-in-use g cache used l is h = omega (arith, is, rank-found g cache used l (omega (arith, is)) .in-use)
+
+-- As many are in use.
+pub filter-still : {cache filter : List ℕ} {n m : ℕ} → m ≡ n → Filter cache n filter → Filter cache m filter
+filter-still {cache} {filter} e f = subst (λ (k : ℕ). Filter cache k filter) (sym e) f
+
+module _ {cache cache′ filter : List ℕ} {i : ℕ} {w : Work} (f : Filter cache (w .rec .used) filter) where
+  pub touched-filter : i < w .rec .used → Does-cache (touch i) cache w 0 cache′ w → Filter cache′ (w .rec .used) filter
+  unfolding touch set-cache give _>>=_
+  touched-filter in-use does =
+      subst (λ (x : List ℕ). Filter x (w .rec .used) filter) (ap (λ (s : State). s .cache) (does [] [] [] .after)) (filter-moved f i in-use)
+
+  pub placed-filter : (place : ℕ) → i < w .rec .used → Does-cache (set-entry i place) cache w tt cache′ w → Filter cache′ (w .rec .used) filter
+  unfolding set-entry set-cache
+  placed-filter place in-use does =
+      subst (λ (x : List ℕ). Filter x (w .rec .used) filter) (ap (λ (s : State). s .cache) (does [] [] [] .after))
+      (filter-placed f i place in-use)
+
+-- Flash's steps leave the number of entries in use.
+pub opened-keeps-used : (g : Geometry) {s s′ : State} {c c′ : Counts} → Does (open-lowest g Data) s c tt s′ c′
+    → s′ .small .used ≡ s .small .used
+unfolding open-lowest look set-small _>>=_
+opened-keeps-used g does = sym (ap (λ (s : State). s .small .used) (does .after))
+
+module _ (g : Geometry) {chip spare chip′ spare′ : List ℕ} {w w′ : Work} where
+  pub program-keeps-used : (l : ℕ) (words : List ℕ) {q : ℕ} → Does-flash (program-next g Data l words) chip spare w q chip′ spare′ w′
+      → w′ .rec .used ≡ w .rec .used
+  unfolding program-next look perform apply set-small give _>>=_
+  program-keeps-used l words does = sym (ap (λ (s : State). s .small .used) (does [] [] .after))
+
+  pub erase-keeps-used : (b : ℕ) → Does-flash (perform g (Erase b)) chip spare w tt chip′ spare′ w′ → w′ .rec .used ≡ w .rec .used
+  unfolding perform apply
+  erase-keeps-used b does = sym (ap (λ (s : State). s .small .used) (does [] [] .after))
+
+-- So does a read.
+pub read-place-keeps-used : (g : Geometry) (buffer : List ℕ) (place : Entry) {chip : List ℕ} {w w′ : Work} {r : Replied}
+    → Does-by-chip (read-place g buffer place) chip w r w′ → w′ .rec .used ≡ w .rec .used
+unfolding read-place read-page perform apply look give _>>=_
+read-place-keeps-used g buffer (Place p) does = sym (ap (λ (s : State). s .small .used) (does [] [] [] .after))
+read-place-keeps-used g buffer Nowhere does = sym (ap (λ (s : State). s .small .used) (does [] [] [] .after))

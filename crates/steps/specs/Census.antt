@@ -1,0 +1,360 @@
+-- The census: a number for each block, kept beside the spare by whatever changes a page's state, so that the searches among a region's
+-- blocks read no page. It is how many of the block's pages are valid, and 256 more for each that is erased: a block has no erased page
+-- where its number is below 256, and is then told by its valid pages; it is wholly erased where its number is 256 times P.
+use Prim.Native.Nat.{ℕ, zero, suc, _+_, _-_, _*_, _/_, _%_, _≤_, _<_}
+use mathlib.Core.Path.{_≡_, refl, sym, ap, _∙_}
+use mathlib.Core.Logic.{_≢_, ⊎-elim}
+use mathlib.Core.Bool.{Bool, true, false, not, cond}
+use mathlib.Core.List.{List, [], _∷_}
+use native.Mathlib.Nat.{div-add-mod', mod-lt, div-lt-iff-lt-mul, mul-le-mul-right}
+use native.Mathlib.Numerals.{add-one}
+use native.Mathlib.Omega.{arith}
+use lib.Dec.{eqb, ltb}
+use lib.ListN.{length, getD, set, replicate, length-set}
+use lib.Seq.{sets, getD-set-same, getD-set-other}
+use borrow.Author.Tests.{eqb-true, eq-eqb, ne-eqb, lt-ltb, le-ltb, not-true, not-false}
+use Rattle.scope.specs.Counting.{all, count, lowest, fewest}
+use Rattle.scope.specs.Geometry.{Geometry, Accepted, blocks, pages}
+use Rattle.scope.specs.Regions.{Region, Data, Translation, first-block, region-blocks, page-in}
+use Rattle.scope.specs.Lent.{State, none, erased, valid, invalid, state-of, is-erased, is-valid}
+use Rattle.scope.specs.Blocks.{wholly-erased, no-erased-page, valid-pages}
+use Rattle.scope.specs.Room.{erased-blocks, lowest-erased, victim}
+use Rattle.flash.specs.Cases.{on, same?, last, clash}
+use Rattle.flash.specs.Counting.{sum, sum-same, all-each, all-fails, count-le, count-each, count-none, count-one, count-fails, count-same}
+use Rattle.flash.specs.Searching.{Is-fewest, fewest-cases}
+use Rattle.flash.specs.Stores.{slot-below, slot-same, getD-sets-inside, record-kept, block-filled, block-kept}
+use Rattle.words.specs.Runs.{getD-any}
+use Rattle.words.specs.Searches.{fewest-unique}
+use Rattle.steps.specs.Lies.{Spare-lent, spare-lies}
+
+abbrev pub weight : ℕ → ℕ
+weight state = cond (eqb state valid) 1 (cond (eqb state erased) 256 0)
+
+abbrev pub weigh : Geometry → List ℕ → ℕ → ℕ
+weigh g spare b = sum (g .P) (λ i. weight (state-of (page-in g b i) spare))
+
+pub record Census (g : Geometry) (spare census : List ℕ) : Type 0 where
+  pub long : blocks g ≤ length census
+  pub each : (b : ℕ) → b < blocks g → getD census b 0 ≡ weigh g spare b
+
+pub weight-most : (state : ℕ) → weight state ≤ 256
+weight-most state =
+    on (eqb state valid) (λ p. rw p (omega arith))
+    (λ p. on (eqb state erased) (λ q. rw (p, q) (omega arith)) (λ q. rw (p, q) (omega arith)))
+
+-- The first n pages weigh little; one page more.
+pub weights-most : (n : ℕ) (s : ℕ → ℕ) → sum n (λ i. weight (s i)) ≤ 256 * n
+weights-most zero s = omega arith
+weights-most (suc n) s = omega (arith, weights-most n s, weight-most (s n))
+
+pub weigh-next : (spare : List ℕ) (first i k x : ℕ) → (first + i) * 2 < length spare
+    → k ≡ sum i (λ j. weight (state-of (first + j) spare)) → x ≡ weight (getD spare ((first + i) * 2) 0)
+    → k + x ≡ sum (i + 1) (λ j. weight (state-of (first + j) spare))
+weigh-next spare first i k x h e q = rw (add-one, e, q, getD-any spare ((first + i) * 2) 0 none h) refl
+
+-- ---- what a number tells
+
+valid-not-erased : (x : ℕ) → eqb x valid ≡ true → eqb x erased ≡ false
+valid-not-erased x p = ne-eqb x erased (λ e. omega (arith, eqb-true x valid p))
+
+erased-not-valid : (x : ℕ) → eqb x erased ≡ true → eqb x valid ≡ false
+erased-not-valid x p = ne-eqb x valid (λ e. omega (arith, eqb-true x erased p))
+
+in-counts : (n : ℕ) (s : ℕ → ℕ)
+    → sum n (λ i. weight (s i)) ≡ count n (λ i. eqb (s i) valid) + 256 * count n (λ i. eqb (s i) erased)
+in-counts zero s = refl
+in-counts (suc n) s =
+    let ih = in-counts n s in
+    on (eqb (s n) valid)
+    (λ p. rw (p, valid-not-erased (s n) p) (omega (arith, ih)))
+    (λ p. on (eqb (s n) erased) (λ q. rw (p, q) (omega (arith, ih))) (λ q. rw (p, q) (omega (arith, ih))))
+
+module _ (g : Geometry) (few : g .P ≤ 64) (spare : List ℕ) (b : ℕ) where
+  abbrev erased-at : ℕ → Bool
+  erased-at i = is-erased (page-in g b i) spare
+
+  weighs : weigh g spare b ≡ valid-pages g spare b + 256 * count (g .P) erased-at
+  weighs = in-counts (g .P) (λ i. state-of (page-in g b i) spare)
+
+  valid-few : valid-pages g spare b ≤ 64
+  valid-few = omega (arith, count-le (g .P) (λ i. is-valid (page-in g b i) spare))
+
+  pub weighs-little : weigh g spare b ≤ 16640
+  weighs-little = omega (arith, weighs, valid-few, count-le (g .P) erased-at)
+
+  pub erased-told : wholly-erased g spare b ≡ eqb (weigh g spare b) (256 * g .P)
+  erased-told =
+      on (wholly-erased g spare b)
+      (λ p.
+      let each = all-each (g .P) erased-at p in
+      p ∙ sym (eq-eqb (weigh g spare b) (256 * g .P) (omega (
+        arith,
+        weighs,
+        count-each (g .P) erased-at each,
+        count-none (g .P) (λ i. is-valid (page-in g b i) spare) (λ i h. erased-not-valid (state-of (page-in g b i) spare) (each i h)),
+      ))))
+      (λ p.
+      let some = all-fails (g .P) erased-at p in
+      p ∙ sym (ne-eqb (weigh g spare b) (256 * g .P) (λ e. omega (arith, e, weighs, valid-few, count-fails (g .P) erased-at (some .0) (some .1) (some .2)))))
+
+  no-erased : no-erased-page g spare b ≡ true → count (g .P) erased-at ≡ 0
+  no-erased p = count-none (g .P) erased-at (λ i h. not-true (erased-at i) (all-each (g .P) (λ j. not (erased-at j)) p i h))
+
+  pub full-told : no-erased-page g spare b ≡ ltb (weigh g spare b) 256
+  full-told =
+      on (no-erased-page g spare b)
+      (λ p. p ∙ sym (lt-ltb (weigh g spare b) 256 (omega (arith, weighs, valid-few, no-erased p))))
+      (λ p.
+      let some = all-fails (g .P) (λ i. not (erased-at i)) p in
+      p ∙ sym (le-ltb (weigh g spare b) 256 (omega (arith, weighs, count-one (g .P) erased-at (some .0) (some .1) (not-false (erased-at (some .0)) (some .2))))))
+
+  pub valid-told : no-erased-page g spare b ≡ true → weigh g spare b ≡ valid-pages g spare b
+  valid-told p = omega (arith, weighs, no-erased p)
+
+-- ---- the searches
+
+-- Searches for what passes the same tests, of the same sizes where it does, find the same.
+lowest-same : (n : ℕ) (f k : ℕ → Bool) → ((i : ℕ) → i < n → f i ≡ k i) → lowest n f ≡ lowest n k
+lowest-same zero f k e = refl
+lowest-same (suc n) f k e = rw (lowest-same n f k (λ i h. e i (omega arith)), e n (omega arith)) refl
+
+module _ (n : ℕ) (f k : ℕ → Bool) (size size′ : ℕ → ℕ) (e : (i : ℕ) → i < n → f i ≡ k i)
+    (q : (i : ℕ) → i < n → f i ≡ true → size′ i ≡ size i) where
+  carried : {a : ℕ} → Is-fewest n f size a → Is-fewest n k size′ a
+  carried {a} x =
+      record {
+        below = x .below;
+        passes = sym (e a (x .below)) ∙ x .passes;
+        least = λ i h p. omega (arith, x .least i h (e i h ∙ p), q a (x .below) (x .passes), q i h (e i h ∙ p));
+        lower-more = λ i h p.
+            let l : i < n = omega (arith, x .below) in
+            omega (arith, x .lower-more i h (e i l ∙ p), q a (x .below) (x .passes), q i l (e i l ∙ p));
+      }
+
+  fewest-same : fewest n f size ≡ fewest n k size′
+  fewest-same =
+      ⊎-elim
+      (λ x. ⊎-elim
+      (λ y. fewest-unique n k size′ (fewest n f size) (fewest n k size′) (carried x) y)
+      (λ y. clash (carried x .passes) (y .fails (fewest n f size) (x .below)))
+      (fewest-cases n k size′))
+      (λ x. ⊎-elim
+      (λ y. clash (y .passes) (sym (e (fewest n k size′) (y .below)) ∙ x .fails (fewest n k size′) (y .below)))
+      (λ y. x .is-n ∙ sym (y .is-n))
+      (fewest-cases n k size′))
+      (fewest-cases n f size)
+
+module _ {g : Geometry} (ok : Accepted g) {spare census : List ℕ} (kept : Census g spare census) (r : Region) where
+  on-chip : (i : ℕ) → i < region-blocks g r → first-block g r + i < blocks g
+  on-chip i h = in-region r h
+    where
+      in-region : (r : Region) → i < region-blocks g r → first-block g r + i < blocks g
+      in-region Data h = omega arith
+      in-region Translation h = omega arith
+
+  -- The region's n numbers from `first` on lie in the census.
+  pub numbers-lie : {first n : ℕ} → first ≡ first-block g r → n ≡ region-blocks g r → first + n ≤ length census
+  numbers-lie e f = lie r e f
+    where
+      lie : {first n : ℕ} (r : Region) → first ≡ first-block g r → n ≡ region-blocks g r → first + n ≤ length census
+      lie Data e f = omega (arith, kept .long)
+      lie Translation e f = omega (arith, kept .long)
+
+  pub blocks-few : {first n : ℕ} → first ≡ first-block g r → n ≡ region-blocks g r → first + n ≤ 1024
+  blocks-few e f = few r e f
+    where
+      few : {first n : ℕ} (r : Region) → first ≡ first-block g r → n ≡ region-blocks g r → first + n ≤ 1024
+      few Data e f = omega (arith, ok .D+T-to)
+      few Translation e f = omega (arith, ok .D+T-to)
+
+  number : (i : ℕ) → i < region-blocks g r → getD census (first-block g r + i) 0 ≡ weigh g spare (first-block g r + i)
+  number i h = kept .each (first-block g r + i) (on-chip i h)
+
+  is-erased-block : (i : ℕ) → i < region-blocks g r
+      → wholly-erased g spare (first-block g r + i) ≡ eqb (getD census (first-block g r + i) 0) (256 * g .P)
+  is-erased-block i h = erased-told g (ok .P-to) spare (first-block g r + i) ∙ ap (λ (x : ℕ). eqb x (256 * g .P)) (sym (number i h))
+
+  module _ {first n k : ℕ} (is-first : first ≡ first-block g r) (is-n : n ≡ region-blocks g r) (s : State) (lent : s .spare ≡ spare) where
+    pub erased-counted : k ≡ count n (λ i. eqb (getD census (first + i) 0) (256 * g .P)) → erased-blocks g r s ≡ k
+    unfolding erased-blocks
+    erased-counted found = rw (found, is-first, is-n, lent) (count-same (region-blocks g r) _ _ is-erased-block)
+
+    pub lowest-found : k ≡ lowest n (λ i. eqb (getD census (first + i) 0) (256 * g .P)) → lowest-erased g r s ≡ first + k
+    unfolding lowest-erased
+    lowest-found found =
+        rw (found, is-first, is-n, lent)
+        (ap (λ (m : ℕ). first-block g r + m) (lowest-same (region-blocks g r) _ _ is-erased-block))
+
+    pub victim-found : k ≡ fewest n (λ i. ltb (getD census (first + i) 0) 256) (λ i. getD census (first + i) 0)
+        → victim g r s ≡ first + k
+    unfolding victim
+    victim-found found =
+        rw (found, is-first, is-n, lent)
+        (ap (λ (m : ℕ). first-block g r + m)
+        (fewest-same (region-blocks g r) _ _ _ _
+        (λ i h. full-told g (ok .P-to) spare (first-block g r + i) ∙ ap (λ (x : ℕ). ltb x 256) (sym (number i h)))
+        (λ i h p. number i h ∙ valid-told g (ok .P-to) spare (first-block g r + i) p)))
+
+-- ---- a page's state changed
+
+sum-changed : (n k : ℕ) (a b : ℕ → ℕ) → k < n → ((i : ℕ) → i < n → i ≢ k → b i ≡ a i) → sum n b + a k ≡ sum n a + b k
+sum-changed zero k a b h same = absurd (omega arith)
+sum-changed (suc n) k a b h same =
+    last k n h
+    (λ l. omega (arith, sum-changed n k a b l (λ i m. same i (omega arith)), same n (omega arith) (λ e. omega arith)))
+    (λ e. rw e (omega (arith, sum-same n b a (λ i m. same i (omega arith) (λ q. omega arith)))))
+
+sum-has : (n k : ℕ) (a : ℕ → ℕ) → k < n → a k ≤ sum n a
+sum-has zero k a h = absurd (omega arith)
+sum-has (suc n) k a h = last k n h (λ l. omega (arith, sum-has n k a l)) (λ e. rw e (omega arith))
+
+-- The spare with page p in state x, and all other states as before.
+pub record Restated (p x : ℕ) (spare spare′ : List ℕ) : Type 0 where
+  pub there : state-of p spare′ ≡ x
+  pub others : (q : ℕ) → q ≢ p → state-of q spare′ ≡ state-of q spare
+
+pub marked-restates : (p : ℕ) {spare spare′ : List ℕ} → p * 2 + 2 ≤ length spare → spare′ ≡ set spare (p * 2) invalid
+    → Restated p invalid spare spare′
+marked-restates p {spare} h e =
+    rw e
+    (record {
+      there = getD-set-same spare (p * 2) invalid none (omega arith);
+      others = λ q other. getD-set-other spare (p * 2) (q * 2) invalid none (λ f. other (omega arith));
+    })
+
+pub claimed-restates : (p owner : ℕ) {spare spare′ : List ℕ} → p * 2 + 2 ≤ length spare → spare′ ≡ sets spare (p * 2) (valid ∷ owner ∷ [])
+    → Restated p valid spare spare′
+claimed-restates p owner {spare} h e =
+    rw e
+    (record {
+      there =
+          ap (λ (k : ℕ). getD (sets spare (p * 2) (valid ∷ owner ∷ [])) k none) (omega arith)
+          ∙ getD-sets-inside spare (p * 2) (valid ∷ owner ∷ []) 0 none (omega arith) (omega arith);
+      others = λ q other.
+          ap (λ (k : ℕ). getD (sets spare (p * 2) (valid ∷ owner ∷ [])) k none) (omega arith)
+          ∙ record-kept spare 2 p q 0 none (valid ∷ owner ∷ []) refl (omega arith) other
+          ∙ ap (λ (k : ℕ). getD spare k none) (omega arith);
+    })
+
+-- Page i of block b changes its state, and the block's number with it.
+module _ {g : Geometry} {spare census : List ℕ} (kept : Census g spare census) (b i : ℕ) (h : b < blocks g) (k : i < g .P) where
+  pub number-has : weight (state-of (page-in g b i) spare) ≤ getD census b 0
+  number-has = omega (arith, kept .each b h, sum-has (g .P) i (λ j. weight (state-of (page-in g b j) spare)) k)
+
+  pub number-little : g .P ≤ 64 → getD census b 0 ≤ 16640
+  number-little few = omega (arith, kept .each b h, weighs-little g few spare b)
+
+  pub census-restated : (y : ℕ) {x : ℕ} {spare′ : List ℕ} → Restated (page-in g b i) x spare spare′
+      → y + weight (state-of (page-in g b i) spare) ≡ getD census b 0 + weight x → Census g spare′ (set census b y)
+  census-restated y {x} {spare′} new e =
+      record {
+        long = omega (arith, kept .long, length-set census b y);
+        each = λ c m. same? c b
+            (λ q. rw q (getD-set-same census b y 0 (omega (arith, kept .long)) ∙ of-block))
+            (λ q. getD-set-other census b c y 0 q ∙ kept .each c m ∙ sym (of-other c q));
+      }
+    where
+      of-block : y ≡ weigh g spare′ b
+      of-block =
+          omega (
+            arith,
+            e,
+            kept .each b h,
+            ap weight (new .there),
+            sum-changed (g .P) i (λ j. weight (state-of (page-in g b j) spare)) (λ j. weight (state-of (page-in g b j) spare′)) k
+                (λ j l other. ap weight (new .others (page-in g b j) (λ q. other (omega arith)))),
+          )
+
+      of-other : (c : ℕ) → c ≢ b → weigh g spare′ c ≡ weigh g spare c
+      of-other c other =
+          sum-same (g .P) _ _ (λ j l. ap weight (new .others (page-in g c j) (λ q. other (slot-same (g .P) c b j i l k q))))
+
+-- What `restate` asks for, and what it leaves: page q is page i of block b.
+pub record Restatable (spare census : List ℕ) (b q : ℕ) : Type 0 where
+  pub inside : b < length census
+  pub has : weight (getD spare (q * 2) 0) ≤ getD census b 0
+  pub little : getD census b 0 ≤ 16640
+
+module _ {g : Geometry} {spare census : List ℕ} (lent : Spare-lent g spare) (kept : Census g spare census) (b i : ℕ) {q : ℕ}
+    (h : b < blocks g) (k : i < g .P) (is : q ≡ page-in g b i) where
+  lies : q * 2 + 2 ≤ length spare
+  lies = spare-lies lent q (rw is (slot-below (g .P) (blocks g) b i h k)) .words
+
+  its-state : state-of (page-in g b i) spare ≡ getD spare (q * 2) 0
+  its-state = ap (λ (p : ℕ). state-of p spare) (sym is) ∙ getD-any spare (q * 2) none 0 (omega (arith, lies))
+
+  pub restatable : Restatable spare census b q
+  restatable =
+      record {
+        inside = omega (arith, kept .long);
+        has = rw (← its-state) (number-has kept b i h k);
+        little = number-little kept b i h k (lent .accepted .P-to);
+      }
+
+  restated : {x : ℕ} {spare′ census′ : List ℕ} → Restated q x spare spare′
+      → census′ ≡ set census b (getD census b 0 + weight x - weight (getD spare (q * 2) 0)) → Census g spare′ census′
+  restated {x} new e =
+      rw e
+      (census-restated kept b i h k (getD census b 0 + weight x - weight (getD spare (q * 2) 0)) (rw is at new)
+      (omega (arith, ap weight its-state, restatable .has)))
+
+  pub claim-kept : (owner : ℕ) {spare′ census′ : List ℕ} → spare′ ≡ sets spare (q * 2) (valid ∷ owner ∷ [])
+      → census′ ≡ set census b (getD census b 0 + weight valid - weight (getD spare (q * 2) 0)) → Census g spare′ census′
+  claim-kept owner e f = restated (claimed-restates q owner lies e) f
+
+  pub mark-kept : {spare′ census′ : List ℕ} → spare′ ≡ set spare (q * 2) invalid
+      → census′ ≡ set census b (getD census b 0 + weight invalid - weight (getD spare (q * 2) 0)) → Census g spare′ census′
+  mark-kept e f = restated (marked-restates q lies e) f
+
+-- Where a page lies: in the block, and at the place in it, that a division tells.
+pub page-lies : (g : Geometry) (p : ℕ) → 1 ≤ g .P → p < pages g → (p / g .P < blocks g) × (p % g .P < g .P) × (p ≡ page-in g (p / g .P) (p % g .P))
+page-lies g p some h = (div-lt-iff-lt-mul {k = g .P} (omega arith) .1 h, mod-lt p (omega arith), omega (arith, div-add-mod' p (g .P)))
+
+-- A block is erased.
+pub census-erased : {g : Geometry} {spare census spare′ : List ℕ} → Census g spare census → (b : ℕ) → b < blocks g
+    → b * g .P * 2 + g .P * 2 ≤ length spare → spare′ ≡ sets spare (b * g .P * 2) (replicate (g .P * 2) erased)
+    → Census g spare′ (set census b (256 * g .P))
+census-erased {g} {spare} {census} kept b h fits e =
+    rw e
+    (record {
+      long = omega (arith, kept .long, length-set census b (256 * g .P));
+      each = λ c m. same? c b
+          (λ q. rw q (getD-set-same census b (256 * g .P) 0 (omega (arith, kept .long)) ∙ sym all-erased))
+          (λ q. getD-set-other census b c (256 * g .P) 0 q ∙ kept .each c m ∙ sym (of-other c q));
+    })
+  where
+    filled : List ℕ
+    filled = sets spare (b * g .P * 2) (replicate (g .P * 2) erased)
+
+    sum-each : (n : ℕ) (a : ℕ → ℕ) → ((i : ℕ) → i < n → a i ≡ 256) → sum n a ≡ 256 * n
+    sum-each zero a q = refl
+    sum-each (suc n) a q = omega (arith, sum-each n a (λ i l. q i (omega arith)), q n (omega arith))
+
+    all-erased : weigh g filled b ≡ 256 * g .P
+    all-erased = sum-each (g .P) _ (λ i l.
+        ap weight
+        (ap (λ (j : ℕ). getD filled j none) (omega arith)
+        ∙ block-filled spare 2 (g .P) b i 0 erased none l (omega arith) (omega arith)))
+
+    of-other : (c : ℕ) → c ≢ b → weigh g filled c ≡ weigh g spare c
+    of-other c other =
+        sum-same (g .P) _ _ (λ j l.
+        ap weight
+        (ap (λ (k : ℕ). getD filled k none) (omega arith)
+        ∙ block-kept spare 2 (g .P) b (page-in g c j) 0 erased none (omega arith) (λ i m q. other (slot-same (g .P) c b j i l m q))
+        ∙ ap (λ (k : ℕ). getD spare k none) (omega arith)))
+
+-- A block's states lie in the spare.
+pub block-lies-spare : {g : Geometry} {spare : List ℕ} → Spare-lent g spare → (b : ℕ) → b < blocks g → (b * g .P + g .P) * 2 ≤ length spare
+block-lies-spare {g} lent b h = omega (arith, mul-le-mul-right (g .P) h, lent .spare-fits)
+
+-- The census of the first n blocks of p pages, as it is taken.
+abbrev pub Taken : ℕ → List ℕ → ℕ → List ℕ → Type 0
+Taken p spare n census = (b : ℕ) → b < n → getD census b 0 ≡ sum p (λ i. weight (state-of (b * p + i) spare))
+
+pub taken-more : (p : ℕ) (spare census : List ℕ) {n x : ℕ} → n < length census → x ≡ sum p (λ i. weight (state-of (n * p + i) spare))
+    → Taken p spare n census → Taken p spare (n + 1) (set census n x)
+taken-more p spare census {n} {x} h e before b k =
+    last b n (omega arith)
+    (λ l. getD-set-other census n b x 0 (λ q. omega arith) ∙ before b l)
+    (λ q. rw q (getD-set-same census n x 0 h ∙ e))

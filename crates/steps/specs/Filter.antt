@@ -1,0 +1,170 @@
+-- The filter: a bit for each logical page, set where the page is cached, so that a page that isn't is known without a search. A set bit
+-- says nothing, so all that is kept is that each entry in use has its bit.
+use Prim.Native.Nat.{ℕ, zero, suc, _+_, _-_, _*_, _/_, _%_, _≤_, _<_}
+use mathlib.Core.Path.{_≡_, refl, sym, ap, _∙_}
+use mathlib.Core.Logic.{_≢_}
+use mathlib.Core.Bool.{Bool, true, false, cond}
+use mathlib.Core.List.{List, [], _∷_}
+use native.Mathlib.Nat.{mod-lt, mod-eq-of-lt, mul-le-mul-right}
+use native.Mathlib.Numerals.{add-one}
+use native.Mathlib.Omega.{arith}
+use lib.Dec.{eqb, ltb}
+use lib.ListN.{length, getD}
+use lib.Seq.{sets}
+use borrow.Author.Tests.{eqb-true, ltb-true, lt-ltb, le-ltb}
+use Rattle.scope.specs.Geometry.{Geometry, Accepted}
+use Rattle.scope.specs.Lent.{none, entry-words, logical-at}
+use Rattle.scope.specs.Sound.{Entries-fit, rank-of}
+use Rattle.scope.specs.Cache.{entry-at, without, touch, set-entry}
+use Rattle.flash.specs.Cases.{same?, below?, last, and-true, clash, is-false}
+use Rattle.cache.specs.Entries.{CacheEntry, entry, put as put-entry, to-front, placed, put-stores, placed-stores, rank-before, length-to-front, to-front-entry, new-in-front}
+use Rattle.lent.specs.declared.Work.{Work}
+use Rattle.lent.specs.Shapes.{Does-cache}
+use Rattle.steps.specs.Lies.{few-pages}
+use Rattle.words.specs.Bitmap.{has, put, flip, length-put, length-flip, has-put-same, has-put-other, has-flip-other}
+use Rattle.words.specs.Runs.{getD-any}
+use Rattle.words.specs.Searches.{lowest-fails}
+
+-- The bit of a logical page.
+abbrev pub bit-of : ℕ → ℕ
+bit-of l = l % 65536
+
+pub record Filter (cache : List ℕ) (used : ℕ) (filter : List ℕ) : Type 0 where
+  pub ranks : ℕ
+  pub cache-fits : length cache ≡ ranks * entry-words
+  pub used-to : used ≤ ranks
+  pub filter-fits : length filter ≡ 1024
+  pub each : (i : ℕ) → i < used → has filter (bit-of (logical-at i cache)) ≡ true
+
+-- A page's bit is put in, and those that are there stay.
+module _ (filter : List ℕ) (l : ℕ) (long : length filter ≡ 1024) where
+  put-there : has (put filter (bit-of l)) (bit-of l) ≡ true
+  put-there = has-put-same filter (bit-of l) (omega (arith, mod-lt l {m = 65536} (omega arith), long))
+
+  still : (k : ℕ) → has filter (bit-of k) ≡ true → has (put filter (bit-of l)) (bit-of k) ≡ true
+  still k p = same? (bit-of k) (bit-of l) (λ q. rw q put-there) (λ q. has-put-other filter (bit-of l) (bit-of k) q ∙ p)
+
+module _ {cache filter : List ℕ} {used : ℕ} (f : Filter cache used filter) where
+  -- A page without its bit isn't cached.
+  pub filter-misses : (g : Geometry) (l : ℕ) → has filter (bit-of l) ≡ false → rank-of g cache used l ≡ g .C
+  unfolding rank-of
+  filter-misses g l clear =
+      lowest-fails (g .C) _ (λ i h. is-false _ (λ p.
+      let q = and-true (ltb i used) (eqb (logical-at i cache) l) p in
+      clash (ap (λ (k : ℕ). has filter (bit-of k)) (sym (eqb-true (logical-at i cache) l (q .1))) ∙ f .each i (ltb-true i used (q .0))) clear))
+
+  in-ranks : {i : ℕ} → i < used → i < f .ranks
+  in-ranks h = omega (arith, f .used-to)
+
+  -- An entry comes to the front.
+  pub filter-moved : (i : ℕ) → i < used → Filter (to-front i cache) used filter
+  filter-moved i h =
+      record {
+        ranks = f .ranks;
+        cache-fits = length-to-front (f .ranks) cache (f .cache-fits) i (in-ranks h);
+        used-to = f .used-to;
+        filter-fits = f .filter-fits;
+        each = λ j k.
+            ap (λ (e : CacheEntry). has filter (bit-of (e .logical))) (to-front-entry (f .ranks) cache (f .cache-fits) i (in-ranks h) j)
+            ∙ f .each (rank-before i j) (was-in-use j k);
+      }
+    where
+      was-in-use : (j : ℕ) → j < used → rank-before i j < used
+      was-in-use zero k = h
+      was-in-use (suc j) k = below? j i (λ b. rw (lt-ltb j i b) (omega arith)) (λ b. rw (le-ltb j i b) k)
+
+  -- The entry at rank i is another, whose page has its bit in another filter, as the pages of the other entries have.
+  stored : (n i : ℕ) (e : CacheEntry) {filter′ : List ℕ} → i < f .ranks → n ≤ f .ranks → length filter′ ≡ 1024
+      → has filter′ (bit-of (e .logical)) ≡ true
+      → ((j : ℕ) → j < n → j ≢ i → has filter′ (bit-of (logical-at j cache)) ≡ true) → Filter (put-entry i e cache) n filter′
+  stored n i e {filter′} room all long new others =
+      let stores = put-stores (f .ranks) cache (f .cache-fits) i room e in
+      record {
+        ranks = f .ranks;
+        cache-fits = stores .long;
+        used-to = all;
+        filter-fits = long;
+        each = λ j h. same? j i
+            (λ q. ap (λ (x : CacheEntry). has filter′ (bit-of (x .logical))) (ap (λ (k : ℕ). entry k (put-entry i e cache)) q ∙ stores .here) ∙ new)
+            (λ q. ap (λ (x : CacheEntry). has filter′ (bit-of (x .logical))) (stores .elsewhere j q) ∙ others j h q);
+      }
+
+module _ {cache filter : List ℕ} {used : ℕ} (f : Filter cache used filter) where
+  -- One more in front.
+  pub filter-entered : (l place : ℕ) → used < f .ranks → Filter (l ∷ place ∷ 0 ∷ without used cache) (used + 1) (put filter (bit-of l))
+  filter-entered l place room =
+      let e : CacheEntry = record { logical = l; physical = place; changed = 0 } in
+      rw (new-in-front (f .ranks) cache (f .cache-fits) used room e, add-one)
+      (filter-moved
+      (stored f (suc used) used e room room (length-put filter (bit-of l) ∙ f .filter-fits) (put-there filter l (f .filter-fits))
+      (λ j h q. still filter l (f .filter-fits) (logical-at j cache) (f .each j (omega arith)))) used (omega arith))
+
+  -- The last is dropped: the pages differ, and there are fewer than bits, so that no other page's bit goes with it.
+  pub filter-forgotten : (g : Geometry) (i : ℕ) → g .L ≤ 65536 → Entries-fit g cache used → suc i ≡ used
+      → Filter (sets cache (i * entry-words) (none ∷ none ∷ none ∷ [])) i (flip filter (bit-of (logical-at i cache)))
+  filter-forgotten g i few fits last =
+      let stores = put-stores (f .ranks) cache (f .cache-fits) i (omega (arith, f .used-to)) (record { logical = none; physical = none; changed = none }) in
+      record {
+        ranks = f .ranks;
+        cache-fits = stores .long;
+        used-to = omega (arith, f .used-to);
+        filter-fits = length-flip filter (bit-of (logical-at i cache)) ∙ f .filter-fits;
+        each = λ j h.
+            ap (λ (x : CacheEntry). has (flip filter (bit-of (logical-at i cache))) (bit-of (x .logical))) (stores .elsewhere j (λ q. omega arith))
+            ∙ has-flip-other filter (bit-of (logical-at i cache)) (bit-of (logical-at j cache)) (λ q. omega (arith, apart j h q))
+            ∙ f .each j (omega arith);
+      }
+    where
+      own-bit : (k : ℕ) → k < used → bit-of (logical-at k cache) ≡ logical-at k cache
+      own-bit k h = mod-eq-of-lt (omega (arith, fits .below-L k h))
+
+      apart : (j : ℕ) → j < i → bit-of (logical-at j cache) ≡ bit-of (logical-at i cache) → j ≡ i
+      apart j h q =
+          fits .different j i (omega arith) (omega arith) (sym (own-bit j (omega arith)) ∙ q ∙ own-bit i (omega arith))
+
+  -- An entry takes another place.
+  pub filter-placed : (i place : ℕ) → i < used → Filter (placed i place cache) used filter
+  filter-placed i place h =
+      let stores = placed-stores (f .ranks) cache (f .cache-fits) i (omega (arith, f .used-to)) (logical-at i cache) place refl in
+      record {
+        ranks = f .ranks;
+        cache-fits = stores .long;
+        used-to = f .used-to;
+        filter-fits = f .filter-fits;
+        each = λ j k. same? j i
+            (λ q. ap (λ (x : CacheEntry). has filter (bit-of (x .logical))) (ap (λ (n : ℕ). entry n (placed i place cache)) q ∙ stores .here) ∙ f .each i h)
+            (λ q. ap (λ (x : CacheEntry). has filter (bit-of (x .logical))) (stores .elsewhere j q) ∙ f .each j k);
+      }
+
+-- As the leaves leave them.
+pub filter-gains : {cache filter cache′ filter′ : List ℕ} {used used′ b : ℕ} → Filter cache used filter → (l place : ℕ)
+    → used * 3 + 3 ≤ length cache → used′ ≡ used + 1 → b ≡ bit-of l → filter′ ≡ put filter b
+    → cache′ ≡ l ∷ place ∷ 0 ∷ without used cache → Filter cache′ used′ filter′
+filter-gains f l place room more is-bit is-put stored =
+    rw (more, is-put, is-bit, stored) (filter-entered f l place (omega (arith, f .cache-fits)))
+
+pub filter-loses : {cache filter cache′ filter′ : List ℕ} {used used′ b : ℕ} → Filter cache used filter → (g : Geometry) (i : ℕ)
+    → Accepted g → Entries-fit g cache used → i + 1 ≡ used → used′ ≡ used - 1 → b ≡ bit-of (logical-at i cache) → filter′ ≡ flip filter b
+    → cache′ ≡ sets cache (i * 3) (none ∷ none ∷ none ∷ []) → Filter cache′ used′ filter′
+filter-loses {used = used} {used′} f g i ok fits last less is-bit is-flip stored =
+    let is-i : used′ ≡ i = omega (arith, less, last) in
+    rw (is-i, is-flip, is-bit, stored) (filter-forgotten f g i (logical-few ok) fits (omega (arith, last)))
+  where
+    fewer : (d t : ℕ) → d - 1 ≤ d + t
+    fewer d t = omega arith
+
+    logical-few : {g : Geometry} → Accepted g → g .L ≤ 65536
+    logical-few {g} ok = omega (arith, ok .L-to, few-pages ok, mul-le-mul-right (g .P) (fewer (g .D) (g .T)))
+
+-- One entry more has its bit.
+pub fill-more : (cache filter : List ℕ) (i : ℕ) {b : ℕ} {filter′ : List ℕ} → i * 3 < length cache → length filter ≡ 1024
+    → ((k : ℕ) → k < i → has filter (bit-of (logical-at k cache)) ≡ true) → b ≡ bit-of (getD cache (i * 3) 0) → filter′ ≡ put filter b
+    → (length filter′ ≡ 1024) × ((k : ℕ) → k < i + 1 → has filter′ (bit-of (logical-at k cache)) ≡ true)
+fill-more cache filter i {b} h long before is-bit is-put =
+    let own : b ≡ bit-of (logical-at i cache) = is-bit ∙ ap bit-of (getD-any cache (i * 3) 0 none h) in
+    rw (is-put, own) (
+      length-put filter (bit-of (logical-at i cache)) ∙ long,
+      λ k l. last k i (omega arith)
+          (λ m. still filter (logical-at i cache) long (logical-at k cache) (before k m))
+          (λ q. rw q (put-there filter (logical-at i cache) long)),
+    )

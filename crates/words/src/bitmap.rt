@@ -1,0 +1,31 @@
+// A set of the numbers below 65,536, a bit for each, in 8 KiB of stack: logical pages, in windows of that many where there may be more.
+ghost use mathlib.Core.Path.{_≡_};
+ghost use Prim.Native.Nat.{_<_};
+ghost use Rattle.words.specs.Bitmap.{has, put, flip};
+
+// Whether i is in the set.
+pub fn has(map: &[u64; 1024], i: usize) -> bool
+    requires { ⌜ i < 65536 ⌝ }
+    ensures { λ r. ⌜ r ≡ has (now (map .entry)) i ⌝ }
+{
+    let word = map[i / 64];
+    (word >> (i % 64)) % 2 == 1
+}
+
+// The set with i.
+pub fn put(map: &mut [u64; 1024], i: usize)
+    requires { ⌜ i < 65536 ⌝ }
+    ensures { λ _. ⌜ now (map .exit) ≡ put (now (map .entry)) i ⌝ }
+{
+    let word = map[i / 64];
+    map[i / 64] = word | (1u64 << (i % 64));
+}
+
+// The set with i where it was without, and without i where it was with it.
+pub fn flip(map: &mut [u64; 1024], i: usize)
+    requires { ⌜ i < 65536 ⌝ }
+    ensures { λ _. ⌜ now (map .exit) ≡ flip (now (map .entry)) i ⌝ }
+{
+    let word = map[i / 64];
+    map[i / 64] = word ^ (1u64 << (i % 64));
+}
