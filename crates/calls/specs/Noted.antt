@@ -13,7 +13,7 @@ use Rattle.flash.specs.Words.{Lengths}
 use Rattle.words.specs.Bitmap.{has}
 use Rattle.steps.specs.Lies.{Spare-lent}
 use Rattle.steps.specs.Entries.{Cache-lent}
-use Rattle.steps.specs.Census.{Census}
+use Rattle.words.specs.Census.{Census}
 use Rattle.steps.specs.Filter.{Filter, bit-of}
 use Rattle.calls.specs.Tested.{state-passes, geometry-passes, lengths-pass, soundness-passes}
 

@@ -5,7 +5,7 @@ use lent::Record;
 ghost use mathlib.Core.Path.{_≡_};
 ghost use lib.ListN.{length};
 ghost use Rattle.lent.specs.Model.{geometry};
-ghost use Rattle.steps.specs.Census.{Census};
+ghost use Rattle.words.specs.Census.{Census};
 ghost use Rattle.steps.specs.Entries.{Cache-lent};
 ghost use Rattle.steps.specs.Filter.{Filter};
 ghost use Rattle.steps.specs.Lies.{Spare-lent};

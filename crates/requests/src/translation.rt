@@ -19,7 +19,7 @@ ghost use Rattle.scope.specs.Operations.{nothing};
 ghost use Rattle.scope.specs.Cache.{is-changed};
 ghost use Rattle.scope.specs.Steps.{write-back, drop-entry, drop-if-full, fetch, translate};
 ghost use Rattle.promises.specs.Update.{update-bound};
-ghost use Rattle.steps.specs.Census.{Census};
+ghost use Rattle.words.specs.Census.{Census};
 ghost use Rattle.steps.specs.Filter.{Filter};
 ghost use Rattle.requests.specs.Ready.{lent, Does-all, Ready, Ready-for};
 ghost use Rattle.requests.specs.Translating.{translate-bound, Fetches, Does-fetch};

@@ -16,3 +16,4 @@ pub mod Places
 pub mod PastL
 pub mod Survey
 pub mod Whole
+pub mod Census

@@ -1,19 +1,23 @@
 // The whole state: the seven rules, each with what the earlier ones give. The first that fails ends the test. They come in document 01's
 // order but for rule 2, which rules 4 and 6 decide with their own.
 ghost use mathlib.Core.Path.{_≡_};
+ghost use mathlib.Core.Bool.{true};
+ghost use Prim.Native.Nat.{_≤_};
 ghost use lib.ListN.{length};
 ghost use Rattle.flash.specs.Words.{Lengths-fit};
 ghost use Rattle.lent.specs.Model.{geometry, state, small};
 ghost use Rattle.scope.specs.Decisions.{sound};
-ghost use Rattle.scope.specs.Geometry.{Accepted};
+ghost use Rattle.scope.specs.Geometry.{Accepted, blocks};
 ghost use Rattle.scope.specs.Lent.{chip-size, spare-size, directory-size};
 ghost use Rattle.scope.specs.Regions.{Data};
+ghost use Rattle.words.specs.Census.{Census};
 ghost use Rattle.soundness.specs.Named.{valid-in};
 ghost use Rattle.soundness.specs.Survey.{Found};
 ghost use Rattle.soundness.specs.Whole.{flash-sound, cache-sound, Flash-holds};
 use crate::blocks::Survey;
 use crate::blocks::data_fits;
 use crate::blocks::translation_fits;
+use crate::census::take;
 use crate::directory::directory_names;
 use crate::entries::entries_fit;
 use crate::places::places_hold;
@@ -70,7 +74,7 @@ fn cache_sound(
     unchanged_agree(g, chip, directory, cache, used)
 }
 
-// Whether the state is sound, for any words in the slices and any numbers in the record.
+// Whether the state is sound, for any words in the slices and any numbers in the record. Where it is, the census is taken.
 pub fn is_sound(
     g: Geometry,
     chip: &[u32],
@@ -78,15 +82,22 @@ pub fn is_sound(
     directory: &[u32],
     cache: &[u32],
     rec: Record,
+    census: &mut [u32],
 ) -> bool
     requires { ⌜ Accepted (geometry g) ⌝ }
     requires { ⌜ Lengths-fit (geometry g) (now chip) (now spare) (now directory) (now cache) ⌝ }
+    requires { ⌜ blocks (geometry g) ≤ length (now census) ⌝ }
     ensures { λ r. ⌜ r ≡ sound (geometry g)
         (state (now (chip .entry)) (now (spare .entry)) (now (directory .entry)) (now (cache .entry)) rec) ⌝ }
+    ensures { λ r. ⌜ (r ≡ true → Census (geometry g) (now (spare .entry)) (now (census .exit))) ⌝ }
 {
     let flash = flash_sound(g, chip, spare, directory, rec);
     if !flash.fits {
         return false;
     }
-    cache_sound(g, chip, spare, directory, cache, rec.used, flash.valid)
+    if !cache_sound(g, chip, spare, directory, cache, rec.used, flash.valid) {
+        return false;
+    }
+    take(g, spare, census);
+    true
 }

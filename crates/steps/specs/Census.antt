@@ -1,115 +1,29 @@
--- The census: a number for each block, kept beside the spare by whatever changes a page's state, so that the searches among a region's
--- blocks read no page. It is how many of the block's pages are valid, and 256 more for each that is erased: a block has no erased page
--- where its number is below 256, and is then told by its valid pages; it is wholly erased where its number is 256 times P.
+-- Laws of the census (crate words says what its numbers stand for): what the searches among a region's blocks find by it, and how the
+-- steps that change a page's state keep it.
 use Prim.Native.Nat.{ℕ, zero, suc, _+_, _-_, _*_, _/_, _%_, _≤_, _<_}
 use mathlib.Core.Path.{_≡_, refl, sym, ap, _∙_}
 use mathlib.Core.Logic.{_≢_, ⊎-elim}
-use mathlib.Core.Bool.{Bool, true, false, not, cond}
+use mathlib.Core.Bool.{Bool, true}
 use mathlib.Core.List.{List, [], _∷_}
-use native.Mathlib.Nat.{div-add-mod', mod-lt, div-lt-iff-lt-mul, mul-le-mul-right}
-use native.Mathlib.Numerals.{add-one}
+use native.Mathlib.Nat.{div-add-mod', mod-lt, div-lt-iff-lt-mul}
 use native.Mathlib.Omega.{arith}
 use lib.Dec.{eqb, ltb}
 use lib.ListN.{length, getD, set, replicate, length-set}
 use lib.Seq.{sets, getD-set-same, getD-set-other}
-use borrow.Author.Tests.{eqb-true, eq-eqb, ne-eqb, lt-ltb, le-ltb, not-true, not-false}
-use Rattle.scope.specs.Counting.{all, count, lowest, fewest}
+use Rattle.scope.specs.Counting.{count, lowest, fewest}
 use Rattle.scope.specs.Geometry.{Geometry, Accepted, blocks, pages}
 use Rattle.scope.specs.Regions.{Region, Data, Translation, first-block, region-blocks, page-in}
-use Rattle.scope.specs.Lent.{State, none, erased, valid, invalid, state-of, is-erased, is-valid}
-use Rattle.scope.specs.Blocks.{wholly-erased, no-erased-page, valid-pages}
+use Rattle.scope.specs.Lent.{State, none, erased, valid, invalid, state-of}
+use Rattle.scope.specs.Blocks.{wholly-erased}
 use Rattle.scope.specs.Room.{erased-blocks, lowest-erased, victim}
-use Rattle.flash.specs.Cases.{on, same?, last, clash}
-use Rattle.flash.specs.Counting.{sum, sum-same, all-each, all-fails, count-le, count-each, count-none, count-one, count-fails, count-same}
+use Rattle.flash.specs.Cases.{same?, last, clash}
+use Rattle.flash.specs.Counting.{sum, sum-same, count-same}
 use Rattle.flash.specs.Searching.{Is-fewest, fewest-cases}
 use Rattle.flash.specs.Stores.{slot-below, slot-same, getD-sets-inside, record-kept, block-filled, block-kept}
 use Rattle.words.specs.Runs.{getD-any}
 use Rattle.words.specs.Searches.{fewest-unique}
+use Rattle.words.specs.Census.{weight, weigh, Census, weighs-little, erased-told, full-told, valid-told}
 use Rattle.steps.specs.Lies.{Spare-lent, spare-lies}
-
-abbrev pub weight : ℕ → ℕ
-weight state = cond (eqb state valid) 1 (cond (eqb state erased) 256 0)
-
-abbrev pub weigh : Geometry → List ℕ → ℕ → ℕ
-weigh g spare b = sum (g .P) (λ i. weight (state-of (page-in g b i) spare))
-
-pub record Census (g : Geometry) (spare census : List ℕ) : Type 0 where
-  pub long : blocks g ≤ length census
-  pub each : (b : ℕ) → b < blocks g → getD census b 0 ≡ weigh g spare b
-
-pub weight-most : (state : ℕ) → weight state ≤ 256
-weight-most state =
-    on (eqb state valid) (λ p. rw p (omega arith))
-    (λ p. on (eqb state erased) (λ q. rw (p, q) (omega arith)) (λ q. rw (p, q) (omega arith)))
-
--- The first n pages weigh little; one page more.
-pub weights-most : (n : ℕ) (s : ℕ → ℕ) → sum n (λ i. weight (s i)) ≤ 256 * n
-weights-most zero s = omega arith
-weights-most (suc n) s = omega (arith, weights-most n s, weight-most (s n))
-
-pub weigh-next : (spare : List ℕ) (first i k x : ℕ) → (first + i) * 2 < length spare
-    → k ≡ sum i (λ j. weight (state-of (first + j) spare)) → x ≡ weight (getD spare ((first + i) * 2) 0)
-    → k + x ≡ sum (i + 1) (λ j. weight (state-of (first + j) spare))
-weigh-next spare first i k x h e q = rw (add-one, e, q, getD-any spare ((first + i) * 2) 0 none h) refl
-
--- ---- what a number tells
-
-valid-not-erased : (x : ℕ) → eqb x valid ≡ true → eqb x erased ≡ false
-valid-not-erased x p = ne-eqb x erased (λ e. omega (arith, eqb-true x valid p))
-
-erased-not-valid : (x : ℕ) → eqb x erased ≡ true → eqb x valid ≡ false
-erased-not-valid x p = ne-eqb x valid (λ e. omega (arith, eqb-true x erased p))
-
-in-counts : (n : ℕ) (s : ℕ → ℕ)
-    → sum n (λ i. weight (s i)) ≡ count n (λ i. eqb (s i) valid) + 256 * count n (λ i. eqb (s i) erased)
-in-counts zero s = refl
-in-counts (suc n) s =
-    let ih = in-counts n s in
-    on (eqb (s n) valid)
-    (λ p. rw (p, valid-not-erased (s n) p) (omega (arith, ih)))
-    (λ p. on (eqb (s n) erased) (λ q. rw (p, q) (omega (arith, ih))) (λ q. rw (p, q) (omega (arith, ih))))
-
-module _ (g : Geometry) (few : g .P ≤ 64) (spare : List ℕ) (b : ℕ) where
-  abbrev erased-at : ℕ → Bool
-  erased-at i = is-erased (page-in g b i) spare
-
-  weighs : weigh g spare b ≡ valid-pages g spare b + 256 * count (g .P) erased-at
-  weighs = in-counts (g .P) (λ i. state-of (page-in g b i) spare)
-
-  valid-few : valid-pages g spare b ≤ 64
-  valid-few = omega (arith, count-le (g .P) (λ i. is-valid (page-in g b i) spare))
-
-  pub weighs-little : weigh g spare b ≤ 16640
-  weighs-little = omega (arith, weighs, valid-few, count-le (g .P) erased-at)
-
-  pub erased-told : wholly-erased g spare b ≡ eqb (weigh g spare b) (256 * g .P)
-  erased-told =
-      on (wholly-erased g spare b)
-      (λ p.
-      let each = all-each (g .P) erased-at p in
-      p ∙ sym (eq-eqb (weigh g spare b) (256 * g .P) (omega (
-        arith,
-        weighs,
-        count-each (g .P) erased-at each,
-        count-none (g .P) (λ i. is-valid (page-in g b i) spare) (λ i h. erased-not-valid (state-of (page-in g b i) spare) (each i h)),
-      ))))
-      (λ p.
-      let some = all-fails (g .P) erased-at p in
-      p ∙ sym (ne-eqb (weigh g spare b) (256 * g .P) (λ e. omega (arith, e, weighs, valid-few, count-fails (g .P) erased-at (some .0) (some .1) (some .2)))))
-
-  no-erased : no-erased-page g spare b ≡ true → count (g .P) erased-at ≡ 0
-  no-erased p = count-none (g .P) erased-at (λ i h. not-true (erased-at i) (all-each (g .P) (λ j. not (erased-at j)) p i h))
-
-  pub full-told : no-erased-page g spare b ≡ ltb (weigh g spare b) 256
-  full-told =
-      on (no-erased-page g spare b)
-      (λ p. p ∙ sym (lt-ltb (weigh g spare b) 256 (omega (arith, weighs, valid-few, no-erased p))))
-      (λ p.
-      let some = all-fails (g .P) (λ i. not (erased-at i)) p in
-      p ∙ sym (le-ltb (weigh g spare b) 256 (omega (arith, weighs, count-one (g .P) erased-at (some .0) (some .1) (not-false (erased-at (some .0)) (some .2))))))
-
-  pub valid-told : no-erased-page g spare b ≡ true → weigh g spare b ≡ valid-pages g spare b
-  valid-told p = omega (arith, weighs, no-erased p)
 
 -- ---- the searches
 
@@ -343,18 +257,3 @@ census-erased {g} {spare} {census} kept b h fits e =
         (ap (λ (k : ℕ). getD filled k none) (omega arith)
         ∙ block-kept spare 2 (g .P) b (page-in g c j) 0 erased none (omega arith) (λ i m q. other (slot-same (g .P) c b j i l m q))
         ∙ ap (λ (k : ℕ). getD spare k none) (omega arith)))
-
--- A block's states lie in the spare.
-pub block-lies-spare : {g : Geometry} {spare : List ℕ} → Spare-lent g spare → (b : ℕ) → b < blocks g → (b * g .P + g .P) * 2 ≤ length spare
-block-lies-spare {g} lent b h = omega (arith, mul-le-mul-right (g .P) h, lent .spare-fits)
-
--- The census of the first n blocks of p pages, as it is taken.
-abbrev pub Taken : ℕ → List ℕ → ℕ → List ℕ → Type 0
-Taken p spare n census = (b : ℕ) → b < n → getD census b 0 ≡ sum p (λ i. weight (state-of (b * p + i) spare))
-
-pub taken-more : (p : ℕ) (spare census : List ℕ) {n x : ℕ} → n < length census → x ≡ sum p (λ i. weight (state-of (n * p + i) spare))
-    → Taken p spare n census → Taken p spare (n + 1) (set census n x)
-taken-more p spare census {n} {x} h e before b k =
-    last b n (omega arith)
-    (λ l. getD-set-other census n b x 0 (λ q. omega arith) ∙ before b l)
-    (λ q. rw q (getD-set-same census n x 0 h ∙ e))

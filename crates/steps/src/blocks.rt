@@ -1,9 +1,9 @@
 // A region's numbers, of the geometry and of the small record, and the searches among its blocks.
-use crate::census::ERASED_PAGE;
 use lent::Geometry;
 use lent::Record;
 use lent::Region;
 use lent::Work;
+use words::census::ERASED_PAGE;
 use words::census::count_equal;
 use words::census::fewest_below;
 use words::census::lowest_equal;
@@ -15,7 +15,7 @@ ghost use Rattle.scope.specs.Lent.{State};
 ghost use Rattle.scope.specs.Room.{erased-blocks, lowest-erased, victim, open-lowest};
 ghost use Rattle.lent.specs.Shapes.{Does-by-spare};
 ghost use Rattle.scope.specs.Geometry.{Accepted};
-ghost use Rattle.steps.specs.Census.{Census};
+ghost use Rattle.words.specs.Census.{Census};
 
 pub fn first_block(g: Geometry, r: Region) -> u32
     ensures { λ x. ⌜ x ≡ first-block (geometry g) (region r) ⌝ }

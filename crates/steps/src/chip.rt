@@ -2,7 +2,6 @@
 use crate::blocks::next_offset;
 use crate::blocks::open_block;
 use crate::blocks::with_open;
-use crate::census::ERASED_PAGE;
 use crate::census::restate;
 use lent::Entry;
 use lent::Geometry;
@@ -16,6 +15,7 @@ use lent::Work;
 use lent::count_erase;
 use lent::count_program;
 use lent::count_read;
+use words::census::ERASED_PAGE;
 use words::runs::copy_in;
 use words::runs::copy_out;
 use words::runs::copy_within;
@@ -32,7 +32,7 @@ ghost use Rattle.scope.specs.Steps.{word-for};
 ghost use Rattle.lent.specs.Model.{geometry, small, region, entry};
 ghost use Rattle.lent.specs.Shapes.{Does-flash, Does-by-chip, Room-to-count};
 ghost use Rattle.steps.specs.Lies.{Chip-lent, Spare-lent, next-page, Has-next};
-ghost use Rattle.steps.specs.Census.{Census};
+ghost use Rattle.words.specs.Census.{Census};
 ghost use Rattle.steps.specs.Chip.{Claimed, Begun, marked, relocate};
 
 // Block b is erased.

@@ -10,7 +10,7 @@ use steps::chip::mark_old;
 use steps::directory::named;
 use steps::directory::names_it;
 ghost use Rattle.lent.specs.Model.{geometry};
-ghost use Rattle.steps.specs.Census.{Census};
+ghost use Rattle.words.specs.Census.{Census};
 ghost use Rattle.update.specs.Writing.{Page-ready, Begins, Finish-ready, Written};
 
 // Room is made, and the open block's next page has the words of translation page t, or none throughout.

@@ -14,7 +14,7 @@ ghost use Rattle.scope.specs.Regions.{Translation};
 ghost use Rattle.scope.specs.Room.{move-if-valid, move-pages, collect, open-or-collect, make-room};
 ghost use Rattle.scope.specs.Steps.{directory-follows};
 ghost use Rattle.lent.specs.Model.{geometry};
-ghost use Rattle.steps.specs.Census.{Census};
+ghost use Rattle.words.specs.Census.{Census};
 ghost use Rattle.update.specs.Index.{Does-index, Room-ready};
 ghost use Rattle.update.specs.Moving.{Move-ready, Copy-ready};
 ghost use Rattle.update.specs.Collecting.{Full-ready, Collect-ready};

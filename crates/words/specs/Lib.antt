@@ -4,3 +4,4 @@ pub mod Entries
 pub mod States
 pub mod Searches
 pub mod Bitmap
+pub mod Census

@@ -4,7 +4,7 @@ use mathlib.Core.Path.{_≡_, refl, sym, _∙_}
 use Prim.Native.Nat.{_-_}
 use lib.ListN.{length}
 use Rattle.lent.specs.Model.{geometry}
-use Rattle.steps.specs.Census.{Census}
+use Rattle.words.specs.Census.{Census}
 use Rattle.update.specs.Moves.{first-moves}
 use Rattle.update.specs.Settling.{M-small, Settling, settle-starts, settle-next, settle-goes-on, settle-ends}
 use Rattle.update.proofs.settle.Statement.{statement}

@@ -5,7 +5,7 @@ use mathlib.Core.Path.{_≡_, refl, sym, _∙_, subst}
 use native.Mathlib.Omega.{arith}
 use lib.ListN.{length}
 use Rattle.steps.specs.Lies.{spare-lies}
-use Rattle.steps.specs.Census.{Census}
+use Rattle.words.specs.Census.{Census}
 use Rattle.steps.specs.Filter.{Filter}
 use Rattle.lent.specs.Model.{geometry}
 use Rattle.update.specs.Moves.{first-moves, Waits-in}

@@ -4,7 +4,7 @@ use native.Mathlib.Omega.{arith}
 use Prim.Native.Nat.{ℕ, _+_, _-_}
 use lib.ListN.{getD, set}
 use borrow.Author.Needs.{needs}
-use Rattle.steps.specs.Census.{weight-most}
+use Rattle.words.specs.Census.{weight-most}
 use Rattle.steps.proofs.census.restate.Statement.{statement}
 use Rattle.steps.proofs.census.restate.Tie as tie
 

@@ -5,7 +5,7 @@ use Prim.Native.Nat.{_-_}
 use lib.ListN.{length}
 use borrow.Author.Needs.{needs}
 use Rattle.lent.specs.Model.{geometry}
-use Rattle.steps.specs.Census.{Census}
+use Rattle.words.specs.Census.{Census}
 use Rattle.update.specs.Moving.{Copied-upto, none-copied, one-copied, is-small, next-ready, still-lent}
 use Rattle.update.proofs.room.move_pages.Statement.{statement}
 use Rattle.update.proofs.room.move_pages.Tie as tie

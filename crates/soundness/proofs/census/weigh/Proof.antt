@@ -1,13 +1,13 @@
--- `steps::census::weigh` meets its contract. The invariant: what the first i pages weigh.
+-- `soundness::census::weigh` meets its contract. The invariant: what the first i pages weigh.
 use Prim.Native.Nat.{ℕ, _+_, _-_, _≤_}
 use mathlib.Core.Path.{_≡_, ap, _∙_}
 use native.Mathlib.Omega.{arith}
 use borrow.Author.Needs.{needs}
 use Rattle.scope.specs.Lent.{state-of}
 use Rattle.flash.specs.Counting.{sum}
-use Rattle.steps.specs.Census.{weight, weights-most, weigh-next}
-use Rattle.steps.proofs.census.weigh.Statement.{statement}
-use Rattle.steps.proofs.census.weigh.Tie as tie
+use Rattle.words.specs.Census.{weight, weights-most, weigh-next}
+use Rattle.soundness.proofs.census.weigh.Statement.{statement}
+use Rattle.soundness.proofs.census.weigh.Tie as tie
 
 abbrev Inv-loop : tie.InvT-loop
 Inv-loop spare first p number₀ i₀ number i = (i ≤ p) × (number ≡ sum i (λ j. weight (state-of (first + j) spare)))
