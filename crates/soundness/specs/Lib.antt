@@ -15,5 +15,5 @@ pub mod Translated
 pub mod Places
 pub mod PastL
 pub mod Survey
-pub mod Whole
 pub mod Census
+pub mod Whole

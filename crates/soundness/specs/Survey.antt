@@ -23,14 +23,15 @@ use Rattle.soundness.specs.Pages as Pages
 use Rattle.soundness.specs.declared.pages.Block.{Block}
 use Rattle.soundness.specs.declared.blocks.Survey.{Survey}
 
--- What a walk found: whether a test passes, and, where it does, a count.
-pub record Found (s : Survey) (test : Bool) (valid : ℕ) : Type 0 where
+-- What a walk found: whether a test passes, and, where it does, a count, and what the census then has.
+pub record Found (s : Survey) (test : Bool) (valid : ℕ) (Numbered : Type 0) : Type 0 where
   pub tells : s .fits ≡ test
   pub counts : s .fits ≡ true → s .valid ≡ valid
+  pub numbers : s .fits ≡ true → Numbered
 
 -- A walk that stopped early.
-pub found-broken : (s : Survey) (test : Bool) (valid : ℕ) → s .fits ≡ false → false ≡ test → Found s test valid
-found-broken s test valid fails is = record { tells = fails ∙ is; counts = λ p. clash p fails }
+pub found-broken : (s : Survey) (test : Bool) (valid : ℕ) {Numbered : Type 0} → s .fits ≡ false → false ≡ test → Found s test valid Numbered
+found-broken s test valid fails is = record { tells = fails ∙ is; counts = λ p. clash p fails; numbers = λ p. clash p fails }
 
 -- The two rules of a region.
 abbrev pub region-sound : Geometry → Region → List ℕ → List ℕ → SmallRecord → Bool
@@ -53,12 +54,13 @@ abbrev pub row-valid : ℕ → ℕ → List ℕ → ℕ → Bool
 row-valid P first spare j = is-valid (first * P + j) spare
 
 -- Scope's rules of a region are those of its row of blocks.
-pub found-region : (g : Geometry) (r : Region) (chip spare : List ℕ) (small : SmallRecord) (s : Survey) (limit : ℕ) → limit ≡ owners g r
+pub found-region : (g : Geometry) (r : Region) (chip spare : List ℕ) (small : SmallRecord) (s : Survey) (limit : ℕ) {Numbered : Type 0} → limit ≡ owners g r
     → Found s
     (Blocks.fits (g .P) (first-block g r) (region-blocks g r) spare (open-block r small) (next-offset r small)
     && all (region-pages g r) (row-fits (g .W) limit (g .P) (first-block g r) chip spare))
     (count (region-pages g r) (row-valid (g .P) (first-block g r) spare))
-    → Found s (region-sound g r chip spare small) (valid-in g r spare)
+    Numbered
+    → Found s (region-sound g r chip spare small) (valid-in g r spare) Numbered
 found-region g r chip spare small s limit is f =
     record {
       tells = f .tells
@@ -66,6 +68,7 @@ found-region g r chip spare small s limit is f =
           (Blocks.fits-region g r spare (open-block r small) (next-offset r small))
           (Pages.fits-region g r chip spare limit is);
       counts = f .counts;
+      numbers = f .numbers;
     }
 
 module _ (W limit P first : ℕ) (chip spare : List ℕ) (opened : ℕ) where

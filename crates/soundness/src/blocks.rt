@@ -1,11 +1,12 @@
 // Rules 1 and 3, of a region with its open block and next offset, in one walk over the region's blocks: what is found of a block's pages
-// tells all that the rules ask, and the valid pages, which rules 4 and 6 ask, are counted on the way. Any open block and offset may
-// come: both are bounded before they lead anywhere.
+// tells all that the rules ask, and the block's number for the census. The valid pages, which rules 4 and 6 ask, are counted on the way.
+// Any open block and offset may come: both are bounded before they lead anywhere.
 use crate::geometry::translation_pages;
 use crate::pages::look;
 use lent::ERASED;
 use lent::Geometry;
 use lent::Record;
+use words::census::ERASED_PAGE;
 use words::states::count_state;
 ghost use mathlib.Core.Path.{_≡_};
 ghost use mathlib.Core.Bool.{false, cond, _&&_, _||_};
@@ -13,11 +14,12 @@ ghost use Prim.Native.Nat.{_+_, _*_, _≤_, _<_};
 ghost use lib.Dec.{eqb};
 ghost use lib.ListN.{length};
 ghost use Rattle.scope.specs.Counting.{all, count};
-ghost use Rattle.scope.specs.Geometry.{Accepted};
+ghost use Rattle.scope.specs.Geometry.{Accepted, blocks, most-pages-in-block};
 ghost use Rattle.scope.specs.Lent.{chip-size, spare-size};
 ghost use Rattle.scope.specs.Regions.{Data, Translation};
 ghost use Rattle.lent.specs.Model.{geometry, small as small-record};
 ghost use Rattle.soundness.specs.Blocks.{open-fits, fits};
+ghost use Rattle.soundness.specs.Census.{Taken, Taken-in};
 ghost use Rattle.soundness.specs.Named.{valid-in};
 ghost use Rattle.soundness.specs.Survey.{Found, rules, row-fits, row-valid, region-sound};
 
@@ -71,6 +73,14 @@ fn none_or_all(n: usize, p: usize) -> bool
     n == 0
 }
 
+// The census's number of a block with so many valid and erased pages.
+fn number(valid: usize, erased: usize) -> u32
+    requires { ⌜ (valid ≤ most-pages-in-block) × (erased ≤ most-pages-in-block) ⌝ }
+    ensures { λ r. ⌜ r ≡ valid + 256 * erased ⌝ }
+{
+    valid as u32 + ERASED_PAGE * erased as u32
+}
+
 // The walk over the n blocks of p pages from block `first` on. Every block but the open one is wholly erased or has no erased page, and
 // there is one of the first kind: the erased pages of these blocks number more than 0. Every page fits.
 fn walk(
@@ -82,12 +92,15 @@ fn walk(
     first: usize,
     n: usize,
     opened: usize,
+    census: &mut [u32],
 ) -> Survey
-    requires { ⌜ (1 ≤ p) × (p < 4294967296) ⌝ }
+    requires { ⌜ (1 ≤ p) × (p ≤ most-pages-in-block) ⌝ }
     requires { ⌜ (first + n) * p * w ≤ length (now chip) ⌝ }
     requires { ⌜ (first + n) * p * 2 ≤ length (now spare) ⌝ }
+    requires { ⌜ first + n ≤ length (now census) ⌝ }
     ensures { λ r. ⌜ Found r (rules w limit p first (now (chip .entry)) (now (spare .entry)) opened n)
-        (count (n * p) (row-valid p first (now (spare .entry)))) ⌝ }
+        (count (n * p) (row-valid p first (now (spare .entry))))
+        (Taken p first n (now (spare .entry)) (now (census .entry)) (now (census .exit))) ⌝ }
 {
     let mut total = 0;
     let mut valid = 0;
@@ -104,6 +117,7 @@ fn walk(
         }
         total += erased;
         valid += block.valid;
+        census[b] = number(block.valid, block.erased);
         i += 1;
     }
     Survey {
@@ -123,13 +137,16 @@ fn region_fits(
     n: usize,
     opened: usize,
     offset: usize,
+    census: &mut [u32],
 ) -> Survey
-    requires { ⌜ (1 ≤ p) × (p < 4294967296) ⌝ }
+    requires { ⌜ (1 ≤ p) × (p ≤ most-pages-in-block) ⌝ }
     requires { ⌜ (first + n) * p * w ≤ length (now chip) ⌝ }
     requires { ⌜ (first + n) * p * 2 ≤ length (now spare) ⌝ }
+    requires { ⌜ first + n ≤ length (now census) ⌝ }
     ensures { λ r. ⌜ Found r
         (fits p first n (now (spare .entry)) opened offset && all (n * p) (row-fits w limit p first (now (chip .entry)) (now (spare .entry))))
-        (count (n * p) (row-valid p first (now (spare .entry)))) ⌝ }
+        (count (n * p) (row-valid p first (now (spare .entry))))
+        (Taken p first n (now (spare .entry)) (now (census .entry)) (now (census .exit))) ⌝ }
 {
     if opened < first {
         return broken();
@@ -143,16 +160,24 @@ fn region_fits(
     if !open_fits(spare, p, opened, offset) {
         return broken();
     }
-    walk(chip, spare, w, limit, p, first, n, opened)
+    walk(chip, spare, w, limit, p, first, n, opened, census)
 }
 
 // Both rules for the data region.
-pub fn data_fits(g: Geometry, chip: &[u32], spare: &[u32], small: Record) -> Survey
+pub fn data_fits(
+    g: Geometry,
+    chip: &[u32],
+    spare: &[u32],
+    small: Record,
+    census: &mut [u32],
+) -> Survey
     requires { ⌜ Accepted (geometry g) ⌝ }
     requires { ⌜ length (now chip) ≡ chip-size (geometry g) ⌝ }
     requires { ⌜ length (now spare) ≡ spare-size (geometry g) ⌝ }
+    requires { ⌜ blocks (geometry g) ≤ length (now census) ⌝ }
     ensures { λ r. ⌜ Found r (region-sound (geometry g) Data (now (chip .entry)) (now (spare .entry)) (small-record small))
-        (valid-in (geometry g) Data (now (spare .entry))) ⌝ }
+        (valid-in (geometry g) Data (now (spare .entry)))
+        (Taken-in (geometry g) Data (now (spare .entry)) (now (census .entry)) (now (census .exit))) ⌝ }
 {
     region_fits(
         chip,
@@ -164,16 +189,25 @@ pub fn data_fits(g: Geometry, chip: &[u32], spare: &[u32], small: Record) -> Sur
         g.d as usize,
         small.open_data as usize,
         small.data_offset as usize,
+        census,
     )
 }
 
 // Both rules for the translation region.
-pub fn translation_fits(g: Geometry, chip: &[u32], spare: &[u32], small: Record) -> Survey
+pub fn translation_fits(
+    g: Geometry,
+    chip: &[u32],
+    spare: &[u32],
+    small: Record,
+    census: &mut [u32],
+) -> Survey
     requires { ⌜ Accepted (geometry g) ⌝ }
     requires { ⌜ length (now chip) ≡ chip-size (geometry g) ⌝ }
     requires { ⌜ length (now spare) ≡ spare-size (geometry g) ⌝ }
+    requires { ⌜ blocks (geometry g) ≤ length (now census) ⌝ }
     ensures { λ r. ⌜ Found r (region-sound (geometry g) Translation (now (chip .entry)) (now (spare .entry)) (small-record small))
-        (valid-in (geometry g) Translation (now (spare .entry))) ⌝ }
+        (valid-in (geometry g) Translation (now (spare .entry)))
+        (Taken-in (geometry g) Translation (now (spare .entry)) (now (census .entry)) (now (census .exit))) ⌝ }
 {
     region_fits(
         chip,
@@ -185,5 +219,6 @@ pub fn translation_fits(g: Geometry, chip: &[u32], spare: &[u32], small: Record)
         g.t as usize,
         small.open_translation as usize,
         small.translation_offset as usize,
+        census,
     )
 }

@@ -17,7 +17,6 @@ ghost use Rattle.soundness.specs.Whole.{flash-sound, cache-sound, Flash-
 use crate::blocks::Survey;
 use crate::blocks::data_fits;
 use crate::blocks::translation_fits;
-use crate::census::take;
 use crate::directory::directory_names;
 use crate::entries::entries_fit;
 use crate::places::places_hold;
@@ -25,20 +24,29 @@ use crate::stored::unchanged_agree;
 use lent::Geometry;
 use lent::Record;
 
-// Rules 1 to 4, of chip, spare and directory; where they hold, the valid data pages are counted too.
-fn flash_sound(g: Geometry, chip: &[u32], spare: &[u32], directory: &[u32], rec: Record) -> Survey
+// Rules 1 to 4, of chip, spare and directory; where they hold, the valid data pages are counted and the census is taken.
+fn flash_sound(
+    g: Geometry,
+    chip: &[u32],
+    spare: &[u32],
+    directory: &[u32],
+    rec: Record,
+    census: &mut [u32],
+) -> Survey
     requires { ⌜ Accepted (geometry g) ⌝ }
     requires { ⌜ length (now chip) ≡ chip-size (geometry g) ⌝ }
     requires { ⌜ length (now spare) ≡ spare-size (geometry g) ⌝ }
     requires { ⌜ length (now directory) ≡ directory-size (geometry g) ⌝ }
+    requires { ⌜ blocks (geometry g) ≤ length (now census) ⌝ }
     ensures { λ r. ⌜ Found r (flash-sound (geometry g) (now (chip .entry)) (now (spare .entry)) (now (directory .entry)) (small rec))
-        (valid-in (geometry g) Data (now (spare .entry))) ⌝ }
+        (valid-in (geometry g) Data (now (spare .entry)))
+        (Census (geometry g) (now (spare .entry)) (now (census .exit))) ⌝ }
 {
-    let data = data_fits(g, chip, spare, rec);
+    let data = data_fits(g, chip, spare, rec, census);
     if !data.fits {
         return data;
     }
-    let translation = translation_fits(g, chip, spare, rec);
+    let translation = translation_fits(g, chip, spare, rec, census);
     if !translation.fits {
         return translation;
     }
@@ -91,13 +99,9 @@ pub fn is_sound(
         (state (now (chip .entry)) (now (spare .entry)) (now (directory .entry)) (now (cache .entry)) rec) ⌝ }
     ensures { λ r. ⌜ (r ≡ true → Census (geometry g) (now (spare .entry)) (now (census .exit))) ⌝ }
 {
-    let flash = flash_sound(g, chip, spare, directory, rec);
+    let flash = flash_sound(g, chip, spare, directory, rec, census);
     if !flash.fits {
         return false;
     }
-    if !cache_sound(g, chip, spare, directory, cache, rec.used, flash.valid) {
-        return false;
-    }
-    take(g, spare, census);
-    true
+    cache_sound(g, chip, spare, directory, cache, rec.used, flash.valid)
 }

@@ -1,7 +1,7 @@
 // What document 01's steps are made of, in code, each equal to its definition in lent words and in counts. blocks: a region's numbers,
 // and the searches among its blocks; census: what these read; chip: operations on chip and spare; directory; entries: the cache.
 pub mod blocks;
-pub mod census;
+mod census;
 pub mod chip;
 pub mod directory;
 pub mod entries;

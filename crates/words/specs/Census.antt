@@ -5,7 +5,6 @@ use Prim.Native.Nat.{ℕ, zero, suc, _+_, _*_, _≤_, _<_}
 use mathlib.Core.Path.{_≡_, refl, sym, _∙_}
 use mathlib.Core.Bool.{Bool, true, false, not, cond}
 use mathlib.Core.List.{List}
-use native.Mathlib.Numerals.{add-one}
 use native.Mathlib.Omega.{arith}
 use lib.Dec.{eqb, ltb}
 use lib.ListN.{length, getD}
@@ -13,11 +12,10 @@ use borrow.Author.Tests.{eqb-true, eq-eqb, ne-eqb, lt-ltb, le-ltb, not-true, not
 use Rattle.scope.specs.Counting.{count}
 use Rattle.scope.specs.Geometry.{Geometry, blocks}
 use Rattle.scope.specs.Regions.{page-in}
-use Rattle.scope.specs.Lent.{none, erased, valid, state-of, is-erased, is-valid}
+use Rattle.scope.specs.Lent.{erased, valid, state-of, is-erased, is-valid}
 use Rattle.scope.specs.Blocks.{wholly-erased, no-erased-page, valid-pages}
 use Rattle.flash.specs.Cases.{on}
 use Rattle.flash.specs.Counting.{sum, all-each, all-fails, count-le, count-each, count-none, count-one, count-fails}
-use Rattle.words.specs.Runs.{getD-any}
 
 abbrev pub weight : ℕ → ℕ
 weight state = cond (eqb state valid) 1 (cond (eqb state erased) 256 0)
@@ -34,16 +32,6 @@ weight-most state =
     on (eqb state valid) (λ p. rw p (omega arith))
     (λ p. on (eqb state erased) (λ q. rw (p, q) (omega arith)) (λ q. rw (p, q) (omega arith)))
 
--- The first n pages weigh little; one page more.
-pub weights-most : (n : ℕ) (s : ℕ → ℕ) → sum n (λ i. weight (s i)) ≤ 256 * n
-weights-most zero s = omega arith
-weights-most (suc n) s = omega (arith, weights-most n s, weight-most (s n))
-
-pub weigh-next : (spare : List ℕ) (first i k x : ℕ) → (first + i) * 2 < length spare
-    → k ≡ sum i (λ j. weight (state-of (first + j) spare)) → x ≡ weight (getD spare ((first + i) * 2) 0)
-    → k + x ≡ sum (i + 1) (λ j. weight (state-of (first + j) spare))
-weigh-next spare first i k x h e q = rw (add-one, e, q, getD-any spare ((first + i) * 2) 0 none h) refl
-
 -- ---- what a number tells
 
 valid-not-erased : (x : ℕ) → eqb x valid ≡ true → eqb x erased ≡ false
@@ -52,7 +40,7 @@ valid-not-erased x p = ne-eqb x erased (λ e. omega (arith, eqb-true x valid p))
 erased-not-valid : (x : ℕ) → eqb x erased ≡ true → eqb x valid ≡ false
 erased-not-valid x p = ne-eqb x valid (λ e. omega (arith, eqb-true x erased p))
 
-in-counts : (n : ℕ) (s : ℕ → ℕ)
+pub in-counts : (n : ℕ) (s : ℕ → ℕ)
     → sum n (λ i. weight (s i)) ≡ count n (λ i. eqb (s i) valid) + 256 * count n (λ i. eqb (s i) erased)
 in-counts zero s = refl
 in-counts (suc n) s =

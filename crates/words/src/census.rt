@@ -1,28 +1,15 @@
-// The census, which holds a number for each block: what a page adds to it, and searches, none of which looks at a page.
-// specs/Census.antt says what the numbers stand for.
-use lent::ERASED;
-use lent::VALID;
+// Searches in a census, which holds a number for each block, so that none of them looks at a page. specs/Census.antt says what the
+// numbers stand for.
 ghost use mathlib.Core.Path.{_≡_};
 ghost use mathlib.Core.Bool.{cond};
 ghost use Prim.Native.Nat.{_+_, _≤_};
 ghost use lib.Dec.{eqb, ltb};
 ghost use lib.ListN.{length, getD};
 ghost use Rattle.scope.specs.Counting.{count, lowest, fewest};
-ghost use Rattle.words.specs.Census.{weight};
 use crate::states::bit;
 
 // What an erased page adds to its block's number: more than all valid pages of a block.
 pub const ERASED_PAGE: u32 = 256;
-
-// What a page in this state adds.
-pub fn weight(state: u32) -> u32
-    ensures { λ r. ⌜ r ≡ weight state ⌝ }
-{
-    if state == VALID {
-        return 1;
-    }
-    if state == ERASED { ERASED_PAGE } else { 0 }
-}
 
 // How many of the n numbers from `first` on are x.
 pub fn count_equal(census: &[u32], first: usize, n: usize, x: u32) -> usize

@@ -25,10 +25,13 @@ cast-region-fits-5 c = search needs
 region-fits-requires : tie.Need-region-fits-requires
 region-fits-requires c κs = search needs
 
+same-length : tie.Need-same-length
+same-length c = search needs
+
 returns : tie.Need-returns
 returns c =
-    let a = c .before .before .before .before .before .before .before .before .args in
-    found-region (geometry (a .g)) Data (a .chip .now) (a .spare .now) (small (a .small)) (c .region-fits .result) (a .g .l) refl (c .region-fits .ensures)
+    let a = c .before .before .before .before .before .before .before .before .before .before .before .before .args in
+    found-region (geometry (a .g)) Data (a .chip .now) (a .spare .now) (small (a .small)) (c .before .before .region-fits .result) (a .g .l) refl (c .before .before .region-fits .ensures)
 
 pub data-fits-spec : {M : Type 1} → statement M
 data-fits-spec =
@@ -40,4 +43,5 @@ data-fits-spec =
     cast-region-fits-4
     cast-region-fits-5
     region-fits-requires
+    same-length
     returns)

@@ -17,8 +17,8 @@ returns c = found-broken _ _ _ (c .broken .ensures) (simp (lt-leb _ _ (c .before
 
 add-if2 : tie.Need-add-if2
 add-if2 c =
-    let a = c .before .before .before .args in
-    omega (arith, blocks-inside (a .p) (a .first) (a .n) _ (c .before .before .before .pre .0 .0) (c .before .before .before .pre .1 .1))
+    let a = c .before .before .before .before .args in
+    omega (arith, blocks-inside (a .p) (a .first) (a .n) _ (c .before .before .before .before .pre .0 .0) (c .before .before .before .before .pre .1 .1 .0))
 
 broken-requires-2 : tie.Need-broken-requires-2
 broken-requires-2 c κs = search needs
@@ -38,8 +38,8 @@ returns-3 c =
 
 open-fits-requires : tie.Need-open-fits-requires
 open-fits-requires c κs =
-    let a = c .before .before .before .before .before .args in
-    (block-inside (a .p) (a .first) (a .n) (a .opened) _ (c .before .if2 .left) (c .before .before .before .before .before .pre .1 .1), c .if3 .left)
+    let a = c .before .before .before .before .before .before .args in
+    (block-inside (a .p) (a .first) (a .n) (a .opened) _ (c .before .if2 .left) (c .before .before .before .before .before .before .pre .1 .1 .0), c .if3 .left)
 
 broken-requires-4 : tie.Need-broken-requires-4
 broken-requires-4 c κs = search needs
@@ -53,12 +53,16 @@ returns-4 c =
 walk-requires : tie.Need-walk-requires
 walk-requires c κs = search needs
 
+same-length : tie.Need-same-length
+same-length c = search needs
+
 returns-5 : tie.Need-returns-5
 unfolding fits
 returns-5 c =
     record {
-      tells = simp (le-leb _ _ (c .before .before .before .before .before .if1 .left), lt-ltb _ _ (c .before .before .before .before .if2 .left), le-leb _ _ (c .before .before .before .if3 .left), passed (c .before .before .open-fits .ensures) (c .before .if4 .left)) (c .walk .ensures .tells);
-      counts = c .walk .ensures .counts;
+      tells = simp (le-leb _ _ (c .before .before .before .before .before .before .before .before .if1 .left), lt-ltb _ _ (c .before .before .before .before .before .before .before .if2 .left), le-leb _ _ (c .before .before .before .before .before .before .if3 .left), passed (c .before .before .before .before .before .open-fits .ensures) (c .before .before .before .before .if4 .left)) (c .before .before .walk .ensures .tells);
+      counts = c .before .before .walk .ensures .counts;
+      numbers = c .before .before .walk .ensures .numbers;
     }
 
 pub region-fits-spec : {M : Type 1} → statement M
@@ -76,4 +80,5 @@ region-fits-spec =
     broken-requires-4
     returns-4
     walk-requires
+    same-length
     returns-5)

@@ -16,7 +16,7 @@ translation-pages-requires c κs = search needs
 
 cast-region-fits-2 : tie.Need-cast-region-fits-2
 cast-region-fits-2 c =
-    omega (arith, c .translation-pages .ensures, owners-small (geometry (c .before .before .before .before .args .g)) Translation (c .before .before .before .before .pre .0))
+    omega (arith, c .translation-pages .ensures, owners-small (geometry (c .before .before .before .before .before .args .g)) Translation (c .before .before .before .before .before .pre .0))
 
 cast-region-fits-3 : tie.Need-cast-region-fits-3
 cast-region-fits-3 c = search needs
@@ -36,11 +36,14 @@ cast-region-fits-7 c = search needs
 region-fits-requires : tie.Need-region-fits-requires
 region-fits-requires c κs = search needs
 
+same-length : tie.Need-same-length
+same-length c = search needs
+
 returns : tie.Need-returns
 returns c =
-    let a = c .before .before .before .before .before .before .before .before .before .before .args in
-    found-region (geometry (a .g)) Translation (a .chip .now) (a .spare .now) (small (a .small)) (c .region-fits .result) (c .before .before .before .before .before .before .translation-pages .result) (c .before .before .before .before .before .before .translation-pages .ensures)
-    (c .region-fits .ensures)
+    let a = c .before .before .before .before .before .before .before .before .before .before .before .before .before .before .args in
+    found-region (geometry (a .g)) Translation (a .chip .now) (a .spare .now) (small (a .small)) (c .before .before .region-fits .result) (c .before .before .before .before .before .before .before .before .before .translation-pages .result) (c .before .before .before .before .before .before .before .before .before .translation-pages .ensures)
+    (c .before .before .region-fits .ensures)
 
 pub translation-fits-spec : {M : Type 1} → statement M
 translation-fits-spec =
@@ -55,4 +58,5 @@ translation-fits-spec =
     cast-region-fits-6
     cast-region-fits-7
     region-fits-requires
+    same-length
     returns)

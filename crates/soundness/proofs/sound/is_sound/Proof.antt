@@ -1,5 +1,5 @@
 -- `soundness::sound::is_sound` meets its contract: all seven rules, and the census where they hold.
-use mathlib.Core.Path.{refl, sym, _∙_}
+use mathlib.Core.Path.{refl, _∙_}
 use borrow.Author.Needs.{needs}
 use borrow.Author.Tests.{not-false}
 use denote.Ref.{now}
@@ -13,56 +13,34 @@ use Rattle.soundness.proofs.sound.is_sound.Tie as tie
 flash-sound-requires : tie.Need-flash-sound-requires
 flash-sound-requires c κs = search needs
 
+same-length : tie.Need-same-length
+same-length c = search needs
+
 returns : tie.Need-returns
 returns c =
-    let a = c .before .before .before .before .before .before .before .before .args in (
-      flash-fails (geometry (a .g)) (now (a .chip)) (now (a .spare)) (now (a .directory)) (now (a .cache)) (a .rec) (refused (c .before .before .flash-sound .ensures .tells) (c .if1 .taken)),
-      λ p. clash p refl,
-    )
+    let a = c .before .before .before .before .before .before .before .before .before .before .before .args in
+    (flash-fails (geometry (a .g)) (now (a .chip)) (now (a .spare)) (now (a .directory)) (now (a .cache)) (a .rec) (refused (c .before .before .before .before .flash-sound .ensures .tells) (c .if1 .taken)), λ p. clash p refl)
 
 cache-sound-requires : tie.Need-cache-sound-requires
 cache-sound-requires c κs =
-    let a = c .before .before .before .before .before .before .before .before .args in
-    let pre = c .before .before .before .before .before .before .before .before .pre in
-    let flash = c .before .before .flash-sound .ensures in (
+    let a = c .before .before .before .before .before .before .before .before .before .before .before .args in
+    let pre = c .before .before .before .before .before .before .before .before .before .before .before .pre in
+    let flash = c .before .before .before .before .flash-sound .ensures in (
       pre .0,
       (pre .1 .0, (flash-holds (geometry (a .g)) (now (a .chip)) (now (a .spare)) (now (a .directory)) (small (a .rec)) (passed (flash .tells) (c .if1 .left)), flash .counts (not-false _ (c .if1 .left)))),
     )
 
+same-length-2 : tie.Need-same-length-2
+same-length-2 c = search needs
+
 returns-2 : tie.Need-returns-2
 returns-2 c =
-    let a = c .before .before .before .before .before .before .before .before .before .before .args in (
-      sym (refused (c .before .cache-sound .ensures) (c .if2 .taken))
-          ∙ cache-tells (geometry (a .g)) (now (a .chip)) (now (a .spare)) (now (a .directory)) (now (a .cache)) (a .rec)
-          (passed (c .before .before .before .before .flash-sound .ensures .tells) (c .before .before .if1 .left)),
-      λ p. clash p refl,
-    )
-
-take-requires : tie.Need-take-requires
-take-requires c κs =
-    let pre = c .before .before .before .before .before .before .before .before .before .before .before .pre in
-    (pre .0, pre .1 .0 .spare-fits, pre .1 .1)
-
-same-length : tie.Need-same-length
-same-length c = search needs
-
-returns-3 : tie.Need-returns-3
-returns-3 c =
-    let a = c .before .before .before .before .before .before .before .before .before .before .before .before .before .before .args in (
-      sym (passed (c .before .before .before .before .before .cache-sound .ensures) (c .before .before .before .before .if2 .left))
-          ∙ cache-tells (geometry (a .g)) (now (a .chip)) (now (a .spare)) (now (a .directory)) (now (a .cache)) (a .rec)
-          (passed (c .before .before .before .before .before .before .before .before .flash-sound .ensures .tells) (c .before .before .before .before .before .before .if1 .left)),
-      λ p. c .before .before .take .ensures,
+    let a = c .before .before .before .before .before .before .before .before .before .before .before .before .args in
+    let flash = c .before .before .before .before .before .flash-sound .ensures in (
+      c .cache-sound .ensures ∙ cache-tells (geometry (a .g)) (now (a .chip)) (now (a .spare)) (now (a .directory)) (now (a .cache)) (a .rec) (passed (flash .tells) (c .before .if1 .left)),
+      λ p. flash .numbers (not-false _ (c .before .if1 .left)),
     )
 
 pub is-sound-spec : {M : Type 1} → statement M
 is-sound-spec =
-    tie.close
-    (tie.spec
-    flash-sound-requires
-    returns
-    cache-sound-requires
-    returns-2
-    take-requires
-    same-length
-    returns-3)
+    tie.close (tie.spec flash-sound-requires same-length returns cache-sound-requires same-length-2 returns-2)

@@ -1,8 +1,8 @@
--- `words::census::weight` meets its contract.
+-- `steps::census::weight` meets its contract.
 use mathlib.Core.Path.{refl}
 use borrow.Author.Tests.{eq-eqb, ne-eqb}
-use Rattle.words.proofs.census.weight.Statement.{statement}
-use Rattle.words.proofs.census.weight.Tie as tie
+use Rattle.steps.proofs.census.weight.Statement.{statement}
+use Rattle.steps.proofs.census.weight.Tie as tie
 
 returns : tie.Need-returns
 returns c = rw (eq-eqb _ _ (c .if1 .taken)) refl
