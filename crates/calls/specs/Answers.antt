@@ -2,17 +2,15 @@
 use Prim.Native.Nat.{ℕ}
 use mathlib.Core.Path.{_≡_, refl, sym, ap, _∙_}
 use mathlib.Core.Logic.{_≢_}
-use mathlib.Core.Bool.{Bool, cond, _&&_}
 use mathlib.Core.List.{List, [], _∷_}
 use native.Mathlib.Omega.{arith}
-use lib.Dec.{eqb}
 use lib.ListN.{length, set}
 use borrow.Author.Tests.{eq-eqb, ne-eqb}
 use Rattle.flash.specs.Listed.{counts-same}
 use Rattle.lent.specs.Does.{Does}
 use Rattle.lent.specs.DoesLaws.{does-give, does-look, does-bind, does-cond-true, does-cond-false}
 use Rattle.scope.specs.Lent.{State}
-use Rattle.scope.specs.Operations.{Counts, no-counts, counted, Outcome, Step, look, _>>=_}
+use Rattle.scope.specs.Operations.{Counts, no-counts, Step, look, _>>=_}
 use Rattle.scope.specs.Replies.{DONE, Test, first-applying, admit}
 use Rattle.scope.specs.Boundary.{counts-words, put}
 use Rattle.scope.specs.Contracts.{Answers}

@@ -1,6 +1,6 @@
 -- Format, refused and served.
 use Prim.Native.Nat.{ℕ}
-use mathlib.Core.Path.{_≡_, ap, sym, _∙_}
+use mathlib.Core.Path.{_≡_, sym, _∙_}
 use mathlib.Core.Logic.{_≢_}
 use mathlib.Core.Bool.{Bool, _&&_}
 use mathlib.Core.List.{List}
@@ -21,7 +21,7 @@ use Rattle.calls.specs.Tested.{sizes-pass, geometry-passes, lengths-pass
 module _ (g : Geometry) (s : State) {right others : Bool} {n : ℕ} (named : right ≡ others)
     (tested : n ≡ first-applying (size-tests g (right-sizes (state-sizes g s) && right))) where
   answered : n ≡ first-applying (size-tests g (right-sizes (state-sizes g s) && others))
-  answered = tested ∙ ap (λ (b : Bool). first-applying (size-tests g (right-sizes (state-sizes g s) && b))) named
+  answered = rw named at tested
 
   pub format-sized : n ≡ DONE → Sized g (s .chip) (s .spare) (s .directory) (s .cache)
   format-sized e =

@@ -1,43 +1,30 @@
 -- The notes of a state: the census of its blocks and the filter of its cached pages.
 use Prim.Native.Nat.{ℕ, _<_}
 use mathlib.Core.Path.{_≡_, sym, _∙_}
-use mathlib.Core.Bool.{Bool, true, _&&_}
+use mathlib.Core.Bool.{Bool, true}
 use mathlib.Core.List.{List}
 use lib.ListN.{length}
-use Rattle.scope.specs.Geometry.{Geometry, Accepted}
+use Rattle.scope.specs.Geometry.{Geometry}
 use Rattle.scope.specs.Lent.{State, logical-at}
-use Rattle.scope.specs.Sound.{Sound}
-use Rattle.scope.specs.Replies.{DONE, first-applying, right-sizes}
-use Rattle.scope.specs.Calls.{state-sizes, state-tests}
-use Rattle.flash.specs.Words.{Lengths}
+use Rattle.scope.specs.Replies.{DONE}
 use Rattle.words.specs.Bitmap.{has}
-use Rattle.steps.specs.Lies.{Spare-lent}
 use Rattle.steps.specs.Entries.{Cache-lent}
 use Rattle.words.specs.Census.{Census}
 use Rattle.steps.specs.Filter.{Filter, bit-of}
-use Rattle.calls.specs.Tested.{state-passes, geometry-passes, lengths-pass, soundness-passes}
+use Rattle.calls.specs.Tested.{State-tested, state-passes, lengths-pass, soundness-passes}
 
 pub record Noted (g : Geometry) (s : State) (census filter : List ℕ) : Type 0 where
   pub counted : Census g (s .spare) census
   pub filtered : Filter (s .cache) (s .small .used) filter
 
--- They can be taken of a sound state, so of one that passes the tests.
-pub notable : {g : Geometry} {s : State} → Accepted g → Lengths g s → Sound g s
-    → Spare-lent g (s .spare) × Cache-lent g (s .cache) (s .small .used)
-notable ok lengths sound = (
-  record { accepted = ok; spare-fits = lengths .spare-fits },
-  record { cache-fits = lengths .cache-fits; used-to = sound .rule-5 .at-most },
-)
-
-pub tested-notable : (g : Geometry) (s : State) (others : Bool) {n : ℕ}
-    → n ≡ first-applying (state-tests g (right-sizes (state-sizes g s) && others) s) → n ≡ DONE
-    → Spare-lent g (s .spare) × Cache-lent g (s .cache) (s .small .used)
-tested-notable g s others tested e =
+-- The filter can be filled where a state passes the tests.
+pub cache-passes : (g : Geometry) (s : State) (others : Bool) {n : ℕ} → State-tested g s others n → n ≡ DONE → Cache-lent g (s .cache) (s .small .used)
+cache-passes g s others tested e =
     let pass = state-passes g s others (sym e ∙ tested) in
-    notable
-    (geometry-passes g s others (pass .sizes-passed))
-    (lengths-pass g s others (pass .sizes-passed))
-    (soundness-passes g s others pass)
+    record {
+      cache-fits = lengths-pass g s others (pass .sizes-passed) .cache-fits;
+      used-to = soundness-passes g s others pass .rule-5 .at-most;
+    }
 
 -- A filter with the bits of the entries in use, as it is filled.
 pub filter-filled : {g : Geometry} {cache filter : List ℕ} {used : ℕ} → Cache-lent g cache used

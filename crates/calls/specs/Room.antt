@@ -3,9 +3,6 @@ use Prim.Native.Nat.{ℕ, _+_, _*_, _≤_}
 use native.Mathlib.Omega.{arith}
 use native.Mathlib.Nat.{mul-le-mul}
 use Rattle.scope.specs.Geometry.{Geometry, Accepted}
-use Rattle.scope.specs.Lent.{State}
-use Rattle.lent.specs.declared.Counts.{Counts as Counted}
-use Rattle.requests.specs.Ready.{Ready-for}
 use Rattle.promises.specs.Demands.{read-bound, write-bound}
 
 -- The most that a request costs on any chip.
@@ -18,17 +15,3 @@ module _ {g : Geometry} (ok : Accepted g) where
 
   pub read-few : read-bound g ≤ most-cost
   read-few = omega (arith, ok .P-to)
-
--- Room for less.
-pub ready-less : {l : ℕ} {g : Geometry} {s : State} {c : Counted} (m n : ℕ) → n ≤ m → Ready-for l g s m c → Ready-for l g s n c
-ready-less m n h r =
-    let room = r .ready .countable in
-    record {
-      ready = record {
-        accepted = r .ready .accepted;
-        lengths = r .ready .lengths;
-        sound = r .ready .sound;
-        countable = record { reads = omega (arith, room .reads); programs = omega (arith, room .programs); erases = omega (arith, room .erases) };
-      };
-      below = r .below;
-    }

@@ -17,6 +17,7 @@ use Rattle.calls.specs.declared.run.Running.{Running}
 use Rattle.scope.specs.Boundary.{put}
 use Rattle.calls.specs.Noted.{Noted}
 use Rattle.calls.specs.Sizes.{sizes-of-run, run-right, with-run}
+use Rattle.calls.specs.Tested.{State-tested}
 
 abbrev pub request : Asked → Request
 request q = record { kind = q .kind; page = q .page }
@@ -28,12 +29,10 @@ run-tests g boundary n words answers s =
 
 -- The code tests with `right`, its own name for whether the lengths beside the state's are right.
 pub run-tested : (g : Geometry) (s : State) (n words answers : ℕ) (others : Bool) {r : ℕ} {right : Bool}
-    → right ≡ run-right g n words answers others → r ≡ first-applying (state-tests g (right-sizes (state-sizes g s) && right) s)
+    → right ≡ run-right g n words answers others → State-tested g s right r
     → r ≡ first-applying (run-tests g others n words answers s)
 run-tested g s n words answers others named tested =
-    tested
-    ∙ ap (λ (b : Bool). first-applying (state-tests g (right-sizes (state-sizes g s) && b) s)) named
-    ∙ ap (λ (b : Bool). first-applying (state-tests g b s)) (sym (with-run g s n words answers others))
+    (rw named at tested) ∙ ap (λ (b : Bool). first-applying (state-tests g b s)) (sym (with-run g s n words answers others))
 
 -- The tests made, and where the run is admitted the notes taken; nothing else.
 pub record Begun (g : Geometry) (fits : Bool) (n words answers counted : ℕ) (s : State) (r : Running) (s′ : State)

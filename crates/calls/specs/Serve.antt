@@ -9,7 +9,6 @@ use lib.Dec.{eqb}
 use lib.ListN.{length, take, drop, set, take-append-drop}
 use lib.Seq.{sets, sets-eq, drop-drop}
 use borrow.Author.Tests.{eq-eqb, ne-eqb}
-use Rattle.flash.specs.Cases.{on}
 use Rattle.flash.specs.Words.{Lengths}
 use Rattle.lent.specs.Model.{counts}
 use Rattle.lent.specs.Does.{Does}

@@ -65,7 +65,10 @@ module _ (g : Geometry) (q : Request) where
       below? (q .page) (g .L) (λ p. p)
       (λ p. absurd (below? (q .kind) 2 (λ k. omega (arith, page-refused k p)) (λ k. omega (arith, kind-refused k))))
 
--- `others`: whether the lengths beside the state's are right.
+-- n is the answer of a state's tests; `others`: whether the lengths beside the state's are right.
+abbrev pub State-tested : Geometry → State → Bool → ℕ → Type 0
+State-tested g s others n = n ≡ first-applying (state-tests g (right-sizes (state-sizes g s) && others) s)
+
 module _ (g : Geometry) (s : State) (others : Bool) where
   abbrev sizes : Bool
   sizes = right-sizes (state-sizes g s) && others

@@ -2,10 +2,16 @@
 use lent::Counts;
 ghost use mathlib.Core.Path.{_≡_};
 ghost use Rattle.lent.specs.Model.{counts as numbers};
-ghost use Rattle.scope.specs.Operations.{no-counts};
 ghost use Rattle.scope.specs.Boundary.{put};
 
 pub const COUNTS_WORDS: usize = 3;
+
+// What a refusal counts, and what a call begins with.
+pub const NO_COUNTS: Counts = Counts {
+    reads: 0,
+    programs: 0,
+    erases: 0,
+};
 
 pub fn put_counts(counts: &mut [u32], c: Counts)
     ensures { λ _. ⌜ now (counts .exit) ≡ put (now (counts .entry)) (numbers c) ⌝ }
@@ -16,18 +22,4 @@ pub fn put_counts(counts: &mut [u32], c: Counts)
     counts[0] = c.reads;
     counts[1] = c.programs;
     counts[2] = c.erases;
-}
-
-// What a refusal counts.
-pub fn put_none(counts: &mut [u32])
-    ensures { λ _. ⌜ now (counts .exit) ≡ put (now (counts .entry)) no-counts ⌝ }
-{
-    put_counts(
-        counts,
-        Counts {
-            reads: 0,
-            programs: 0,
-            erases: 0,
-        },
-    );
 }

@@ -1,24 +1,21 @@
 // The five calls by value: 01's tests, then the steps, for every input. No call has a `requires`, and each contract settles the reply, the
 // record, every lent list and the counts by citing the call's definition. `fits` says whether the lengths are right that only the caller
 // knows, as that of the record's words at the C boundary.
-mod alone;
 mod counting;
-mod notes;
 pub mod run;
 mod tests;
 
+use crate::counting::NO_COUNTS;
 use crate::counting::put_counts;
-use crate::counting::put_none;
 use crate::tests::DONE;
 use crate::tests::lengths_right;
 use crate::tests::page_answer;
-use crate::tests::page_lengths_right;
 use crate::tests::size_answer;
 use crate::tests::state_answer;
-use lent::Counts;
 use lent::Geometry;
 use lent::Record;
 use lent::Work;
+use requests::answers;
 ghost use Rattle.lent.specs.Model.{geometry, state};
 ghost use Rattle.scope.specs.Calls.{format, check, read, write};
 ghost use Rattle.scope.specs.Requests.{replied};
@@ -58,7 +55,7 @@ pub fn format(
         cache.len(),
     );
     if answer != DONE {
-        put_none(counts);
+        put_counts(counts, NO_COUNTS);
         return Out { answer, rec };
     }
     let fresh = requests::fresh::format(g, chip, spare, directory, cache);
@@ -88,9 +85,10 @@ pub fn check(
         (state (now (chip .entry)) (now (spare .entry)) (now (directory .entry)) (now (cache .entry)) rec)
         (now (counts .exit)) ⌝ }
 {
+    let mut census = [0u32; 1024];
     let right = lengths_right(fits, counts.len());
-    let answer = state_answer(rec, right, g, chip, spare, directory, cache);
-    put_none(counts);
+    let answer = state_answer(rec, right, g, chip, spare, directory, cache, &mut census);
+    put_counts(counts, NO_COUNTS);
     answer
 }
 
@@ -114,21 +112,42 @@ pub fn read(
         (state (now (chip .exit)) (now (spare .exit)) (now (directory .exit)) (now (cache .exit)) (o .rec))
         (now (counts .exit)) ⌝ }
 {
-    let right = page_lengths_right(g, fits, buffer.len(), counts.len());
-    let answer = page_answer(rec, right, g, page, chip, spare, directory, cache);
+    let mut census = [0u32; 1024];
+    let mut filter = [0u64; 1024];
+    let answer = page_answer(
+        rec,
+        fits,
+        g,
+        page,
+        buffer.len(),
+        counts.len(),
+        chip,
+        spare,
+        directory,
+        cache,
+        &mut census,
+        &mut filter,
+    );
     if answer != DONE {
-        put_none(counts);
+        put_counts(counts, NO_COUNTS);
         return Out { answer, rec };
     }
     let work = Work {
         rec,
-        counts: Counts {
-            reads: 0,
-            programs: 0,
-            erases: 0,
-        },
+        counts: NO_COUNTS,
     };
-    let done = alone::read(work, g, page, chip, spare, directory, cache, buffer);
+    let done = answers::read(
+        work,
+        g,
+        page,
+        chip,
+        spare,
+        &mut census,
+        directory,
+        cache,
+        &mut filter,
+        buffer,
+    );
     put_counts(counts, done.work.counts);
     let new = done.work.rec;
     Out {
@@ -157,21 +176,42 @@ pub fn write(
         (state (now (chip .exit)) (now (spare .exit)) (now (directory .exit)) (now (cache .exit)) (o .rec))
         (now (counts .exit)) ⌝ }
 {
-    let right = page_lengths_right(g, fits, buffer.len(), counts.len());
-    let answer = page_answer(rec, right, g, page, chip, spare, directory, cache);
+    let mut census = [0u32; 1024];
+    let mut filter = [0u64; 1024];
+    let answer = page_answer(
+        rec,
+        fits,
+        g,
+        page,
+        buffer.len(),
+        counts.len(),
+        chip,
+        spare,
+        directory,
+        cache,
+        &mut census,
+        &mut filter,
+    );
     if answer != DONE {
-        put_none(counts);
+        put_counts(counts, NO_COUNTS);
         return Out { answer, rec };
     }
     let work = Work {
         rec,
-        counts: Counts {
-            reads: 0,
-            programs: 0,
-            erases: 0,
-        },
+        counts: NO_COUNTS,
     };
-    let written = alone::write(work, g, page, chip, spare, directory, cache, buffer);
+    let written = answers::write(
+        work,
+        g,
+        page,
+        chip,
+        spare,
+        &mut census,
+        directory,
+        cache,
+        &mut filter,
+        buffer,
+    );
     put_counts(counts, written.work.counts);
     let new = written.work.rec;
     Out {

@@ -2,12 +2,12 @@
 // hands over the counts. What the parts hand on says whether the run was admitted; where it wasn't, nothing is done. Whoever goes through
 // the requests also owns the notes, which `begin` takes and every request keeps, so that a run searches the chip once.
 use crate::Out;
+use crate::counting::NO_COUNTS;
 use crate::counting::put_counts;
-use crate::notes::take_notes;
 use crate::tests::DONE;
+use crate::tests::noted_answer;
 use crate::tests::record_answer;
 use crate::tests::run_lengths_right;
-use crate::tests::state_answer;
 use lent::Counts;
 use lent::Geometry;
 use lent::Handed;
@@ -63,21 +63,12 @@ pub fn begin(
         (now (census .exit)) (now (filter .exit)) ⌝ }
 {
     let right = run_lengths_right(g, fits, n, words, answers, counts);
-    let answer = state_answer(rec, right, g, chip, spare, directory, cache);
-    let begun = Running {
+    let answer = noted_answer(rec, right, g, chip, spare, directory, cache, census, filter);
+    Running {
         answer,
-        counts: Counts {
-            reads: 0,
-            programs: 0,
-            erases: 0,
-        },
+        counts: NO_COUNTS,
         rec,
-    };
-    if answer != DONE {
-        return begun;
     }
-    take_notes(g, rec, spare, cache, census, filter);
-    begun
 }
 
 // The steps of a request that has passed its tests.

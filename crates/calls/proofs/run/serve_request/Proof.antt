@@ -3,14 +3,15 @@ use borrow.Author.Needs.{needs}
 use borrow.Author.Tests.{eq-eqb, ne-eqb}
 use Rattle.lent.specs.DoesLaws.{does-cond-true, does-cond-false}
 use Rattle.scope.specs.Calls.{serve}
-use Rattle.calls.specs.Room.{ready-less, read-few, write-few}
+use Rattle.requests.specs.Ready.{ready-less}
+use Rattle.calls.specs.Room.{read-few, write-few}
 use Rattle.calls.proofs.run.serve_request.Statement.{statement}
 use Rattle.calls.proofs.run.serve_request.Tie as tie
 
 read-requires : tie.Need-read-requires
 read-requires c κs =
     let ((ready, long), noted) = c .before .before .before .before .before .before .before .before .before .before .before .before .before .before .pre in
-    ((ready-less _ _ (read-few (ready .ready .accepted)) ready, long), (noted .counted, noted .filtered))
+    ((ready-less (read-few (ready .ready .accepted)) ready, long), (noted .counted, noted .filtered))
 
 same-length : tie.Need-same-length
 same-length c = search needs
@@ -38,7 +39,7 @@ returns c =
 write-requires : tie.Need-write-requires
 write-requires c κs =
     let ((ready, long), noted) = c .before .before .before .before .before .before .before .before .before .before .before .before .before .before .pre in
-    ((ready-less _ _ (write-few (ready .ready .accepted)) ready, long), (noted .counted, noted .filtered))
+    ((ready-less (write-few (ready .ready .accepted)) ready, long), (noted .counted, noted .filtered))
 
 same-length-6 : tie.Need-same-length-6
 same-length-6 c = search needs
