@@ -1,5 +1,5 @@
 -- `steps::census::restate` meets its contract.
-use mathlib.Core.Path.{ap, ap₂}
+use mathlib.Core.Path.{ap₂}
 use native.Mathlib.Omega.{arith}
 use Prim.Native.Nat.{ℕ, _+_, _-_}
 use lib.ListN.{getD, set}
