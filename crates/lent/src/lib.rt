@@ -76,17 +76,31 @@ pub fn decode(x: u32) -> Entry
     }
 }
 
-// One more read; one more program; one more erase.
+// One more read. What it hands back is made field by field: a record that is copied whole is read in words wider than those just
+// written, which the processor lets wait until all earlier words are in memory, the page just read among them.
 pub fn count_read(work: Work) -> Work
     requires { ⌜ Room-to-count 1 (work .counts) ⌝ }
     ensures { λ r. ⌜ (r .rec ≡ work .rec) × (counts (r .counts) ≡ one-read (counts (work .counts))) ⌝ }
 {
-    let mut next = work;
-    let n = work.counts.reads + 1;
-    next.counts.reads = n;
-    next
+    let rec = work.rec;
+    let counts = work.counts;
+    Work {
+        rec: Record {
+            open_data: rec.open_data,
+            data_offset: rec.data_offset,
+            open_translation: rec.open_translation,
+            translation_offset: rec.translation_offset,
+            used: rec.used,
+        },
+        counts: Counts {
+            reads: counts.reads + 1,
+            programs: counts.programs,
+            erases: counts.erases,
+        },
+    }
 }
 
+// One more program; one more erase.
 pub fn count_program(work: Work) -> Work
     requires { ⌜ Room-to-count 1 (work .counts) ⌝ }
     ensures { λ r. ⌜ (r .rec ≡ work .rec) × (counts (r .counts) ≡ one-program (counts (work .counts))) ⌝ }
