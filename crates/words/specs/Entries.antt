@@ -1,6 +1,6 @@
 -- Entries of three words: the first n words moved back by three, from the last one down, and what stands in front of them then.
 use Prim.Native.Nat.{ℕ, suc, _+_, _-_, _*_, _≤_, _<_}
-use mathlib.Core.Path.{_≡_, refl, sym, ap, _∙_}
+use mathlib.Core.Path.{_≡_, refl, sym, ap, subst, _∙_}
 use mathlib.Core.Bool.{Bool, true, false, _&&_, and-false}
 use mathlib.Core.List.{List, [], _∷_, _++_, append-assoc}
 use native.Mathlib.Nat.{sub-zero}
@@ -13,6 +13,7 @@ use borrow.Author.Tests.{lt-ltb, le-ltb, eq-eqb, ne-eqb}
 use Rattle.scope.specs.Counting.{lowest}
 use Rattle.scope.specs.Lent.{none, logical-at}
 use Rattle.flash.specs.Cases.{below?, true-and}
+use Rattle.flash.specs.Searching.{Is-lowest, lowest-is, lowest-none, lowest-unique}
 use Rattle.flash.specs.Stores.{getD-sets-outside}
 use Rattle.words.specs.Runs.{set-before, getD-any}
 use Rattle.words.specs.Searches.{lowest-fails}
@@ -80,17 +81,51 @@ three-read l l₁ rest i h e =
 abbrev pub matches : List ℕ → ℕ → ℕ → ℕ → Bool
 matches cache used l i = ltb i used && eqb (logical-at i cache) l
 
-module _ (cache : List ℕ) (used l i : ℕ) where
-  pub match-found : i * 3 < length cache → i < used → getD cache (i * 3) 0 ≡ l → matches cache used l i ≡ true
-  match-found h k e =
-      true-and (lt-ltb i used k) (eq-eqb (logical-at i cache) l (getD-any cache (i * 3) none 0 h ∙ e))
+-- An entry's logical page, read at its first word.
+module _ (cache : List ℕ) (l i at : ℕ) (is : at ≡ i * 3) (inside : at < length cache) where
+  read-at : getD cache at 0 ≡ logical-at i cache
+  read-at = ap (λ (k : ℕ). getD cache k 0) is ∙ getD-any cache (i * 3) 0 none (omega arith)
 
-  pub match-missed : i * 3 < length cache → (getD cache (i * 3) 0 ≡ l → ⊥) → matches cache used l i ≡ false
-  match-missed h ne =
-      rw (ne-eqb (logical-at i cache) l (λ e. ne (getD-any cache (i * 3) 0 none h ∙ e))) (and-false (ltb i used))
+  pub entry-has : getD cache at 0 ≡ l → eqb (logical-at i cache) l ≡ true
+  entry-has e = eq-eqb (logical-at i cache) l (sym read-at ∙ e)
+
+  pub entry-differs : (getD cache at 0 ≡ l → ⊥) → eqb (logical-at i cache) l ≡ false
+  entry-differs ne = ne-eqb (logical-at i cache) l (λ e. ne (read-at ∙ e))
+
+module _ (cache : List ℕ) (used l i : ℕ) where
+  pub match-missed : eqb (logical-at i cache) l ≡ false → matches cache used l i ≡ false
+  match-missed h = rw h (and-false (ltb i used))
 
   pub match-unused : used ≤ i → matches cache used l i ≡ false
   match-unused h = rw (le-ltb i used h) refl
+
+  -- It matches, and none before it does.
+  pub first-match : (n : ℕ) → i < used → used ≤ n → eqb (logical-at i cache) l ≡ true → ((k : ℕ) → k < i → matches cache used l k ≡ false)
+      → i ≡ lowest n (matches cache used l)
+  first-match n h most has before =
+      sym (lowest-unique n (matches cache used l) i (record { below = omega arith; passes = true-and (lt-ltb i used h) has; least = before }))
+
+-- None matches below rank i, and k is what a search of the r entries from there on found.
+module _ (cache : List ℕ) (used l i : ℕ) (before : (k : ℕ) → k < i → matches cache used l k ≡ false)
+    (r k : ℕ) (is : k ≡ lowest r (λ j. eqb (logical-at (i + j) cache) l)) where
+  abbrev has : ℕ → Bool
+  has j = eqb (logical-at (i + j) cache) l
+
+  none-before : ((j : ℕ) → j < k → has j ≡ false) → (j : ℕ) → j < i + k → matches cache used l j ≡ false
+  none-before here j h =
+      below? j i (before j) (λ m.
+      let e : i + (j - i) ≡ j = omega arith in
+      match-missed cache used l j (rw e at (here (j - i) (omega arith))))
+
+  pub match-further : (n : ℕ) → k < r → i + r ≤ used → used ≤ n → i + k ≡ lowest n (matches cache used l)
+  match-further n h most fits =
+      let found : Is-lowest r has k = subst (Is-lowest r has) (sym is) (lowest-is r has (omega arith)) in
+      first-match cache used l (i + k) n (omega arith) fits (found .passes) (none-before (found .least))
+
+  pub none-further : r ≤ k → (j : ℕ) → j < i + r → matches cache used l j ≡ false
+  none-further h j m =
+      let none = lowest-none r has (omega arith) in
+      none-before (λ q o. none .fails q (omega (arith, none .is-n))) j (omega arith)
 
 -- None matches below n where none does among those in use.
 pub no-match : (cache : List ℕ) (used l n : ℕ) → ((i : ℕ) → i < used → matches cache used l i ≡ false)

@@ -8,8 +8,8 @@ ghost use lib.ListN.{length};
 ghost use Rattle.scope.specs.Counting.{all, count};
 ghost use Rattle.scope.specs.Lent.{«state-of», «is-erased»};
 
-// What one page adds to a count. A function of its own, so that the loop below has no branch.
-pub(crate) fn bit(a: u32, b: u32) -> usize
+// What a word adds to a count of those that are b. A function of its own, so that a loop that counts has no branch.
+pub fn bit(a: u32, b: u32) -> usize
     ensures { λ r. ⌜ r ≡ cond (eqb a b) 1 0 ⌝ }
 {
     if a == b { 1 } else { 0 }
