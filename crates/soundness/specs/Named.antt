@@ -55,7 +55,10 @@ owners-small g Data acc =
 owners-small g Translation acc =
     omega (arith, acc .M-to, region-small g Translation acc, mul-le-mul-right {m = g .T - 1} {n = g .T} (g .P) (omega arith))
 
--- A word past the pages of a row names none of them, and *none* is such a word.
+-- A word that names a page of a row is no *none*; one past the pages of a row names none of them, and *none* is such a word.
+pub place-some : (first n x : ℕ) → first + n ≤ most-pages → x < first + n → is-none x ≡ false
+place-some first n x small inside = ne-eqb x none (λ e. omega arith)
+
 pub past-owned : (first n : ℕ) (spare : List ℕ) (k x : ℕ) → first + n ≤ x → owns first n spare k x ≡ false
 past-owned first n spare k x past = rw (le-leb first x (omega arith), le-ltb x (first + n) past)
 

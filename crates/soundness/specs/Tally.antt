@@ -2,21 +2,22 @@
 use Prim.Native.Nat.{ℕ, _+_, _*_, _≤_, _<_}
 use native.Mathlib.Omega.{arith}
 use native.Mathlib.Numerals.{add-one}
-use mathlib.Core.Path.{_≡_, sym, subst, _∙_}
+use mathlib.Core.Path.{_≡_, refl, sym, subst, _∙_}
 use mathlib.Core.Logic.{_≢_}
 use mathlib.Core.Bool.{Bool, true, false, cond, _&&_}
 use mathlib.Core.List.{List}
 use lib.ListN.{length, getD}
 use lib.Dec.{eqb, ltb, leb}
-use borrow.Author.Tests.{eqb-true, eq-eqb, ne-eqb, le-leb, lt-ltb}
+use borrow.Author.Tests.{eqb-true, eq-eqb, le-leb, lt-ltb}
 use Rattle.scope.specs.Counting.{count}
 use Rattle.scope.specs.Geometry.{most-pages}
 use Rattle.scope.specs.Lent.{none, valid, is-valid, state-of, owner-of}
 use Rattle.flash.specs.Cases.{and-true, is-false}
 use Rattle.flash.specs.Counting.{count-le}
 use Rattle.words.specs.Runs.{getD-any}
-use Rattle.soundness.specs.Named.{owns, is-none, none-owned}
+use Rattle.soundness.specs.Named.{owns, is-none, past-owned, place-some}
 use Rattle.soundness.specs.declared.tally.Tally.{Tally}
+use Rattle.soundness.specs.declared.tally.Run.{Run}
 
 -- Both counts can grow by n.
 pub record Room (t : Tally) (n : ℕ) : Type 0 where
@@ -37,6 +38,13 @@ pub record Tallied (t r : Tally) (n : ℕ) (nowhere good : ℕ → Bool) : Type 
   pub nones-more : r .nones ≡ t .nones + count n nowhere
   pub good-more : r .good ≡ t .good + count n good
 
+-- Of n words, those from word i to the run's end are no *none*, and the run's `good` of them are good.
+pub record Run-counted (i : ℕ) (r : Run) (n : ℕ) (nowhere good : ℕ → Bool) : Type 0 where
+  pub starts : i ≤ r .at
+  pub ends : r .at ≤ n
+  pub no-nones : count (r .at) nowhere ≡ count i nowhere
+  pub good-more : count (r .at) good ≡ count i good + r .good
+
 -- Nothing counted yet.
 abbrev pub nothing : Tally
 nothing = record { nones = 0; good = 0 }
@@ -55,20 +63,17 @@ word-good words from spare first n i = owns first n spare (from + i) (getD words
 abbrev pub Tallied-words : List ℕ → ℕ → List ℕ → ℕ → Tally → Tally → Type 0
 Tallied-words words from spare n t r = Tallied t r (length words) (word-none words) (word-good words from spare 0 n)
 
--- *none* counts as such and is no page; any other word counts as good where it names its owner's page.
-pub word-nowhere : (t r : Tally) (x k : ℕ) (spare : List ℕ) (first n : ℕ) → first + n ≤ most-pages → x ≡ none
-    → r .nones ≡ t .nones + 1 → r .good ≡ t .good → Tallied-word t r (is-none x) (owns first n spare k x)
-word-nowhere t r x k spare first n small is nones good =
-    record {
-      nones-more = rw (eq-eqb x none is) nones;
-      good-more = rw (none-owned first n spare k x small is) (omega arith);
-    }
-
-pub word-place : (t r : Tally) (x k : ℕ) (spare : List ℕ) (first n : ℕ) → x ≢ none
+-- A word that names a page counts as good where it is its owner's; one past the pages counts where it is *none*.
+pub word-place : (t r : Tally) (x k : ℕ) (spare : List ℕ) (first n : ℕ) → first + n ≤ most-pages → x < first + n
     → r .nones ≡ t .nones → r .good ≡ t .good + cond (owns first n spare k x) 1 0
     → Tallied-word t r (is-none x) (owns first n spare k x)
-word-place t r x k spare first n some nones good =
-    record { nones-more = rw (ne-eqb x none some) (omega arith); good-more = good }
+word-place t r x k spare first n small inside nones good =
+    record { nones-more = rw (place-some first n x small inside) (omega arith); good-more = good }
+
+pub word-past : (t r : Tally) (x k : ℕ) (spare : List ℕ) (first n : ℕ) → first + n ≤ x
+    → r .nones ≡ t .nones + cond (is-none x) 1 0 → r .good ≡ t .good → Tallied-word t r (is-none x) (owns first n spare k x)
+word-past t r x k spare first n past nones good =
+    record { nones-more = nones; good-more = rw (past-owned first n spare k x past) (omega arith) }
 
 -- A page's two words as one number: it is that of a valid page of k exactly where the words are.
 pub pair-owns : (first n : ℕ) (spare : List ℕ) (k p : ℕ) → first ≤ p → p < first + n → p * 2 + 2 ≤ length spare
@@ -101,6 +106,32 @@ tallied-more t s r i nowhere good h w =
     record {
       nones-more = rw (add-one i) (omega (arith, h .nones-more, w .nones-more));
       good-more = rw (add-one i) (omega (arith, h .good-more, w .good-more));
+    }
+
+-- From no run to a word more, and the run counted.
+pub run-start : (i n : ℕ) (nowhere good : ℕ → Bool) → i ≤ n → Run-counted i (record { at = i; good = 0 }) n nowhere good
+run-start i n nowhere good inside =
+    record { starts = omega arith; ends = inside; no-nones = refl; good-more = omega arith }
+
+pub run-more : (i at had now n : ℕ) (nowhere good : ℕ → Bool) → Run-counted i (record { at = at; good = had }) n nowhere good → at < n
+    → nowhere at ≡ false → now ≡ cond (good at) 1 0 → Run-counted i (record { at = at + 1; good = had + now }) n nowhere good
+run-more i at had now n nowhere good h inside some is =
+    record {
+      starts = omega (arith, h .starts);
+      ends = omega arith;
+      no-nones = rw (add-one at, some) (omega (arith, h .no-nones));
+      good-more = rw (add-one at) (omega (arith, h .good-more));
+    }
+
+pub run-most : (i n : ℕ) (r : Run) (nowhere good : ℕ → Bool) → Run-counted i r n nowhere good → r .good ≤ n
+run-most i n r nowhere good h = omega (arith, h .good-more, h .ends, count-le (r .at) good)
+
+pub tallied-run : (t s : Tally) (i n : ℕ) (r : Run) (nowhere good : ℕ → Bool) → Tallied t s i nowhere good → Run-counted i r n nowhere good
+    → Tallied t (record { nones = s .nones; good = s .good + r .good }) (r .at) nowhere good
+tallied-run t s i n r nowhere good h run =
+    record {
+      nones-more = omega (arith, h .nones-more, run .no-nones);
+      good-more = omega (arith, h .good-more, run .good-more);
     }
 
 -- What was counted leaves room for the rest.

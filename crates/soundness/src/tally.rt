@@ -3,12 +3,14 @@
 ghost use mathlib.Core.Path.{_≡_};
 ghost use mathlib.Core.Bool.{cond};
 ghost use Prim.Native.Nat.{_+_, _*_, _≤_, _<_};
-ghost use lib.ListN.{length};
+ghost use lib.ListN.{length, getD};
 ghost use Rattle.scope.specs.Geometry.{most-pages};
+ghost use Rattle.scope.specs.Lent.{none};
 ghost use Rattle.soundness.specs.Named.{owns, is-none};
-ghost use Rattle.soundness.specs.Tally.{Room, Tallied-word, Tallied, word-none, word-good};
+ghost use Rattle.soundness.specs.Tally.{Room, Tallied-word, Tallied, Run-counted, word-none, word-good};
 use lent::NONE;
 use lent::VALID;
+use words::states::bit;
 
 pub struct Tally {
     pub nones: usize,
@@ -51,16 +53,45 @@ pub fn tallied(t: Tally, x: u32, k: u32, spare: &[u32], first: usize, n: usize) 
             good: t.good + good,
         };
     }
-    if x != NONE {
-        return t;
-    }
+    let nowhere = bit(x, NONE);
     Tally {
-        nones: t.nones + 1,
+        nones: t.nones + nowhere,
         good: t.good,
     }
 }
 
-// The counts with all of `words` more, whose owners are those from `from` on.
+// How far a run of words reaches that all name pages below `first + n`, and how many of them name the page of their owner.
+struct Run {
+    at: usize,
+    good: usize,
+}
+
+// The run from word i on.
+fn run_of_places(words: &[u32], i: usize, from: usize, spare: &[u32], first: usize, n: usize) -> Run
+    requires { ⌜ i ≤ length (now words) ⌝ }
+    requires { ⌜ from + length (now words) ≤ most-pages ⌝ }
+    requires { ⌜ (first + n) * 2 ≤ length (now spare) ⌝ }
+    requires { ⌜ first + n ≤ most-pages ⌝ }
+    ensures { λ r. ⌜ Run-counted i r (length (now (words .entry)))
+        (word-none (now (words .entry)))
+        (word-good (now (words .entry)) from (now (spare .entry)) first n) ⌝ }
+    ensures { λ r. ⌜ (r .at < length (now (words .entry)) → first + n ≤ getD (now (words .entry)) (r .at) none) ⌝ }
+{
+    let mut good = 0;
+    let mut at = i;
+    while at < words.len() {
+        let x = words[at] as usize;
+        if first + n <= x {
+            return Run { at, good };
+        }
+        good += owned(spare, first, n, (from + at) as u32, x);
+        at += 1;
+    }
+    Run { at, good }
+}
+
+// The counts with all of `words` more, whose owners are those from `from` on. The words of a full chip name pages, one after the other:
+// a run of them is counted by a loop of its own, which holds two numbers and takes one branch, and the compiler keeps all of it in registers.
 pub fn tally_words(
     t: Tally,
     words: &[u32],
@@ -77,11 +108,17 @@ pub fn tally_words(
         (word-none (now (words .entry)))
         (word-good (now (words .entry)) from (now (spare .entry)) first n) ⌝ }
 {
-    let mut sum = t;
+    let mut nones = t.nones;
+    let mut good = t.good;
     let mut i = 0;
     while i < words.len() {
-        sum = tallied(sum, words[i], (from + i) as u32, spare, first, n);
-        i += 1;
+        let run = run_of_places(words, i, from, spare, first, n);
+        good += run.good;
+        i = run.at;
+        if i < words.len() {
+            nones += bit(words[i], NONE);
+            i += 1;
+        }
     }
-    sum
+    Tally { nones, good }
 }

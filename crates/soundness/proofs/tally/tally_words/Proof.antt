@@ -1,80 +1,92 @@
 -- `soundness::tally::tally_words` meets its contract. The loop's invariant: the words before i are counted.
 use native.Mathlib.Omega.{arith}
-use mathlib.Core.Path.{subst}
+use mathlib.Core.Path.{refl, ap, _∙_}
+use mathlib.Core.Bool.{cond}
 use Prim.Native.Nat.{ℕ, _+_, _-_, _≤_}
-use lib.ListN.{length}
+use lib.ListN.{length, getD}
 use borrow.Author.Needs.{needs}
 use denote.Ref.{now}
-use Rattle.soundness.specs.Named.{is-none, owns}
+use Rattle.scope.specs.Lent.{none}
+use Rattle.flash.specs.Counting.{count-le}
 use Rattle.words.specs.Runs.{getD-any}
-use Rattle.soundness.specs.Tally.{Tallied, Tallied-word, word-none, word-good, tallied-start, tallied-more, tallied-room}
+use Rattle.soundness.specs.Named.{is-none}
+use Rattle.soundness.specs.Tally.{Tallied, word-none, word-good, word-past, run-most}
+use Rattle.soundness.specs.Tally.{tallied-start, tallied-more, tallied-run, tallied-room, tallied-done}
 use Rattle.soundness.proofs.tally.tally_words.Statement.{statement}
 use Rattle.soundness.proofs.tally.tally_words.Tie as tie
 
 abbrev Inv-loop : tie.InvT-loop
-Inv-loop words from spare first n sum₀ i₀ sum i =
-    (i ≤ length words) × Tallied sum₀ sum i (word-none words) (word-good words from spare first n)
+Inv-loop words from spare first n nones₀ good₀ i₀ nones good i =
+    (i ≤ length words)
+    × Tallied (record { nones = nones₀; good = good₀ }) (record { nones = nones; good = good }) i (word-none words) (word-good words from spare first n)
 
 abbrev μ-loop : tie.MeasureT-loop
-μ-loop words from spare first n sum₀ i₀ sum i = length words - i
+μ-loop words from spare first n nones₀ good₀ i₀ nones good i = length words - i
 
--- src/tally.rt:71:5
 loop-holds : tie.Need-loop-holds Inv-loop μ-loop
 loop-holds c = (omega arith, tallied-start _ _ _)
 
--- src/tally.rt:72:28
-mul-tallied : tie.Need-mul-tallied Inv-loop μ-loop
-mul-tallied c = search needs
+run-of-places-requires : tie.Need-run-of-places-requires Inv-loop μ-loop
+run-of-places-requires c κs = search needs
 
--- src/tally.rt:72:28
-shared-slice-read-tallied : tie.Need-shared-slice-read-tallied Inv-loop μ-loop
-shared-slice-read-tallied c = search needs
+add-good : tie.Need-add-good Inv-loop μ-loop
+add-good c =
+    let start = c .before .before .before .before .before .before in
+    let turn = c .before .before .before .loop in
+    let room = tallied-room (start .args .t) _ (turn .i) 1 (length (now (start .args .words))) _ _ (turn .inv .1) (start .pre .0) (omega arith) in
+    omega (arith, start .pre .1 .0, room .good-fit, run-most _ _ _ _ _ (c .before .run-of-places .ensures .0))
 
--- src/tally.rt:72:39
-add-tallied : tie.Need-add-tallied Inv-loop μ-loop
-add-tallied c = search needs
+mul-bit : tie.Need-mul-bit Inv-loop μ-loop
+mul-bit c = search needs
 
--- src/tally.rt:72:38
-cast-tallied : tie.Need-cast-tallied Inv-loop μ-loop
-cast-tallied c = search needs
+shared-slice-read-bit : tie.Need-shared-slice-read-bit Inv-loop μ-loop
+shared-slice-read-bit c = search needs
 
--- src/tally.rt:72:9
-tallied-requires : tie.Need-tallied-requires Inv-loop μ-loop
-tallied-requires c κs =
-    let start = c .before .before .before .before .before in
-    let turn = c .before .before .loop in (
-      tallied-room (start .args .t) (turn .sum) (turn .i) 1 (length (now (start .args .words))) _ _ (turn .inv .1) (start .pre .0) (omega arith),
-      start .pre .1 .1,
-    )
+bit-requires : tie.Need-bit-requires Inv-loop μ-loop
+bit-requires c κs = search needs
 
--- src/tally.rt:73:9
+add-nones : tie.Need-add-nones Inv-loop μ-loop
+add-nones c =
+    let start = c .before .before .before .before .before .before .before .before .before in
+    let turn = c .before .before .before .before .before .before .loop in
+    let run = c .before .before .before .before .run-of-places in
+    let room = tallied-room (start .args .t) _ (turn .i) 1 (length (now (start .args .words))) _ _ (turn .inv .1) (start .pre .0) (omega arith) in
+    omega (arith, room .nones-fit, c .bit .ensures, count-le 1 (λ k. is-none (getD (now (start .args .words)) (run .result .at) 0)))
+
 add-i : tie.Need-add-i Inv-loop μ-loop
 add-i c = search needs
 
--- src/tally.rt:71:5
 loop-less : tie.Need-loop-less Inv-loop μ-loop
-loop-less c = search needs
+loop-less c =
+    let run = c .before .before .before .before .run-of-places in
+    omega (arith, run .ensures .0 .starts)
 
--- src/tally.rt:71:5
 loop-again : tie.Need-loop-again Inv-loop μ-loop
 loop-again c =
-    let a = c .before .before .before .before .before .before .args in
-    let turn = c .before .before .before .loop in
-    let word = getD-any (now (a .words)) (turn .i) 0 4294967295 (omega arith) in (
+    let a = c .before .before .before .before .before .before .before .before .before .args in
+    let turn = c .before .before .before .before .before .before .loop in
+    let run = c .before .before .before .before .run-of-places in
+    let at = run .result .at in
+    let word = getD-any (now (a .words)) at 0 none (omega arith) in (
       omega arith,
-      tallied-more (a .t) (turn .sum) (c .tallied .result) (turn .i) _ _ (turn .inv .1)
-          (subst
-          (λ (x : ℕ). Tallied-word (turn .sum) (c .tallied .result) (is-none x) (owns (a .first) (a .n) (now (a .spare)) (a .from + turn .i) x))
-          word (c .tallied .ensures)),
+      tallied-more (a .t) _ _ at _ _ (tallied-run (a .t) _ (turn .i) _ (run .result) _ _ (turn .inv .1) (run .ensures .0))
+          (word-past _ _ (getD (now (a .words)) at none) (a .from + at) (now (a .spare)) (a .first) (a .n) (run .ensures .1 (omega arith))
+          (ap (λ (x : ℕ). turn .nones + x) (c .bit .ensures ∙ ap (λ (x : ℕ). cond (is-none x) 1 0) word)) refl),
     )
 
--- src/tally.rt:58:1
+loop-less-2 : tie.Need-loop-less-2 Inv-loop μ-loop
+loop-less-2 c =
+    let run = c .before .before .run-of-places in
+    omega (arith, run .ensures .0 .ends)
+
+loop-again-2 : tie.Need-loop-again-2 Inv-loop μ-loop
+loop-again-2 c =
+    let turn = c .before .before .before .before .loop in
+    let run = c .before .before .run-of-places in
+    (run .ensures .0 .ends, tallied-run _ _ (turn .i) _ (run .result) _ _ (turn .inv .1) (run .ensures .0))
+
 returns : tie.Need-returns Inv-loop μ-loop
-returns c =
-    let a = c .before .before .before .before .args in
-    subst
-    (λ (k : ℕ). Tallied (a .t) (c .before .loop .sum) k (word-none (now (a .words))) (word-good (now (a .words)) (a .from) (now (a .spare)) (a .first) (a .n)))
-    (omega arith) (c .before .loop .inv .1)
+returns c = tallied-done _ _ (c .before .loop .inv .1) (omega arith) (omega arith)
 
 pub tally-words-spec : {M : Type 1} → statement M
 tally-words-spec =
@@ -83,12 +95,15 @@ tally-words-spec =
     Inv-loop
     μ-loop
     loop-holds
-    mul-tallied
-    shared-slice-read-tallied
-    add-tallied
-    cast-tallied
-    tallied-requires
+    run-of-places-requires
+    add-good
+    mul-bit
+    shared-slice-read-bit
+    bit-requires
+    add-nones
     add-i
     loop-less
     loop-again
+    loop-less-2
+    loop-again-2
     returns)
