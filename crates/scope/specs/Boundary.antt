@@ -5,13 +5,12 @@ use Prim.Native.Nat.{ℕ, _%_}
 use mathlib.Core.Bool.{Bool, cond, _&&_}
 use mathlib.Core.List.{List, [], _∷_}
 use lib.Dec.{eqb}
-use lib.ListN.{length, getD}
+use lib.ListN.{length}
 use lib.Seq.{sets}
 use Rattle.scope.specs.Geometry.{Geometry}
 use Rattle.scope.specs.SmallRecord.{record-words, record-of, words-from}
 use Rattle.scope.specs.Lent.{State, Request}
 use Rattle.scope.specs.Operations.{Step, Outcome, Counts, counted}
-use Rattle.scope.specs.Replies.{right-sizes}
 use Rattle.scope.specs.Requests.{Replied}
 use Rattle.scope.specs.Calls.{RunReplied, format, check, read, write, run}
 

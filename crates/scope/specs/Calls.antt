@@ -1,6 +1,6 @@
 -- The five public calls as total functions: for any geometry numbers, page number and lists, the reply, the operations, whose
 -- counts are the answer's, and every lent list after. `boundary` says whether the lengths that only C lends are right (Boundary.antt).
-use Prim.Native.Nat.{ℕ, zero, suc, _+_, _*_}
+use Prim.Native.Nat.{ℕ, zero, suc, _*_}
 use mathlib.Core.Bool.{Bool, not, cond, _&&_}
 use mathlib.Core.List.{List, [], _∷_, _++_}
 use lib.Dec.{eqb, leb}

@@ -1,7 +1,7 @@
 -- The seven rules of Sound.antt as tests, in the same order and under the same names in small letters. The calls branch on these;
 -- theorems speak of the propositions.
 use Prim.Native.Nat.{ℕ, _+_, _*_}
-use mathlib.Core.Bool.{Bool, true, false, not, cond, _&&_, _||_}
+use mathlib.Core.Bool.{Bool, true, not, cond, _&&_, _||_}
 use mathlib.Core.List.{List}
 use lib.Dec.{eqb, ltb, leb}
 use Rattle.scope.specs.Counting.{all, some}

@@ -1,7 +1,7 @@
 -- 01, "The steps": make room and collect, once for both regions and for whatever follows a moved page.
-use Prim.Native.Nat.{ℕ, zero, suc, _+_, _*_}
-use mathlib.Core.Bool.{Bool, cond}
-use mathlib.Core.List.{List, [], _∷_, _++_}
+use Prim.Native.Nat.{ℕ, zero, suc, _+_}
+use mathlib.Core.Bool.{cond}
+use mathlib.Core.List.{List, [], _++_}
 use lib.Dec.{ltb, leb}
 use Rattle.scope.specs.Counting.{count, lowest, fewest}
 use Rattle.scope.specs.Geometry.{Geometry}

@@ -1,14 +1,14 @@
 -- 01, "The steps": update, what follows a moved page in each region, translate, read, write and format.
-use Prim.Native.Nat.{ℕ, _+_, _*_}
-use mathlib.Core.Bool.{Bool, cond}
+use Prim.Native.Nat.{ℕ}
+use mathlib.Core.Bool.{cond}
 use mathlib.Core.List.{List, [], _∷_}
 use lib.Dec.{eqb, ltb}
 use lib.ListN.{getD, set, replicate}
-use Rattle.scope.specs.Geometry.{Geometry, M, blocks}
-use Rattle.scope.specs.Lent.{none, Entry, Place, Nowhere, decode, State, Mapping, directory-size, cache-size, named, logical-at, physical-at, translation-page, translation-word}
-use Rattle.scope.specs.Regions.{Data, Translation}
+use Rattle.scope.specs.Geometry.{Geometry, M}
+use Rattle.scope.specs.Lent.{none, Entry, Place, Nowhere, Mapping, named, logical-at, translation-page, translation-word}
+use Rattle.scope.specs.Regions.{Translation}
 use Rattle.scope.specs.Sound.{rank-of}
-use Rattle.scope.specs.Operations.{Step, Mark, Erase, give, look, perform, nothing, set-directory, set-cache, set-small, for, _>>=_, _>>_}
+use Rattle.scope.specs.Operations.{Step, Mark, give, look, perform, nothing, set-directory, for, _>>=_, _>>_}
 use Rattle.scope.specs.Room.{Following, read-page, program-next, make-room}
 use Rattle.scope.specs.Cache.{touch, enter, dropped, forget, is-changed, written-back, set-entry}
 

@@ -1,13 +1,13 @@
 -- Every step of 01 and every call: chip and spare after are its operations applied in their order (Applied.antt). Each law has the
 -- shape of its definition.
 use Prim.Native.Nat.{ℕ, zero, suc}
-use mathlib.Core.Bool.{Bool, cond}
+use mathlib.Core.Bool.{Bool}
 use mathlib.Core.List.{List, [], _∷_}
 use lib.Dec.{ltb, eqb, leb}
 use Rattle.scope.specs.Geometry.{Geometry}
 use Rattle.scope.specs.Regions.{Region, Data, Translation}
 use Rattle.scope.specs.Lent.{Entry, Place, Nowhere, Mapping, Request}
-use Rattle.scope.specs.Operations.{Read, Program, Mark, Erase, Step, look, give}
+use Rattle.scope.specs.Operations.{Read, Program, Mark, Erase, Step}
 use Rattle.scope.specs.Room.{Following, read-page, program-next, move-page, move-if-valid, move-pages, open-lowest, collect, open-or-collect, make-room}
 use Rattle.scope.specs.Cache.{touch, enter, forget, set-entry}
 use Rattle.scope.specs.Steps.{directory-names-it, directory-follows, begun, mark-old, update, of-page, update-touched, cache-or-wait, update-all, cache-follows, write-back, drop-entry, drop-if-full, word-for, fetch, translate}
