@@ -43,9 +43,6 @@ pub or-cases {ℓ} : {X : Type ℓ} (a b : Bool) → (a || b) ≡ true → (a �
 or-cases true b h f g = f refl
 or-cases false b h f g = g h
 
-pub or-left : {a : Bool} (b : Bool) → a ≡ true → (a || b) ≡ true
-or-left b p = rw p
-
 pub or-right : (a : Bool) {b : Bool} → b ≡ true → (a || b) ≡ true
 or-right true q = refl
 or-right false q = q
@@ -60,6 +57,10 @@ not-of-false p = rw p
 
 pub not-of-true : {b : Bool} → b ≡ true → not b ≡ false
 not-of-true p = rw p
+
+pub twice-not : (b : Bool) → not (not b) ≡ b
+twice-not true = refl
+twice-not false = refl
 
 -- A test that cannot fail passes; one that cannot pass fails.
 pub is-true : (b : Bool) → (b ≡ false → ⊥) → b ≡ true

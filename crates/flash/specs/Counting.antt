@@ -1,26 +1,23 @@
 -- Laws of scope's tests and counts over the numbers below a bound: `all` is "each", `some` is "there is one", `count` counts.
 -- Searching.antt has those of its searches.
-use Prim.Native.Nat.{ℕ, zero, suc, _+_, _*_, _≤_, _<_}
-use mathlib.Core.Path.{_≡_, refl, sym, _∙_}
-use mathlib.Core.Logic.{_≢_}
+use Prim.Native.Nat.{ℕ, zero, suc, _+_, _*_, _-_, _≤_, _<_}
+use mathlib.Core.Path.{_≡_, refl, sym, ap, subst, _∙_}
 use mathlib.Core.Bool.{Bool, true, false, not, cond, _&&_}
 use native.Mathlib.Nat.{add-zero, add-suc, zero-mul, suc-mul}
 use native.Mathlib.Omega.{arith}
 use lib.Dec.{eqb}
 use borrow.Author.Tests.{eqb-true, eqb-false, not-true}
 use Rattle.scope.specs.Counting.{all, some, count}
-use Rattle.flash.specs.Cases.{on, last, clash, and-true, true-and, and-cases, or-cases, or-left, or-right, is-true, is-false}
+use Rattle.scope.specs.Laws.Decides.{by-all, by-some, by-itself}
+use Rattle.flash.specs.Cases.{on, last, clash, and-true, and-cases, is-true, is-false}
 
 -- ---- every, some
 
 pub all-each : (n : ℕ) (f : ℕ → Bool) → all n f ≡ true → (i : ℕ) → i < n → f i ≡ true
-all-each zero f h i k = absurd (omega arith)
-all-each (suc n) f h i k =
-    last i n k (all-each n f (and-true (all n f) (f n) h .0) i) (λ e. rw e (and-true (all n f) (f n) h .1))
+all-each n f = by-all n (λ i. by-itself (f i)) .holds
 
 pub each-all : (n : ℕ) (f : ℕ → Bool) → ((i : ℕ) → i < n → f i ≡ true) → all n f ≡ true
-each-all zero f h = refl
-each-all (suc n) f h = true-and (each-all n f (λ i k. h i (omega arith))) (h n (omega arith))
+each-all n f = by-all n (λ i. by-itself (f i)) .passes
 
 -- Not all: one fails.
 pub all-fails : (n : ℕ) (f : ℕ → Bool) → all n f ≡ false → (i : ℕ) × (i < n) × (f i ≡ false)
@@ -31,16 +28,10 @@ all-fails (suc n) f h =
     (λ e. (n, omega arith, e))
 
 pub some-found : (n : ℕ) (f : ℕ → Bool) → some n f ≡ true → (i : ℕ) × (i < n) × (f i ≡ true)
-some-found zero f h = clash h refl
-some-found (suc n) f h =
-    or-cases (some n f) (f n) h
-    (λ e. let r = some-found n f e in (r .0, omega arith, r .2))
-    (λ e. (n, omega arith, e))
+some-found n f = by-some n (λ i. by-itself (f i)) .holds
 
 pub found-some : (n : ℕ) (f : ℕ → Bool) (i : ℕ) → i < n → f i ≡ true → some n f ≡ true
-found-some zero f i k h = absurd (omega arith)
-found-some (suc n) f i k h =
-    last i n k (λ l. or-left (f n) (found-some n f i l h)) (λ e. or-right (some n f) (rw (← e) h))
+found-some n f i k h = by-some n (λ i. by-itself (f i)) .passes (i, k, h)
 
 pub none-some : (n : ℕ) (f : ℕ → Bool) → some n f ≡ false → (i : ℕ) → i < n → f i ≡ false
 none-some n f h i k = is-false (f i) (λ e. clash (found-some n f i k e) h)
@@ -127,6 +118,12 @@ pub count-add : (m n : ℕ) (f : ℕ → Bool) → count (m + n) f ≡ count m f
 count-add m zero f = rw (add-zero m) (omega arith)
 count-add m (suc n) f = rw (add-suc, count-add m n f) (omega arith)
 
+-- More numbers, a higher count.
+pub count-upto : (n m : ℕ) (f : ℕ → Bool) → n ≤ m → count n f ≤ count m f
+count-upto n m f h =
+    let e : n + (m - n) ≡ m = omega arith in
+    subst (λ m. count n f ≤ count m f) e (omega (arith, count-add n (m - n) f))
+
 -- The sum of a size over the numbers below n, and its laws.
 abbrev pub sum : ℕ → (ℕ → ℕ) → ℕ
 sum zero size = zero
@@ -159,26 +156,47 @@ count-at-most-one (suc n) f differ =
     rw p (omega arith))
     (λ p. rw p (omega (arith, count-at-most-one n f (λ i j k l. differ i j (omega arith) (omega arith)))))
 
--- Where f takes the numbers below n that pass to numbers below K, no two of them to one, no more than K pass.
+-- Where f takes the numbers below n that pass to numbers below K that pass another test, no two of them to one, there are no more.
+pub count-into : (n K : ℕ) (pass target : ℕ → Bool) (f : ℕ → ℕ)
+    → ((i : ℕ) → i < n → pass i ≡ true → (f i < K) × (target (f i) ≡ true))
+    → ((i j : ℕ) → i < n → j < n → pass i ≡ true → pass j ≡ true → f i ≡ f j → i ≡ j)
+    → count n pass ≤ count K target
+count-into n zero pass target f into differ =
+    omega (arith, count-none n pass (λ i k. is-false (pass i) (λ p. omega (arith, into i k p .0))))
+count-into n (suc K) pass target f into differ =
+    omega (
+      arith,
+      count-split n pass at-K,
+      at-most,
+      count-into n K (λ i. pass i && not (at-K i)) target f
+          (λ i k p.
+          let both = and-true (pass i) (not (at-K i)) p in
+          let ne = eqb-false (f i) K (not-true (at-K i) (both .1)) in
+          (omega (arith, into i k (both .0) .0), into i k (both .0) .1))
+          (λ i j k l p q. differ i j k l (and-true (pass i) (not (at-K i)) p .0) (and-true (pass j) (not (at-K j)) q .0)),
+    )
+  where
+    at-K : ℕ → Bool
+    at-K i = eqb (f i) K
+
+    is-K : (i : ℕ) → (pass i && at-K i) ≡ true → (pass i ≡ true) × (f i ≡ K)
+    is-K i p = let both = and-true (pass i) (at-K i) p in (both .0, eqb-true (f i) K (both .1))
+
+    at-most : count n (λ i. pass i && at-K i) ≤ cond (target K) 1 0
+    at-most =
+        on (target K)
+        (λ e. rw e (count-at-most-one n (λ i. pass i && at-K i) (λ i j k l p q.
+        differ i j k l (is-K i p .0) (is-K j q .0) (is-K i p .1 ∙ sym (is-K j q .1)))))
+        (λ e. rw e (omega (
+          arith,
+          count-none n (λ i. pass i && at-K i) (λ i k. is-false (pass i && at-K i) (λ p.
+              clash (into i k (is-K i p .0) .1) (ap target (is-K i p .1) ∙ e))),
+        )))
+
+-- So where it takes them to any numbers below K, no more than K pass.
 pub pigeonhole : (n K : ℕ) (pass : ℕ → Bool) (f : ℕ → ℕ)
     → ((i : ℕ) → i < n → pass i ≡ true → f i < K)
     → ((i j : ℕ) → i < n → j < n → pass i ≡ true → pass j ≡ true → f i ≡ f j → i ≡ j)
     → count n pass ≤ K
-pigeonhole n zero pass f small differ =
-    omega (arith, count-none n pass (λ i k. is-false (pass i) (λ p. omega (arith, small i k p))))
-pigeonhole n (suc K) pass f small differ =
-    let at-K : ℕ → Bool = λ i. eqb (f i) K in
-    let one : count n (λ i. pass i && at-K i) ≤ 1 =
-    count-at-most-one n (λ i. pass i && at-K i) (λ i j k l p q.
-    let p′ = and-true (pass i) (at-K i) p in
-    let q′ = and-true (pass j) (at-K j) q in
-    differ i j k l (p′ .0) (q′ .0) (eqb-true (f i) K (p′ .1) ∙ sym (eqb-true (f j) K (q′ .1)))) in
-    let others : count n (λ i. pass i && not (at-K i)) ≤ K =
-    pigeonhole n K (λ i. pass i && not (at-K i)) f
-    (λ i k p.
-    let p′ = and-true (pass i) (not (at-K i)) p in
-    let ne : f i ≢ K = eqb-false (f i) K (not-true (at-K i) (p′ .1)) in
-    omega (arith, small i k (p′ .0)))
-    (λ i j k l p q.
-    differ i j k l (and-true (pass i) (not (at-K i)) p .0) (and-true (pass j) (not (at-K j)) q .0)) in
-    omega (arith, count-split n pass at-K)
+pigeonhole n K pass f small differ =
+    omega (arith, count-into n K pass (λ _. true) f (λ i k p. (small i k p, refl)) differ, count-le K (λ _. true))

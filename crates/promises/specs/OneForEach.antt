@@ -1,7 +1,7 @@
 -- "The valid data pages are one for each written logical page": rules 1, 2 and 6 say so, page by page and in number.
-use Prim.Native.Nat.{ℕ, zero, suc, _≤_, _<_}
+use Prim.Native.Nat.{ℕ, _≤_, _<_}
 use mathlib.Core.Path.{_≡_, refl, sym, _∙_, ap, subst}
-use mathlib.Core.Bool.{Bool, true, not, cond, _&&_}
+use mathlib.Core.Bool.{Bool, true, not}
 use native.Mathlib.Omega.{arith}
 use lib.Dec.{eqb}
 use borrow.Author.Tests.{eqb-true, eqb-false, eq-eqb, ne-eqb, not-true}
@@ -10,46 +10,9 @@ use Rattle.scope.specs.Geometry.{Geometry}
 use Rattle.scope.specs.Lent.{none, valid, Place, decode, State, state-of, owner-of, is-valid}
 use Rattle.scope.specs.Regions.{Data, region-pages, Has-page}
 use Rattle.scope.specs.Sound.{Names, Written, current, Sound}
-use Rattle.flash.specs.Cases.{on, clash, and-true, is-false, not-of-false}
-use Rattle.flash.specs.Counting.{count-none, count-split, count-at-most-one}
+use Rattle.flash.specs.Cases.{not-of-false}
+use Rattle.flash.specs.Counting.{count-into}
 use Rattle.promises.specs.Demands.{One-for-each}
-
--- Where f takes the numbers below n that pass to numbers below K that pass another test, no two of them to one, there are no more.
-count-injects : (n K : ℕ) (pass target : ℕ → Bool) (f : ℕ → ℕ)
-    → ((i : ℕ) → i < n → pass i ≡ true → (f i < K) × (target (f i) ≡ true))
-    → ((i j : ℕ) → i < n → j < n → pass i ≡ true → pass j ≡ true → f i ≡ f j → i ≡ j)
-    → count n pass ≤ count K target
-count-injects n zero pass target f into differ =
-    omega (arith, count-none n pass (λ i k. is-false (pass i) (λ p. omega (arith, into i k p .0))))
-count-injects n (suc K) pass target f into differ =
-    omega (
-      arith,
-      count-split n pass at-K,
-      at-most,
-      count-injects n K (λ i. pass i && not (at-K i)) target f
-          (λ i k p.
-          let both = and-true (pass i) (not (at-K i)) p in
-          let ne = eqb-false (f i) K (not-true (at-K i) (both .1)) in
-          (omega (arith, into i k (both .0) .0), into i k (both .0) .1))
-          (λ i j k l p q. differ i j k l (and-true (pass i) (not (at-K i)) p .0) (and-true (pass j) (not (at-K j)) q .0)),
-    )
-  where
-    at-K : ℕ → Bool
-    at-K i = eqb (f i) K
-
-    is-K : (i : ℕ) → (pass i && at-K i) ≡ true → (pass i ≡ true) × (f i ≡ K)
-    is-K i p = let both = and-true (pass i) (at-K i) p in (both .0, eqb-true (f i) K (both .1))
-
-    at-most : count n (λ i. pass i && at-K i) ≤ cond (target K) 1 0
-    at-most =
-        on (target K)
-        (λ e. rw e (count-at-most-one n (λ i. pass i && at-K i) (λ i j k l p q.
-        differ i j k l (is-K i p .0) (is-K j q .0) (is-K i p .1 ∙ sym (is-K j q .1)))))
-        (λ e. rw e (omega (
-          arith,
-          count-none n (λ i. pass i && at-K i) (λ i k. is-false (pass i && at-K i) (λ p.
-              clash (into i k (is-K i p .0) .1) (ap target (is-K i p .1) ∙ e))),
-        )))
 
 module _ {g : Geometry} {s : State} (sound : Sound g s) where
   -- The valid page of a written logical page is its current place.
@@ -88,7 +51,7 @@ module _ {g : Geometry} {s : State} (sound : Sound g s) where
     where
       pages-at-most : count (region-pages g Data) is-page ≤ count (g .L) is-written
       pages-at-most =
-          count-injects (region-pages g Data) (g .L) is-page is-written (λ p. owner-of p (s .spare))
+          count-into (region-pages g Data) (g .L) is-page is-written (λ p. owner-of p (s .spare))
           (λ p h e.
           let (below, w) = owner-written p (in-data p h) (page-valid p e) in
           (below, not-of-false (ne-eqb (current g s (owner-of p (s .spare))) none w)))
@@ -96,7 +59,7 @@ module _ {g : Geometry} {s : State} (sound : Sound g s) where
 
       written-at-most : count (g .L) is-written ≤ count (region-pages g Data) is-page
       written-at-most =
-          count-injects (g .L) (region-pages g Data) is-written is-page (λ l. current g s l)
+          count-into (g .L) (region-pages g Data) is-written is-page (λ l. current g s l)
           (λ l h e.
           let names = page-of l h (written l e) in
           (omega (arith, names .0 .1), eq-eqb (state-of (current g s l) (s .spare)) valid (names .1)))

@@ -7,14 +7,14 @@ use mathlib.Core.List.{List, [], _∷_, _++_}
 use lib.Dec.{eqb, leb}
 use lib.ListN.{length}
 use borrow.Author.Tests.{leb-false, lt-leb, not-true}
-use Rattle.flash.specs.Cases.{clash, not-of-false}
+use Rattle.flash.specs.Cases.{clash, not-of-false, twice-not}
 use Rattle.scope.specs.Geometry.{Geometry, Accepted, accepted}
 use Rattle.scope.specs.Lent.{State, Request, most-requests}
 use Rattle.scope.specs.Sound.{Sound}
 use Rattle.scope.specs.Decisions.{sound}
 use Rattle.scope.specs.Replies.{GEOMETRY, LENGTH, DAMAGED, KIND, PAGE, Size, right-sizes}
 use Rattle.scope.specs.Calls.{state-sizes, buffer-sizes, run-sizes}
-use Rattle.scope.specs.Laws.Decides.{Decides, by-equal, by-and, by-not, by-most}
+use Rattle.scope.specs.Laws.Decides.{Decides, by-equal, by-and, by-not, by-most, by-itself}
 use Rattle.scope.specs.Laws.Decided.{accepted-decided, sound-decided}
 use Rattle.promises.specs.Demands.{Right, Wrong}
 use Rattle.promises.specs.Tests.{Reason}
@@ -45,10 +45,6 @@ wrong-decided (z ∷ zs) = by-either (eqb (z .has) (z .should)) (right-sizes zs)
     (wrong-decided zs)
 
 -- ---- the reasons
-
-pub twice-not : (b : Bool) → not (not b) ≡ b
-twice-not true = refl
-twice-not false = refl
 
 -- Given unless P, which b decides; Q is P's contrary.
 abbrev refusal-unless : (n : ℕ) (b : Bool) (P Q : Type 0) → Decides b P → Decides (not b) Q → Reason
@@ -88,9 +84,6 @@ page-reason g l = refusal-from PAGE (g .L) l
 abbrev pub record-reasons : Geometry → Request → List Reason
 record-reasons g q = refusal-from KIND 2 (q .kind) ∷ page-reason g (q .page) ∷ []
 
-pub by-true : (b : Bool) → Decides b (b ≡ true)
-by-true b = record { holds = λ e. e; passes = λ e. e }
-
 pub by-false : (b : Bool) → Decides (not b) (b ≡ false)
 by-false b = record { holds = not-true b; passes = λ e. not-of-false e }
 
@@ -102,7 +95,7 @@ geometry-reason g = refusal-unless GEOMETRY (accepted g) (Accepted g) (¬ (Accep
 abbrev pub length-reason : List Size → Bool → Reason
 length-reason zs boundary =
     refusal-unless LENGTH (right-sizes zs && boundary) (Right zs × (boundary ≡ true)) (Wrong zs ⊎ (boundary ≡ false))
-    (by-and (right-decided zs) (by-true boundary))
+    (by-and (right-decided zs) (by-itself boundary))
     (by-either (right-sizes zs) boundary (wrong-decided zs) (by-false boundary))
 
 -- A run's: also over 1,024 records.
@@ -111,7 +104,7 @@ run-length-reason zs n boundary =
     refusal-unless LENGTH (right-sizes zs && leb n most-requests && boundary)
     ((Right zs × (n ≤ most-requests)) × (boundary ≡ true))
     ((Wrong zs ⊎ (most-requests < n)) ⊎ (boundary ≡ false))
-    (by-and (by-and (right-decided zs) (by-most n most-requests)) (by-true boundary))
+    (by-and (by-and (right-decided zs) (by-most n most-requests)) (by-itself boundary))
     (by-either (right-sizes zs && leb n most-requests) boundary
     (by-either (right-sizes zs) (leb n most-requests) (wrong-decided zs) (above-decided n most-requests)) (by-false boundary))
 

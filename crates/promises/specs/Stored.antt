@@ -10,12 +10,12 @@ use lib.Seq.{getD-set-same, getD-set-other}
 use borrow.Author.Tests.{eq-eqb, ne-eqb}
 use Rattle.scope.specs.Geometry.{Geometry, Accepted, M}
 use Rattle.scope.specs.Lent.{none, Entry, Place, Nowhere, Mapping, named, translation-page, translation-word}
-use Rattle.scope.specs.Sound.{stored}
+use Rattle.scope.specs.Sound.{stored, Past-L}
 use Rattle.scope.specs.Steps.{set-words}
 use Rattle.flash.specs.Cases.{same?}
 use Rattle.flash.specs.Words.{words-at}
 use Rattle.region.specs.Holds.{contents}
-use Rattle.region.specs.Stored.{word-in, Past-L}
+use Rattle.region.specs.Stored.{word-in}
 use Rattle.cache.specs.Waiting.{latest, Waits}
 use Rattle.promises.specs.Index.{word-below, page-and-word, word-tells}
 

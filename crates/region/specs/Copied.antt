@@ -1,8 +1,8 @@
 -- The victim's pages in their order: what holds after the first n of them, and so after all.
-use Prim.Native.Nat.{ℕ, zero, suc, _+_, _*_, _-_, _≤_, _<_}
-use mathlib.Core.Path.{_≡_, refl, sym, ap, ap₂, subst, _∙_}
+use Prim.Native.Nat.{ℕ, zero, suc, _+_, _*_, _≤_, _<_}
+use mathlib.Core.Path.{_≡_, refl, sym, ap, ap₂, _∙_}
 use mathlib.Core.Logic.{_≢_}
-use mathlib.Core.Bool.{Bool, cond}
+use mathlib.Core.Bool.{cond}
 use mathlib.Core.List.{List, [], _++_}
 use native.Mathlib.Omega.{arith}
 use lib.Dec.{eqb}
@@ -17,19 +17,13 @@ use Rattle.scope.specs.Operations.{Outcome, give, _>>=_}
 use Rattle.scope.specs.Room.{Following, move-if-valid, move-pages}
 use Rattle.scope.specs.Laws.Applied.{flash-refl}
 use Rattle.flash.specs.Cases.{last}
-use Rattle.flash.specs.Counting.{count-add}
+use Rattle.flash.specs.Counting.{count-upto}
 use Rattle.flash.specs.Places.{page-in-region, page-in-same}
 use Rattle.flash.specs.Listed.{cost, cost-none, cost-++}
 use Rattle.region.specs.Done.{Done, done-none, done-then}
 use Rattle.region.specs.Follower.{View, Invariant, Follower}
 use Rattle.region.specs.NextPage.{next-page}
 use Rattle.region.specs.Moving.{Copying, Keeps, Page-moved, move-if-valid-law}
-
--- More numbers, a higher count.
-count-upto : (n m : ℕ) (f : ℕ → Bool) → n ≤ m → count n f ≤ count m f
-count-upto n m f h =
-    let e : n + (m - n) ≡ m = omega arith in
-    subst (λ m. count n f ≤ count m f) e (omega (arith, count-add n (m - n) f))
 
 -- After the first n pages of block v, from state s with nothing in the open block: they have no valid page left, those ahead are as
 -- they were, and as many pages were moved as were valid.

@@ -16,7 +16,7 @@ use Rattle.scope.specs.Lent.{erased, valid, State, state-of, owner-of, is-valid
 use Rattle.scope.specs.Blocks.{wholly-erased, no-erased-page, valid-pages}
 use Rattle.scope.specs.Sound.{Pages-fit, Owners-differ, Wholly-erased, Full}
 use Rattle.scope.specs.Room.{erased-blocks, lowest-erased, victim}
-use Rattle.scope.specs.Laws.Decides.{Decides, by-all, by-equal, by-not}
+use Rattle.scope.specs.Laws.Decided.{wholly-erased-decided, full-decided}
 use Rattle.flash.specs.Cases.{on, same?, and-true, true-and, and-cases, clash, not-of-false}
 use Rattle.flash.specs.Counting.{some-found, none-some, sum, count-same, sum-same, count-blocks, count-one, count-split, pigeonhole, count-at-most-one}
 use Rattle.flash.specs.Searching.{lowest-found, fewest-found}
@@ -37,13 +37,6 @@ room n P K h k l =
 pub room-left : (g : Geometry) (r : Region) → Accepted g → owners g r + g .P < region-blocks g r * g .P
 room-left g Data a = room (g .D) (g .P) (g .L) (a .D-from) (a .L-from) (a .L-to)
 room-left g Translation a = room (g .T) (g .P) (M g) (a .T-from) (a .M-from) (a .M-to)
-
--- The tests of a block decide what they test.
-pub wholly-erased-decided : (g : Geometry) (spare : List ℕ) (b : ℕ) → Decides (wholly-erased g spare b) (Wholly-erased g spare b)
-wholly-erased-decided g spare b = by-all (g .P) (λ i. by-equal (state-of (page-in g b i) spare) erased)
-
-pub full-decided : (g : Geometry) (spare : List ℕ) (b : ℕ) → Decides (no-erased-page g spare b) (Full g spare b)
-full-decided g spare b = by-all (g .P) (λ i. by-not (by-equal (state-of (page-in g b i) spare) erased))
 
 -- By pigeonhole: valid pages have different owners (rule 2), all below `owners` (rule 1).
 pub valid-at-most-owners : (g : Geometry) (r : Region) (chip spare : List ℕ) → Pages-fit g r chip spare → Owners-differ g r spare

@@ -1,12 +1,12 @@
 -- What flash holds for logical pages, by the words of the translation pages: these kept, it is kept.
-use Prim.Native.Nat.{ℕ, _+_, _*_, _≤_, _<_}
+use Prim.Native.Nat.{ℕ, _≤_, _<_}
 use mathlib.Core.Path.{_≡_, refl, sym, ap, _∙_}
 use mathlib.Core.List.{List}
 use native.Mathlib.Omega.{arith}
 use native.Mathlib.Nat.{mod-lt}
 use lib.ListN.{length, getD, List·getD-eq-default}
 use Rattle.scope.specs.Geometry.{Geometry, M}
-use Rattle.scope.specs.Lent.{none, Entry, Place, Nowhere, decode, word-of, named, translation-page, translation-word}
+use Rattle.scope.specs.Lent.{none, Entry, Place, Nowhere, decode, named, translation-page, translation-word}
 use Rattle.scope.specs.Sound.{in-page, stored}
 use Rattle.flash.specs.Cases.{below?}
 use Rattle.flash.specs.Words.{words-at}
@@ -34,8 +34,3 @@ stored-same g chip directory chip′ directory′ h len len′ same l =
         below? t (M g) (same t) (λ past.
         ap (λ x. contents g chip′ (decode x)) (List·getD-eq-default directory′ none (omega arith))
         ∙ sym (ap (λ x. contents g chip (decode x)) (List·getD-eq-default directory none (omega arith))))
-
--- "Words past L are *none*": rule 6's second sentence.
-abbrev pub Past-L : Geometry → List ℕ → List ℕ → Type 0
-Past-L g chip directory =
-    (t q i : ℕ) → t < M g → named t directory ≡ Place q → i < g .W → g .L ≤ t * g .W + i → word-of g q i chip ≡ none

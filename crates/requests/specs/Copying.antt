@@ -2,7 +2,7 @@
 -- to settle. All of it follows from the law of the definition, since the loop has done the definition's first n pages.
 use Prim.Native.Nat.{ℕ, suc, _+_, _*_, _-_, _≤_, _<_}
 use mathlib.Core.Path.{_≡_, refl, sym, ap, subst, subst₂, _∙_}
-use mathlib.Core.Bool.{Bool, true}
+use mathlib.Core.Bool.{true}
 use lib.Dec.{eqb}
 use mathlib.Core.List.{List, []}
 use native.Mathlib.Numerals.{add-one}
@@ -16,7 +16,7 @@ use Rattle.scope.specs.Lent.{valid, State, Mapping, state-of, is-valid}
 use Rattle.scope.specs.Operations.{Step}
 use Rattle.scope.specs.Room.{move-if-valid, move-pages}
 use Rattle.scope.specs.Steps.{cache-follows}
-use Rattle.flash.specs.Counting.{count-le, count-add}
+use Rattle.flash.specs.Counting.{count-le, count-upto}
 use Rattle.flash.specs.Places.{page-on-chip, page-in-region}
 use Rattle.flash.specs.Words.{Lengths}
 use Rattle.flash.specs.Listed.{cost}
@@ -52,12 +52,6 @@ pub record Copies (g : Geometry) (v : ℕ) (s : State) : Type 0 where
   pub l : ℕ
   pub i : ℕ
   pub starts : Starts g Data (place-while g) (Follows g l i) v s
-
--- More pages, a higher count.
-count-upto : (n m : ℕ) (f : ℕ → Bool) → n ≤ m → count n f ≤ count m f
-count-upto n m f h =
-    let e : n + (m - n) ≡ m = omega arith in
-    subst (λ m. count n f ≤ count m f) e (omega (arith, count-add n (m - n) f))
 
 -- Before page n, with w waiting: the open block has room, as the cache has for its entries and the stack for one more that waits.
 record Before-page (g : Geometry) (v n : ℕ) (w : List Mapping) (s : State) : Type 0 where

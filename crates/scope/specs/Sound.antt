@@ -8,7 +8,7 @@ use mathlib.Core.List.{List}
 use lib.Dec.{eqb, ltb}
 use Rattle.scope.specs.Counting.{lowest}
 use Rattle.scope.specs.Geometry.{Geometry, M}
-use Rattle.scope.specs.Lent.{none, erased, valid, invalid, Entry, Place, Nowhere, decode, encode, State, words-of, word-of, state-of, owner-of, named, logical-at, physical-at, changed-at, translation-page, translation-word}
+use Rattle.scope.specs.Lent.{none, erased, valid, invalid, Entry, Place, Nowhere, decode, State, word-of, state-of, owner-of, named, logical-at, physical-at, changed-at, translation-page, translation-word}
 use Rattle.scope.specs.Regions.{Region, Data, Translation, owners, page-in, Has-block, Has-page}
 use Rattle.scope.specs.SmallRecord.{open-block, next-offset}
 
@@ -88,12 +88,15 @@ current g s l =
 abbrev pub Written : Geometry → State → ℕ → Type 0
 Written g s l = current g s l ≢ none
 
--- Rule 6. "The current place of l is the valid data page owned by l, or *none* where there isn't one. Words past L are *none*":
--- those of the pages that the directory names.
+-- "Words past L are *none*": those of the pages that the directory names.
+abbrev pub Past-L : Geometry → List ℕ → List ℕ → Type 0
+Past-L g chip directory =
+    (t q i : ℕ) → t < M g → named t directory ≡ Place q → i < g .W → g .L ≤ t * g .W + i → word-of g q i chip ≡ none
+
+-- Rule 6. "The current place of l is the valid data page owned by l, or *none* where there isn't one. Words past L are *none*."
 pub record Places-hold (g : Geometry) (s : State) : Type 0 where
   pub current-place : (l : ℕ) → l < g .L → Names g Data (s .spare) l (decode (current g s l))
-  pub past-L : (t q i : ℕ) → t < M g → named t (s .directory) ≡ Place q → i < g .W → g .L ≤ t * g .W + i
-      → word-of g q i (s .chip) ≡ none
+  pub past-L : Past-L g (s .chip) (s .directory)
 
 -- Rule 7. "An unchanged cached entry equals its translation page's word, or *none* where that page doesn't exist."
 abbrev pub Unchanged-agree : Geometry → State → Type 0

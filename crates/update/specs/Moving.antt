@@ -2,13 +2,12 @@
 use Prim.Native.Nat.{ℕ, zero, suc, _+_, _*_, _-_, _≤_, _<_}
 use mathlib.Core.Path.{_≡_, ap, subst}
 use mathlib.Core.Logic.{_≢_}
-use mathlib.Core.Bool.{Bool, true, false}
+use mathlib.Core.Bool.{true, false}
 use mathlib.Core.List.{List, [], _++_}
 use native.Mathlib.Numerals.{add-one}
 use native.Mathlib.Omega.{arith}
 use lib.ListN.{length}
 use borrow.Author.Tests.{eqb-true}
-use Rattle.scope.specs.Counting.{count}
 use Rattle.scope.specs.Geometry.{Geometry, pages}
 use Rattle.scope.specs.Regions.{Region, Translation, page-in, Has-page}
 use Rattle.scope.specs.SmallRecord.{open-block, next-offset}
@@ -16,7 +15,7 @@ use Rattle.scope.specs.Lent.{erased, valid, State, Mapping, state-of, owner-of,
 use Rattle.scope.specs.Operations.{Counts}
 use Rattle.scope.specs.Room.{Following, move-if-valid, move-pages}
 use Rattle.scope.specs.Steps.{directory-names-it, directory-follows}
-use Rattle.flash.specs.Counting.{count-add}
+use Rattle.flash.specs.Counting.{count-upto}
 use Rattle.flash.specs.Places.{page-on-chip, page-in-region}
 use Rattle.flash.specs.Words.{Lengths}
 use Rattle.region.specs.Holds.{Region-fits}
@@ -85,12 +84,6 @@ module _ (g : Geometry) (r : Region) (follow : Following) (v : ℕ) {s : State} 
   does-move-more n a b = does-bind _ a (does-bind _ b (does-give _))
 
 -- ---- the copies
-
--- More numbers, a higher count.
-count-upto : (n m : ℕ) (f : ℕ → Bool) → n ≤ m → count n f ≤ count m f
-count-upto n m f h =
-    let e : n + (m - n) ≡ m = omega arith in
-    subst (λ m. count n f ≤ count m f) e (omega (arith, count-add n (m - n) f))
 
 -- What the copies of block v's pages ask for, with the erased block opened.
 pub record Copy-ready (g : Geometry) (chip spare directory : List ℕ) (w : Work) (v : ℕ) : Type 0 where

@@ -1,20 +1,20 @@
 -- Each test of Decisions.antt decides its rule of Sound.antt, `sound` decides Sound, and `accepted` decides Accepted.
-use Prim.Native.Nat.{ℕ, zero, suc, _+_, _*_, _-_, _≤_, _<_}
+use Prim.Native.Nat.{ℕ, _+_, _*_, _-_, _≤_, _<_}
 use mathlib.Core.Path.{_≡_, refl, sym, subst, _∙_}
 use mathlib.Core.Logic.{_≢_, _⊎_, inl, inr}
-use mathlib.Core.Bool.{Bool, true, false, not, cond, _&&_, _||_, true≢false}
+use mathlib.Core.Bool.{Bool, true, false, _&&_, true≢false}
 use mathlib.Core.List.{List}
 use native.Mathlib.Omega.{arith}
-use lib.Dec.{eqb, ltb, leb}
+use lib.Dec.{eqb, ltb}
 use borrow.Author.Tests.{ltb-true, ltb-false}
 use Rattle.scope.specs.Counting.{all, some}
 use Rattle.scope.specs.Geometry.{Geometry, M, Accepted, accepted, within, most-blocks, most-pages-in-block}
 use Rattle.scope.specs.Regions.{Region, Data, Translation, owners, page-in, first-block, region-blocks, first-page, region-pages, Has-block, Has-page}
 use Rattle.scope.specs.SmallRecord.{open-block, next-offset}
-use Rattle.scope.specs.Lent.{none, erased, valid, invalid, Entry, Place, Nowhere, decode, State, word-of, state-of, owner-of, is-erased, is-valid, named, logical-at, physical-at, changed-at}
+use Rattle.scope.specs.Lent.{none, erased, valid, invalid, Entry, Place, Nowhere, decode, State, word-of, state-of, owner-of, named, logical-at, physical-at, changed-at}
 use Rattle.scope.specs.Blocks.{wholly-erased, no-erased-page}
 use Rattle.scope.specs.Sound.{Page-fits, Pages-fit, Owners-differ, Wholly-erased, Full, Blocks-fit, Names, Directory-names, Entries-fit, stored, current, Places-hold, Unchanged-agree, Sound}
-use Rattle.scope.specs.Decisions.{each-page, each-block, some-block, has-block, has-page, page-fits, pages-fit, owners-differ, blocks-fit, names, directory-names, entries-fit, none-past-L, places-hold, unchanged-agree, sound}
+use Rattle.scope.specs.Decisions.{has-block, has-page, page-fits, pages-fit, owners-differ, blocks-fit, names, directory-names, entries-fit, none-past-L, places-hold, unchanged-agree, sound}
 use Rattle.scope.specs.Laws.Decides.{Decides, by-equal, by-below, by-most, by-true, by-same, by-and, by-or, by-not, by-implied, by-cond, by-all, by-some}
 
 -- The numbers from `first` on, n of them: the pages or the blocks of a region.
@@ -92,6 +92,13 @@ module _ (g : Geometry) where
     unfolding pages-fit
     pages-fit-decided = by-range _ _ page-fits-decided
 
+  -- The tests of a block.
+  pub wholly-erased-decided : (spare : List ℕ) (b : ℕ) → Decides (wholly-erased g spare b) (Wholly-erased g spare b)
+  wholly-erased-decided spare b = by-all (g .P) (λ i. by-equal (state-of (page-in g b i) spare) erased)
+
+  pub full-decided : (spare : List ℕ) (b : ℕ) → Decides (no-erased-page g spare b) (Full g spare b)
+  full-decided spare b = by-all (g .P) (λ i. by-not (by-equal (state-of (page-in g b i) spare) erased))
+
   -- Two pages that the test of rule 2 meets, the higher one first.
   Clash : List ℕ → ℕ → ℕ → Type 0
   Clash spare p q = ((state-of p spare ≡ valid) × (state-of q spare ≡ valid)) × (owner-of p spare ≡ owner-of q spare)
@@ -127,12 +134,6 @@ module _ (g : Geometry) where
         (by-and
         (by-and (by-equal (state-of (first-page g r + i) spare) valid) (by-equal (state-of (first-page g r + j) spare) valid))
         (by-equal (owner-of (first-page g r + i) spare) (owner-of (first-page g r + j) spare))))))
-
-    wholly-erased-decided : (b : ℕ) → Decides (wholly-erased g spare b) (Wholly-erased g spare b)
-    wholly-erased-decided b = by-all (g .P) (λ i. by-equal (state-of (page-in g b i) spare) erased)
-
-    full-decided : (b : ℕ) → Decides (no-erased-page g spare b) (Full g spare b)
-    full-decided b = by-all (g .P) (λ i. by-not (by-equal (state-of (page-in g b i) spare) erased))
 
     has-block-decided : (b : ℕ) → Decides (has-block g r b) (Has-block g r b)
     has-block-decided b = by-and (by-most (first-block g r) b) (by-below b (first-block g r + region-blocks g r))
@@ -176,8 +177,8 @@ module _ (g : Geometry) where
         (by-all (g .P) (λ i. by-cond (by-below i offset)
         (by-not (by-equal (state-of (page-in g opened i) spare) erased))
         (by-equal (state-of (page-in g opened i) spare) erased))))
-        (by-range _ _ (λ b. by-or (by-equal b opened) (by-or (wholly-erased-decided b) (full-decided b)))))
-        (by-some-range _ _ (λ b. by-and (by-not (by-equal b opened)) (wholly-erased-decided b))))
+        (by-range _ _ (λ b. by-or (by-equal b opened) (by-or (wholly-erased-decided spare b) (full-decided spare b)))))
+        (by-some-range _ _ (λ b. by-and (by-not (by-equal b opened)) (wholly-erased-decided spare b))))
 
     names-decided : (k : ℕ) (e : Entry) → Decides (names g r spare k e) (Names g r spare k e)
     names-decided k (Place p) =

@@ -1,7 +1,7 @@
 -- A test decides a proposition: it passes exactly where the proposition holds. One law for each form that the tests have.
-use Prim.Native.Nat.{ℕ, zero, suc, _+_, _-_, _≤_, _<_}
+use Prim.Native.Nat.{ℕ, zero, suc, _≤_, _<_}
 use mathlib.Core.Path.{_≡_, refl, sym, subst}
-use mathlib.Core.Logic.{_≢_, _⊎_, inl, inr}
+use mathlib.Core.Logic.{_⊎_, inl, inr}
 use mathlib.Core.Bool.{Bool, true, false, not, cond, _&&_, _||_}
 use native.Mathlib.Omega.{arith}
 use lib.Dec.{eqb, ltb, leb}
@@ -26,6 +26,9 @@ by-most a b = record { holds = leb-true a b; passes = le-leb a b }
 
 pub by-true : Decides true (Unit {0})
 by-true = record { holds = λ e. tt; passes = λ x. refl }
+
+pub by-itself : (b : Bool) → Decides b (b ≡ true)
+by-itself b = record { holds = λ e. e; passes = λ e. e }
 
 -- The same test for a proposition that says the same.
 pub by-same : {b : Bool} {X Y : Type 0} → (X → Y) → (Y → X) → Decides b X → Decides b Y
@@ -127,45 +130,23 @@ last {X} n i h below top = go (ltb i n) refl
         same : ltb i n ≡ false → i ≡ n
         same e = omega (arith, borrow.Author.Tests.ltb-false i n e)
 
-all-holds : (n : ℕ) (f : ℕ → Bool) → all n f ≡ true → (i : ℕ) → i < n → f i ≡ true
-all-holds zero f e i h = absurd (omega arith)
-all-holds (suc n) f e i h =
-    last {X = λ i. f i ≡ true} n i h (all-holds n f (and-parts (all n f) (f n) e .0)) (and-parts (all n f) (f n) e .1)
-
-all-passes : (n : ℕ) (f : ℕ → Bool) → ((i : ℕ) → i < n → f i ≡ true) → all n f ≡ true
-all-passes zero f h = refl
-all-passes (suc n) f h =
-    and-both (all n f) (f n) (all-passes n f (λ i l. h i (omega arith))) (h n (omega arith))
-
 pub by-all : {f : ℕ → Bool} {X : ℕ → Type 0} (n : ℕ) → ((i : ℕ) → Decides (f i) (X i))
     → Decides (all n f) ((i : ℕ) → i < n → X i)
-by-all {f} n d =
-    record {
-      holds = λ e i h. d i .holds (all-holds n f e i h);
-      passes = λ x. all-passes n f (λ i h. d i .passes (x i h));
-    }
-
-some-holds : (n : ℕ) (f : ℕ → Bool) → some n f ≡ true → (i : ℕ) × (i < n) × (f i ≡ true)
-some-holds zero f e = clash false e refl
-some-holds (suc n) f e = go (some-holds n f) (or-part (some n f) (f n) e)
-  where
-    go : (some n f ≡ true → (i : ℕ) × (i < n) × (f i ≡ true))
-        → (some n f ≡ true) ⊎ (f n ≡ true) → (i : ℕ) × (i < suc n) × (f i ≡ true)
-    go ih (inl p) = let (i, h, q) = ih p in (i, omega arith, q)
-    go ih (inr p) = (n, omega arith, p)
-
-some-passes : (n : ℕ) (f : ℕ → Bool) (i : ℕ) → i < n → f i ≡ true → some n f ≡ true
-some-passes zero f i h e = absurd (omega arith)
-some-passes (suc n) f i h e =
-    last {X = λ i. f i ≡ true → some (suc n) f ≡ true} n i h
-    (λ j l p. or-first (some n f) (f n) (some-passes n f j l p))
-    (λ p. or-second (some n f) (f n) p)
-    e
+by-all zero d = record { holds = λ e i h. absurd (omega arith); passes = λ x. refl }
+by-all {X = X} (suc n) d =
+    by-same
+    (λ x i h. last {X = X} n i h (x .0) (x .1))
+    (λ x. (λ i h. x i (omega arith), x n (omega arith)))
+    (by-and (by-all n d) (d n))
 
 pub by-some : {f : ℕ → Bool} {X : ℕ → Type 0} (n : ℕ) → ((i : ℕ) → Decides (f i) (X i))
     → Decides (some n f) ((i : ℕ) × (i < n) × X i)
-by-some {f} n d =
-    record {
-      holds = λ e. let (i, h, p) = some-holds n f e in (i, h, d i .holds p);
-      passes = λ x. some-passes n f (x .0) (x .1) (d (x .0) .passes (x .2));
-    }
+by-some zero d = record { holds = λ e. clash false e refl; passes = λ x. absurd (omega (arith, x .1)) }
+by-some {X = X} (suc n) d = by-same one more (by-or (by-some n d) (d n))
+  where
+    one : ((i : ℕ) × (i < n) × X i) ⊎ X n → (i : ℕ) × (i < suc n) × X i
+    one (inl x) = (x .0, omega (arith, x .1), x .2)
+    one (inr x) = (n, omega arith, x)
+
+    more : (i : ℕ) × (i < suc n) × X i → ((i : ℕ) × (i < n) × X i) ⊎ X n
+    more (i, h, x) = last {X = λ i. X i → ((i : ℕ) × (i < n) × X i) ⊎ X n} n i h (λ j l x. inl (j, l, x)) inr x
