@@ -4,18 +4,18 @@ use Prim.Native.Nat.{ℕ, _%_}
 use mathlib.Core.Path.{_≡_, refl, sym, _∙_, ap}
 use mathlib.Core.Logic.{_↔_}
 use mathlib.Core.Bool.{Bool, true}
-use mathlib.Core.List.{List, [], _∷_}
-use native.Mathlib.Omega.{arith}
+use mathlib.Core.List.{List}
 use lib.Dec.{eqb}
 use lib.ListN.{length}
 use lib.Seq.{sets, length-sets}
 use borrow.Author.Tests.{eqb-true, eq-eqb}
 use Rattle.scope.specs.Geometry.{Geometry}
-use Rattle.scope.specs.SmallRecord.{SmallRecord, record-words, record-of, words-from}
+use Rattle.scope.specs.SmallRecord.{SmallRecord, record-words, words-from}
 use Rattle.scope.specs.Lent.{State}
 use Rattle.scope.specs.Operations.{Step, Outcome}
 use Rattle.scope.specs.Boundary.{Words, counts-words, in-words, right-words, tf-format, tf-check, tf-read, tf-write, tf-run}
 use Rattle.scope.specs.Contracts.{Answers, Gives, right-lengths}
+use Rattle.scope.specs.Laws.SmallRecord.{record-stored, record-kept}
 use Rattle.flash.specs.Cases.{and-true, true-and}
 use Rattle.promises.specs.Demands.{Call, Format, Check, Read-page, Write-page, Run, make}
 use Rattle.contracts.specs.Faces.{Back, Face, Answered, with-counts, rattle-face, Slices, lend, In-words, Tf-format, Tf-check, Tf-read, Tf-write, Tf-run, call-in-words, Given, state-of-slices, c-face}
@@ -91,23 +91,6 @@ right-words-exactly n counts = (
       (eqb-true (length (n .small)) record-words five, eqb-true (length counts) counts-words three),
   λ h. true-and (eq-eqb (length (n .small)) record-words (h .0)) (eq-eqb (length counts) counts-words (h .1)),
 )
-
--- Five words hold a record; the words of a record stored where they were read leave a slice of any length as it was.
-record-stored : (small : List ℕ) (r : SmallRecord) → length small ≡ record-words → record-of (sets small 0 (words-from r)) ≡ r
-record-stored [] r e = absurd (omega arith)
-record-stored (a ∷ []) r e = absurd (omega arith)
-record-stored (a ∷ b ∷ []) r e = absurd (omega arith)
-record-stored (a ∷ b ∷ d ∷ []) r e = absurd (omega arith)
-record-stored (a ∷ b ∷ d ∷ f ∷ []) r e = absurd (omega arith)
-record-stored (a ∷ b ∷ d ∷ f ∷ h ∷ more) r e = refl
-
-record-kept : (small : List ℕ) → sets small 0 (words-from (record-of small)) ≡ small
-record-kept [] = refl
-record-kept (a ∷ []) = refl
-record-kept (a ∷ b ∷ []) = refl
-record-kept (a ∷ b ∷ d ∷ []) = refl
-record-kept (a ∷ b ∷ d ∷ f ∷ []) = refl
-record-kept (a ∷ b ∷ d ∷ f ∷ h ∷ more) = refl
 
 -- The slices of lent words.
 abbrev slices : Words → Slices

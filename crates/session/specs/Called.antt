@@ -6,9 +6,8 @@ use mathlib.Core.Logic.{_≢_}
 use mathlib.Core.Bool.{Bool, true, _&&_}
 use mathlib.Core.List.{List, [], _∷_}
 use lib.ListN.{length, getD, take, replicate}
-use lib.Seq.{sets}
 use borrow.Author.Tests.{eq-eqb, ne-eqb}
-use Rattle.scope.specs.SmallRecord.{SmallRecord, record-words, record-of, words-from}
+use Rattle.scope.specs.SmallRecord.{SmallRecord, record-words}
 use Rattle.scope.specs.Lent.{State, with-small}
 use Rattle.scope.specs.Operations.{Step, Outcome, counted}
 use Rattle.scope.specs.Requests.{Replied}
@@ -17,16 +16,12 @@ use Rattle.scope.specs.Calls.{read, write}
 use Rattle.scope.specs.Boundary.{counts-words, words-of-counts, put, Words, InWords, from-words, to-words, right-words}
 use Rattle.scope.specs.Boundary.{in-words, tf-read, tf-write}
 use Rattle.scope.specs.Contracts.{Answers, Gives}
+use Rattle.scope.specs.Laws.SmallRecord.{record-stored}
 use Rattle.scope.specs.Tables.Play.{Line, W, R, made, first-word, printed}
 use Rattle.scope.specs.Tables.Session.{G}
-use Rattle.words.specs.Runs.{sets-whole}
 use Rattle.lines.specs.declared.Parsed.the-variants.{Other}
 use Rattle.lines.specs.Digits.{Prints}
 use Rattle.session.specs.Serves.{numbers, answered, shown, Serves}
-
--- A record of five words that is stored and loaded again.
-stored-record : (ws : List ℕ) (r : SmallRecord) → length ws ≡ record-words → record-of (sets ws 0 (words-from r)) ≡ r
-stored-record ws r five = ap record-of (sets-whole ws (words-from r) (sym five))
 
 -- Where the record has five words and the counts are three, a call in words is the call on numbers and lists.
 gives-answers : {A : Type 0} (call : Bool → Step A) (w w′ : Words) (x : A) → length (w .small) ≡ record-words
@@ -37,7 +32,7 @@ gives-answers {A = A} call w w′ x five three gives =
     record {
       value = ap (λ b. call b s .value) right ∙ gives .answer;
       after =
-          ap (λ (r : SmallRecord). with-small r (o .after)) (sym (stored-record (w .small) (o .after .small) five))
+          ap (λ (r : SmallRecord). with-small r (o .after)) (sym (record-stored (w .small) (o .after .small) five))
           ∙ ap (λ b. from-words (to-words w (call b s))) right
           ∙ ap from-words (gives .lent);
       counted = sym (ap (λ (v : Words). v .counts) (ap (λ b. to-words w (call b s)) right ∙ gives .lent));

@@ -1,9 +1,9 @@
 -- The small record as words, and the way from a call by value to its contract in words: the record is loaded, the call is made, the record
 -- is stored. What comes back is what the call's definition in scope's Boundary.antt gives.
 use Prim.Native.Nat.{ℕ}
-use mathlib.Core.Path.{_≡_, refl, ap, ap₂, sym, _∙_}
+use mathlib.Core.Path.{_≡_, ap, ap₂, sym, _∙_}
 use mathlib.Core.Bool.{Bool}
-use mathlib.Core.List.{List, [], _∷_}
+use mathlib.Core.List.{List}
 use lib.Dec.{eqb}
 use lib.ListN.{length}
 use lib.Seq.{sets}
@@ -13,6 +13,7 @@ use Rattle.scope.specs.SmallRecord.{SmallRecord, record-words, record-of, words
 use Rattle.scope.specs.Operations.{Step}
 use Rattle.scope.specs.Boundary.{Words, from-words, to-words, right-words, in-words}
 use Rattle.scope.specs.Contracts.{Answers, Gives, right-lengths}
+use Rattle.scope.specs.Laws.SmallRecord.{record-kept}
 use Rattle.lent.specs.declared.Record.{Record}
 use Rattle.lent.specs.Model.{small, state}
 
@@ -25,17 +26,9 @@ abbrev pub words : List ℕ → List ℕ → List ℕ → List ℕ → List ℕ 
 words chip spare directory cache record′ counts =
     record { chip = chip; spare = spare; directory = directory; cache = cache; small = record′; counts = counts }
 
--- Numbers that come back as they were loaded change no word, however many words there are.
-loaded-back : (l : List ℕ) → l ≡ sets l 0 (words-from (record-of l))
-loaded-back [] = refl
-loaded-back (a ∷ []) = refl
-loaded-back (a ∷ b ∷ []) = refl
-loaded-back (a ∷ b ∷ c ∷ []) = refl
-loaded-back (a ∷ b ∷ c ∷ d ∷ []) = refl
-loaded-back (a ∷ b ∷ c ∷ d ∷ e ∷ l) = refl
-
+-- Numbers that come back as they were loaded change no word.
 pub stored-back : (l : List ℕ) {r : SmallRecord} → r ≡ record-of l → l ≡ sets l 0 (words-from r)
-stored-back l loaded = loaded-back l ∙ ap (λ (r : SmallRecord). sets l 0 (words-from r)) (sym loaded)
+stored-back l loaded = sym (record-kept l) ∙ ap (λ (r : SmallRecord). sets l 0 (words-from r)) (sym loaded)
 
 module _ {A : Type 0} (record′ : List ℕ) {chip spare directory cache counts chip′ spare′ directory′ cache′ record″ counts′ : List ℕ}
     {rec rec′ : Record} {x : A} where
