@@ -34,9 +34,13 @@ use Rattle.promises.specs.Update.{only-refl, update-bound, Updated, upda
 use Rattle.promises.specs.Stored.{Mappings-of}
 use Rattle.promises.specs.Keeping.{Kept, within, kept-none, kept-then, kept-sound, step-lengths, step-pages, step-index, cache-kept}
 
+-- The most that translate costs.
+abbrev pub translate-bound : Geometry → ℕ
+translate-bound g = 2 * g .P + 2
+
 -- What translate promises: all is kept, and l's entry is in use at the rank handed back.
 pub record Translated (g : Geometry) (l : ℕ) (s : State) (o : Outcome ℕ) : Type 0 where
-  pub kept : Kept g (2 * g .P + 2) s o
+  pub kept : Kept g (translate-bound g) s o
   pub rank : Has-rank (o .after .cache) (o .after .small .used) l (o .value)
 
 page-read-cost : (e : Entry) → cost (page-read e) ≤ 1
@@ -45,19 +49,19 @@ page-read-cost (Place p) = omega arith
 page-read-cost Nowhere = omega arith
 
 -- Flash stores what the entry at rank i says, and the index holds: that entry can go.
-record Can-go (g : Geometry) (i : ℕ) (s : State) (o : Outcome (Unit {0})) : Type 0 where
-  back : Written-back g i s (o .after)
-  index : Index-fits g (o .after)
-  only : Translation-only g s (o .after)
-  lengths : Lengths g (o .after)
-  done : Done g s (o .did) (o .after)
-  costs : cost (o .did) ≤ update-bound g
+pub record Can-go (g : Geometry) (i : ℕ) (s : State) (o : Outcome (Unit {0})) : Type 0 where
+  pub back : Written-back g i s (o .after)
+  pub index : Index-fits g (o .after)
+  pub only : Translation-only g s (o .after)
+  pub lengths : Lengths g (o .after)
+  pub done : Done g s (o .did) (o .after)
+  pub costs : cost (o .did) ≤ update-bound g
 
 -- An entry is free, and no page has come into the cache.
-record Free (g : Geometry) (s : State) (o : Outcome (Unit {0})) : Type 0 where
-  kept : Kept g (update-bound g) s o
-  room : o .after .small .used < g .C
-  missing : (k : ℕ) → cached g s k ≡ Miss → cached g (o .after) k ≡ Miss
+pub record Free (g : Geometry) (s : State) (o : Outcome (Unit {0})) : Type 0 where
+  pub kept : Kept g (update-bound g) s o
+  pub room : o .after .small .used < g .C
+  pub missing : (k : ℕ) → cached g s k ≡ Miss → cached g (o .after) k ≡ Miss
 
 -- ---- the entry that goes
 
@@ -98,7 +102,7 @@ module _ {g : Geometry} (s : State) (len : Lengths g s) (sound : Sound g s) (i :
       }
 
   -- "If it is changed, first write it back"; by rule 7 flash stores it else.
-  can-go : Accepted g → Can-go g i s (cond (is-changed i (s .cache)) (write-back g i) nothing s)
+  pub can-go : Accepted g → Can-go g i s (cond (is-changed i (s .cache)) (write-back g i) nothing s)
   unfolding write-back written-back look give _>>=_
   can-go ok =
       on (is-changed i (s .cache))
@@ -149,7 +153,7 @@ module _ {g : Geometry} (s : State) (len : Lengths g s) (sound : Sound g s) (i :
 -- ---- translate
 
 module _ {g : Geometry} (ok : Accepted g) where
-  dropped-law : (s : State) → Lengths g s → Sound g s → Free g s (drop-if-full g s)
+  pub dropped-law : (s : State) → Lengths g s → Sound g s → Free g s (drop-if-full g s)
   unfolding drop-if-full drop-entry dropped look give _>>=_
   dropped-law s len sound =
       let used = s .small .used in
@@ -178,7 +182,7 @@ module _ {g : Geometry} (ok : Accepted g) where
       (handed .step) (free .missing l miss) refl in
       let entered : Kept g 1 s₁ (fetch g l s₁) = cache-kept page (free .kept .sound) (free .kept .lengths) (handed .step) places
       (page-read-cost page) in
-      record { kept = within (2 * g .P + 2) (omega arith) (kept-then o (fetch g l s₁) (free .kept) entered); rank = handed .rank }
+      record { kept = within (translate-bound g) (omega arith) (kept-then o (fetch g l s₁) (free .kept) entered); rank = handed .rank }
 
   pub translate-law : (l : ℕ) (s : State) → Lengths g s → Sound g s → l < g .L → Translated g l s (translate g l s)
   unfolding translate look _>>=_

@@ -92,7 +92,7 @@ begun-law g t Nowhere s len names =
 -- ---- the page written and named
 
 -- The last three steps of an update.
-writing : Geometry → ℕ → Entry → List ℕ → Step (Unit {0})
+unfoldable pub writing : Geometry → ℕ → Entry → List ℕ → Step (Unit {0})
 writing g t former words = program-next g Translation t words >>= (λ q. mark-old g former >>= (λ _. directory-names-it t q))
 
 record Page-set (g : Geometry) (t : ℕ) (words : List ℕ) (s : State) (o : Outcome (Unit {0})) : Type 0 where

@@ -40,7 +40,7 @@ use Rattle.promises.specs.Read.{entry-place}
 -- ---- the page written and the entry set
 
 -- The steps of a write once there is room.
-placing : Geometry → ℕ → ℕ → List ℕ → Step Replied
+unfoldable pub placing : Geometry → ℕ → ℕ → List ℕ → Step Replied
 placing g l i buffer =
     program-next g Data l buffer >>= (λ q.
     look (λ s. decode (physical-at i (s .cache))) >>= (λ old.
@@ -138,7 +138,7 @@ pub record Writes (g : Geometry) (l : ℕ) (buffer : List ℕ) (s : State) (o : 
   pub costs : cost (o .did) ≤ write-bound g
 
 -- The bounds of its parts: translation, the data region's room, and one program.
-write-costs : (P : ℕ) → 1 ≤ P → 2 * P + 2 + (2 * (P - 1) + (2 * P + 1) * (P - 1) + 1) + 1 ≤ (2 * P + 1) * (P + 1)
+pub write-costs : (P : ℕ) → 1 ≤ P → 2 * P + 2 + (2 * (P - 1) + (2 * P + 1) * (P - 1) + 1) + 1 ≤ (2 * P + 1) * (P + 1)
 write-costs zero h = absurd (omega arith)
 write-costs (suc p) h = let e : suc p - 1 ≡ p = omega arith in rw e (omega arith)
 

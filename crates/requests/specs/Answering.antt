@@ -1,5 +1,5 @@
 -- Read and write: what their parts ask for, from the laws of translate and of make room, and the parts put together.
-use Prim.Native.Nat.{ℕ, zero, suc, _+_, _*_, _-_, _≤_, _<_}
+use Prim.Native.Nat.{ℕ, _+_, _*_, _≤_, _<_}
 use mathlib.Core.Path.{_≡_, sym, subst, subst₂, _∙_}
 use mathlib.Core.List.{List}
 use native.Mathlib.Omega.{arith}
@@ -8,10 +8,10 @@ use Rattle.scope.specs.Geometry.{Geometry, Accepted, pages}
 use Rattle.scope.specs.Regions.{Data}
 use Rattle.scope.specs.Lent.{Entry, Place, Nowhere, decode, State, physical-at}
 use Rattle.scope.specs.Sound.{Names, Sound}
-use Rattle.scope.specs.Operations.{Counts, Step, give, look, _>>=_}
+use Rattle.scope.specs.Operations.{Counts}
 use Rattle.scope.specs.Room.{read-page, program-next, make-room}
 use Rattle.scope.specs.Cache.{set-entry}
-use Rattle.scope.specs.Steps.{mark-old, cache-follows, translate}
+use Rattle.scope.specs.Steps.{cache-follows, translate}
 use Rattle.scope.specs.Replies.{DONE, UNWRITTEN}
 use Rattle.scope.specs.Requests.{Replied, replied, read-place, read-steps, write-steps}
 use Rattle.flash.specs.Places.{page-on-chip}
@@ -23,8 +23,9 @@ use Rattle.promises.specs.Demands.{read-bound, write-bound}
 use Rattle.promises.specs.Parts.{index-of, data-of, cache-of, sound-from}
 use Rattle.promises.specs.Update.{update-bound}
 use Rattle.promises.specs.Follow.{place-while, Follows, none-waits, cache-follower}
-use Rattle.promises.specs.Translate.{Translated, translate-law}
+use Rattle.promises.specs.Translate.{translate-bound, Translated, translate-law}
 use Rattle.promises.specs.Read.{entry-place}
+use Rattle.promises.specs.Write.{placing, write-costs}
 use Rattle.lent.specs.declared.Counts.{Counts as Counted}
 use Rattle.lent.specs.declared.Work.{Work}
 use Rattle.lent.specs.Model.{small, state, counts}
@@ -35,7 +36,6 @@ use Rattle.steps.specs.Chip.{marked, mark-old-does}
 use Rattle.steps.specs.Lies.{Chip-lent, Spare-lent, Has-next}
 use Rattle.update.specs.Index.{less-room}
 use Rattle.requests.specs.Ready.{Does-all, Ready-for, ready-less, countable-after}
-use Rattle.requests.specs.Translating.{translate-bound}
 use Rattle.requests.specs.Collecting.{room-bound, Room-ready}
 
 -- The page at a place may be read into a buffer.
@@ -55,13 +55,6 @@ pub record Writing-ready (g : Geometry) (i : ℕ) (chip spare cache buffer : Lis
   pub next : Has-next g Data (small (w .rec))
   pub long : length buffer ≡ g .W
   pub countable : Room-to-count 1 (w .counts)
-
--- The steps of a write once there is room.
-abbrev pub placing : Geometry → ℕ → ℕ → List ℕ → Step Replied
-placing g l i buffer =
-    program-next g Data l buffer >>= (λ q.
-    look (λ s. decode (physical-at i (s .cache))) >>= (λ old.
-    mark-old g old >>= (λ _. set-entry i q >>= (λ _. give (replied buffer DONE)))))
 
 -- ---- page l's entry, at its rank
 
@@ -141,11 +134,6 @@ read-does g l buffer translates e reads = does-bind _ translates (does-bind _ (d
 
 -- ---- write
 
--- The bounds of its parts: translation, the data region's room, and one program.
-write-costs : (P : ℕ) → 1 ≤ P → 2 * P + 2 + (2 * (P - 1) + (2 * P + 1) * (P - 1) + 1) + 1 ≤ (2 * P + 1) * (P + 1)
-write-costs zero h = absurd (omega arith)
-write-costs (suc p) h = let e : suc p - 1 ≡ p = omega arith in rw e (omega arith)
-
 pub write-begins : {l : ℕ} {g : Geometry} {s : State} {c : Counted} → Ready-for l g s (write-bound g) c
     → Ready-for l g s (translate-bound g) c
 write-begins {g = g} a = ready-less (omega (arith, write-costs (g .P) (a .ready .accepted .P-from))) a
@@ -207,6 +195,7 @@ pub placing-does : (g : Geometry) (l i : ℕ) {chip spare cache chip′ spare₁
     → Does-cache (set-entry i q) cache w′ tt cache′ w′ → (directory : List ℕ)
     → Does-all (placing g l i buffer) (state chip spare directory cache (w .rec)) w (replied buffer DONE)
     (state chip′ spare′ directory cache′ (w′ .rec)) w′
+unfolding placing
 placing-does g l i {cache = cache} {chip′} {old = old} programs e is-marked sets directory =
     does-bind _ (programs directory cache)
     (does-bind _ (does-look-at _ e)
@@ -216,5 +205,5 @@ placing-does g l i {cache = cache} {chip′} {old = old} programs e is-marked se
 pub write-does : (g : Geometry) (l : ℕ) (buffer : List ℕ) {s s₁ s₂ s₃ : State} {c c₁ c₂ c₃ : Counts} {x : ℕ} {r : Replied}
     → Does (translate g l) s c x s₁ c₁ → Does (make-room g Data (cache-follows g)) s₁ c₁ tt s₂ c₂
     → Does (placing g l x buffer) s₂ c₂ r s₃ c₃ → Does (write-steps g l buffer) s c r s₃ c₃
-unfolding write-steps
+unfolding write-steps placing
 write-does g l buffer translates makes places = does-bind _ translates (does-bind _ makes places)

@@ -1,7 +1,6 @@
 -- The modules of this crate.
 pub mod Fresh
 pub mod Ready
-pub mod Dropping
 pub mod Translating
 pub mod Waiting
 pub mod Filtered

@@ -1,5 +1,5 @@
 -- What the parts of translate ask for, each from what holds at its place: an entry written back, an entry fetched.
-use Prim.Native.Nat.{ℕ, _+_, _*_, _-_, _≤_, _<_}
+use Prim.Native.Nat.{ℕ, _-_, _≤_, _<_}
 use mathlib.Core.Path.{_≡_, refl, sym, ap, subst, _∙_}
 use mathlib.Core.Logic.{⊎-elim}
 use mathlib.Core.Bool.{Bool, cond}
@@ -20,19 +20,15 @@ use Rattle.flash.specs.Words.{Lengths}
 use Rattle.promises.specs.Index.{page-below}
 use Rattle.promises.specs.Parts.{Index-fits, index-of}
 use Rattle.promises.specs.Update.{update-bound}
+use Rattle.promises.specs.Translate.{translate-bound, can-go, dropped-law}
 use Rattle.lent.specs.declared.Counts.{Counts as Counted}
 use Rattle.lent.specs.declared.Work.{Work}
 use Rattle.lent.specs.Model.{state, counts}
 use Rattle.lent.specs.Does.{Does}
 use Rattle.lent.specs.DoesLaws.{does-give, does-look, does-look-at, does-bind, does-cond-true, does-cond-false}
 use Rattle.requests.specs.Ready.{Ready, Ready-for, countable-after}
-use Rattle.requests.specs.Dropping.{written-law, drop-frees}
 use Rattle.update.specs.Index.{Index-ready, less-room}
 use Rattle.lent.specs.Shapes.{Does-by-chip, Room-to-count}
-
--- The most that translate costs.
-abbrev pub translate-bound : Geometry → ℕ
-translate-bound g = 2 * g .P + 2
 
 -- An entry for l may be fetched: there is room for it, and the translation page that is to be read lies on the chip.
 pub record Fetches (g : Geometry) (l : ℕ) (chip directory cache : List ℕ) (w : Work) : Type 0 where
@@ -139,7 +135,7 @@ pub written-keeps-used : {g : Geometry} {s : State} {n : ℕ} {c : Counted} {chi
     → w .rec .used ≡ s .small .used
 written-keeps-used {s = s} ready i in-use does =
     sym (ap (λ (z : State). z .small .used) (does .after))
-    ∙ written-law (ready .accepted) s (ready .lengths) (ready .sound) i in-use .used
+    ∙ can-go s (ready .lengths) (ready .sound) i in-use (ready .accepted) .back .used
 
 -- An entry may be fetched once one is free.
 pub fetch-ready : {g : Geometry} (l : ℕ) {s : State} {c : Counted} {chip spare directory cache : List ℕ} {w : Work}
@@ -147,8 +143,8 @@ pub fetch-ready : {g : Geometry} (l : ℕ) {s : State} {c : Counted} {chip spare
     → Does (drop-if-full g) s (counts c) tt (state chip spare directory cache (w .rec)) (counts (w .counts))
     → Fetches g l chip directory cache w
 fetch-ready {g} l {s} {c} {chip} {spare} {directory} {cache} {w} ready does =
-    let freed = drop-frees (ready .ready .accepted) s (ready .ready .lengths) (ready .ready .sound) in
-    let lengths : Lengths g (state chip spare directory cache (w .rec)) = subst (Lengths g) (does .after) (freed .lengths) in
+    let freed = dropped-law (ready .ready .accepted) s (ready .ready .lengths) (ready .ready .sound) in
+    let lengths : Lengths g (state chip spare directory cache (w .rec)) = subst (Lengths g) (does .after) (freed .kept .lengths) in
     record {
       accepted = ready .ready .accepted;
       chip-fits = lengths .chip-fits;
@@ -156,7 +152,7 @@ fetch-ready {g} l {s} {c} {chip} {spare} {directory} {cache} {w} ready does =
       cache-fits = lengths .cache-fits;
       below = ready .below;
       on-chip = named-on-chip (ready .ready .accepted) (state chip spare directory cache (w .rec))
-          (subst (Index-fits g) (does .after) (freed .index)) l (ready .below);
+          (subst (Index-fits g) (does .after) (index-of (freed .kept .sound))) l (ready .below);
       room = subst (λ (x : State). x .small .used < g .C) (does .after) (freed .room);
-      countable = countable-after 1 (update-bound g) (less-room (omega arith) (ready .ready .countable)) (freed .costs) does;
+      countable = countable-after 1 (update-bound g) (less-room (omega arith) (ready .ready .countable)) (freed .kept .costs) does;
     }

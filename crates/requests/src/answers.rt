@@ -20,10 +20,11 @@ ghost use Rattle.scope.specs.Requests.{replied, read-place, read-steps, write-s
 ghost use Rattle.lent.specs.Model.{geometry, entry, state};
 ghost use Rattle.lent.specs.Shapes.{Does-by-chip};
 ghost use Rattle.promises.specs.Demands.{read-bound, write-bound};
+ghost use Rattle.promises.specs.Write.{placing};
 ghost use Rattle.words.specs.Census.{Census};
 ghost use Rattle.steps.specs.Filter.{Filter};
 ghost use Rattle.requests.specs.Ready.{lent, Does-all, Ready-for};
-ghost use Rattle.requests.specs.Answering.{Place-ready, Writing-ready, placing};
+ghost use Rattle.requests.specs.Answering.{Place-ready, Writing-ready};
 
 const DONE: u32 = 0;
 

@@ -19,10 +19,11 @@ ghost use Rattle.scope.specs.Operations.{nothing};
 ghost use Rattle.scope.specs.Cache.{is-changed};
 ghost use Rattle.scope.specs.Steps.{write-back, drop-entry, drop-if-full, fetch, translate};
 ghost use Rattle.promises.specs.Update.{update-bound};
+ghost use Rattle.promises.specs.Translate.{translate-bound};
 ghost use Rattle.words.specs.Census.{Census};
 ghost use Rattle.steps.specs.Filter.{Filter};
 ghost use Rattle.requests.specs.Ready.{lent, Does-all, Ready, Ready-for};
-ghost use Rattle.requests.specs.Translating.{translate-bound, Fetches, Does-fetch};
+ghost use Rattle.requests.specs.Translating.{Fetches, Does-fetch};
 
 // The entry at rank i is written back, if it is changed.
 fn write_back_if_changed(

@@ -11,16 +11,15 @@ use Rattle.scope.specs.Geometry.{Geometry, M, pages}
 use Rattle.scope.specs.Regions.{Translation}
 use Rattle.scope.specs.Lent.{none, Entry, Place, State, Mapping, words-of, named, translation-page, translation-word}
 use Rattle.scope.specs.Sound.{Names}
-use Rattle.scope.specs.Operations.{Step, _>>=_, _>>_}
-use Rattle.scope.specs.Room.{make-room, program-next}
-use Rattle.scope.specs.Steps.{set-words, mark-old, directory-names-it, directory-follows, update}
+use Rattle.scope.specs.Room.{make-room}
+use Rattle.scope.specs.Steps.{set-words, directory-names-it, directory-follows, update}
 use Rattle.flash.specs.Places.{page-on-chip}
 use Rattle.flash.specs.Words.{Lengths}
 use Rattle.region.specs.Holds.{Region-holds, Holds}
 use Rattle.region.specs.DirectoryFollows.{in-directory, translation-room-law}
 use Rattle.promises.specs.Index.{page-below}
 use Rattle.promises.specs.Stored.{length-set-words}
-use Rattle.promises.specs.Update.{update-bound}
+use Rattle.promises.specs.Update.{writing, update-bound}
 use Rattle.lent.specs.declared.Work.{Work}
 use Rattle.lent.specs.Model.{small, counts}
 use Rattle.lent.specs.DoesLaws.{does-ends, state-same, does-look, does-bind}
@@ -204,23 +203,18 @@ finish-ready h =
       counting = h .counting;
     }
 
-abbrev pub writes : Geometry → ℕ → Entry → List ℕ → Step (Unit {0})
-writes g t former words = do
-  q ← program-next g Translation t words
-  mark-old g former
-  directory-names-it t q
-
--- So it is programmed with any words that stand in it.
+-- It is programmed with any words that stand in it.
 abbrev pub Written : Geometry → ℕ → List ℕ → List ℕ → Work → List ℕ → List ℕ → Work → Type 0
 Written g t spare directory w spare′ directory′ w′ =
     (chip words : List ℕ)
-    → Does-index (writes g t (named t directory) words) chip spare directory w tt
+    → Does-index (writing g t (named t directory) words) chip spare directory w tt
     (sets chip (next-page g Translation (small (w .rec)) * g .W) words) spare′ directory′ w′
 
 pub write-does : (g : Geometry) (t : ℕ) {former : Entry} {q : ℕ} {spare spare₁ spare₂ directory directory′ : List ℕ} {w w′ : Work}
     → former ≡ named t directory → Claimed g Translation t spare w q spare₁ w′ → spare₂ ≡ marked former spare₁
     → ((w : Work) → Does-directory (directory-names-it t q) directory w tt directory′ w)
     → Written g t spare directory w spare₂ directory′ w′
+unfolding writing
 write-does g t {former} {spare₁ = spare₁} {spare₂} {directory} {w′ = w′} is-named claimed is-marked names chip words cache =
     does-bind _ (program-does words refl refl claimed directory cache)
     (does-bind _ (mark-old-does g (named t directory) (is-marked ∙ ap (λ e. marked e spare₁) is-named)) (names w′ _ spare₂ cache))
@@ -232,7 +226,7 @@ pub update-does : {g : Geometry} {t : ℕ} (ms : List Mapping)
     → chip₂ ≡ sets (b .chip₁) (next-page g Translation (small (w₁ .rec)) * g .W) (set-words g ms (begun-words g (named t directory₁) (b .chip₁)))
     → Written g t spare₁ directory₁ w₁ spare₂ directory₂ w₂
     → Does-index (update g t ms) chip spare directory w tt chip₂ spare₂ directory₂ w₂
-unfolding update
+unfolding update writing
 update-does {g} {t} ms {spare₁ = spare₁} {directory₁ = directory₁} b is-set written cache =
     does-ends
     (does-bind _ (b .made cache)
