@@ -135,5 +135,11 @@ module _ (r : Region) (s : SmallRecord) {b i : ℕ} (is-b : b ≡ open-block r s
   pub next-is : (g : Geometry) → b * g .P + i ≡ next-page g r s
   next-is g = rw (is-b, is-i) refl
 
+  pub open-on-chip : {g : Geometry} → Has-next g r s → b < blocks g
+  open-on-chip {g} next = rw is-b (block-on-chip g r (open-block r s) (next .in-region))
+
+  pub offset-in-block : {g : Geometry} → Has-next g r s → i < g .P
+  offset-in-block next = rw is-i (next .room)
+
   pub advanced-is : with-open r b (i + 1) s ≡ advanced r s
   advanced-is = rw (is-b, is-i, add-one) refl

@@ -1,8 +1,7 @@
 -- `steps::chip::erase` meets its contract: the block's words and spare words are filled, and an erase is counted.
-use mathlib.Core.Path.{refl}
 use native.Mathlib.Omega.{arith}
 use borrow.Author.Needs.{needs}
-use Rattle.steps.specs.Lies.{block-lies}
+use Rattle.steps.specs.Lies.{Block-lies, block-lies}
 use Rattle.steps.specs.Census.{census-erased}
 use Rattle.steps.specs.Chip.{erase-does}
 use Rattle.lent.specs.Model.{geometry}
@@ -15,35 +14,42 @@ cast-p c = search needs
 cast-w : tie.Need-cast-w
 cast-w c = search needs
 
+-- The block lies in the chip and in the spare.
+in-place : (start : tie.Start)
+    → Block-lies (geometry (start .args .g)) (start .args .chip .now) (start .args .spare .now) (start .args .b)
+in-place start = block-lies (start .pre .0 .0) (start .pre .0 .1) (start .args .b) (start .pre .0 .2)
+
 mul-at : tie.Need-mul-at
-mul-at c = omega (arith, block-lies (c .before .before .before .before .before .pre .0 .0) (c .before .before .before .before .before .pre .0 .1) (c .before .before .before .before .before .args .b) (c .before .before .before .before .before .pre .0 .2))
+mul-at c = omega (arith, in-place (c .before .before .before .before .before))
 
 mul-fill-erased : tie.Need-mul-fill-erased
-mul-fill-erased c = omega (arith, block-lies (c .before .before .before .before .before .before .pre .0 .0) (c .before .before .before .before .before .before .pre .0 .1) (c .before .before .before .before .before .before .args .b) (c .before .before .before .before .before .before .pre .0 .2))
+mul-fill-erased c = omega (arith, in-place (c .before .before .before .before .before .before))
 
 mul-fill-erased-2 : tie.Need-mul-fill-erased-2
-mul-fill-erased-2 c = omega (arith, block-lies (c .before .before .before .before .before .before .pre .0 .0) (c .before .before .before .before .before .before .pre .0 .1) (c .before .before .before .before .before .before .args .b) (c .before .before .before .before .before .before .pre .0 .2))
+mul-fill-erased-2 c = omega (arith, in-place (c .before .before .before .before .before .before))
 
 fill-erased-requires : tie.Need-fill-erased-requires
-fill-erased-requires c κs = omega (arith, block-lies (c .before .before .before .before .before .before .pre .0 .0) (c .before .before .before .before .before .before .pre .0 .1) (c .before .before .before .before .before .before .args .b) (c .before .before .before .before .before .before .pre .0 .2))
+fill-erased-requires c κs = omega (arith, in-place (c .before .before .before .before .before .before))
 
 mul-fill-erased-3 : tie.Need-mul-fill-erased-3
-mul-fill-erased-3 c = omega (arith, block-lies (c .before .before .before .before .before .before .before .before .before .before .pre .0 .0) (c .before .before .before .before .before .before .before .before .before .before .pre .0 .1) (c .before .before .before .before .before .before .before .before .before .before .args .b) (c .before .before .before .before .before .before .before .before .before .before .pre .0 .2))
+mul-fill-erased-3 c = omega (arith, in-place (c .before .before .before .before .before .before .before .before .before .before))
 
 mul-fill-erased-4 : tie.Need-mul-fill-erased-4
-mul-fill-erased-4 c = omega (arith, block-lies (c .before .before .before .before .before .before .before .before .before .before .pre .0 .0) (c .before .before .before .before .before .before .before .before .before .before .pre .0 .1) (c .before .before .before .before .before .before .before .before .before .before .args .b) (c .before .before .before .before .before .before .before .before .before .before .pre .0 .2))
+mul-fill-erased-4 c = omega (arith, in-place (c .before .before .before .before .before .before .before .before .before .before))
 
 fill-erased-requires-2 : tie.Need-fill-erased-requires-2
-fill-erased-requires-2 c κs = omega (arith, block-lies (c .before .before .before .before .before .before .before .before .before .before .pre .0 .0) (c .before .before .before .before .before .before .before .before .before .before .pre .0 .1) (c .before .before .before .before .before .before .before .before .before .before .args .b) (c .before .before .before .before .before .before .before .before .before .before .pre .0 .2))
+fill-erased-requires-2 c κs = omega (arith, in-place (c .before .before .before .before .before .before .before .before .before .before))
 
 mul-census : tie.Need-mul-census
-mul-census c = omega (arith, block-lies (c .before .before .before .before .before .before .before .before .before .before .before .before .before .before .pre .0 .0) (c .before .before .before .before .before .before .before .before .before .before .before .before .before .before .pre .0 .1) (c .before .before .before .before .before .before .before .before .before .before .before .before .before .before .args .b) (c .before .before .before .before .before .before .before .before .before .before .before .before .before .before .pre .0 .2))
+mul-census c = omega (arith, in-place (c .before .before .before .before .before .before .before .before .before .before .before .before .before .before))
 
 mul-census-2 : tie.Need-mul-census-2
-mul-census-2 c = omega (arith, block-lies (c .before .before .before .before .before .before .before .before .before .before .before .before .before .before .pre .0 .0) (c .before .before .before .before .before .before .before .before .before .before .before .before .before .before .pre .0 .1) (c .before .before .before .before .before .before .before .before .before .before .before .before .before .before .args .b) (c .before .before .before .before .before .before .before .before .before .before .before .before .before .before .pre .0 .2))
+mul-census-2 c = omega (arith, in-place (c .before .before .before .before .before .before .before .before .before .before .before .before .before .before))
 
 slice-write-census : tie.Need-slice-write-census
-slice-write-census c = omega (arith, c .before .before .before .before .before .before .before .before .before .before .before .before .before .before .pre .1 .long, c .before .before .before .before .before .before .before .before .before .before .before .before .before .before .pre .0 .2)
+slice-write-census c =
+    let start = c .before .before .before .before .before .before .before .before .before .before .before .before .before .before in
+    omega (arith, start .pre .1 .long, start .pre .0 .2)
 
 count-erase-requires : tie.Need-count-erase-requires
 count-erase-requires c κs = search needs
@@ -58,11 +64,13 @@ same-length-3 : tie.Need-same-length-3
 same-length-3 c = search needs
 
 returns : tie.Need-returns
-returns c = (
-  erase-does (geometry (c .before .before .before .before .before .before .before .before .before .before .before .before .before .before .before .args .g)) (c .before .before .before .before .before .before .before .before .before .before .before .before .before .before .before .args .b) (c .before .before .before .before .before .before .before .before .fill-erased .ensures) (c .before .before .before .before .fill-erased2 .ensures)
-      (c .count-erase .ensures .0) (c .count-erase .ensures .1),
-  census-erased (c .before .before .before .before .before .before .before .before .before .before .before .before .before .before .before .pre .1) (c .before .before .before .before .before .before .before .before .before .before .before .before .before .before .before .args .b) (c .before .before .before .before .before .before .before .before .before .before .before .before .before .before .before .pre .0 .2) (block-lies (c .before .before .before .before .before .before .before .before .before .before .before .before .before .before .before .pre .0 .0) (c .before .before .before .before .before .before .before .before .before .before .before .before .before .before .before .pre .0 .1) (c .before .before .before .before .before .before .before .before .before .before .before .before .before .before .before .args .b) (c .before .before .before .before .before .before .before .before .before .before .before .before .before .before .before .pre .0 .2) .spares) (c .before .before .before .before .fill-erased2 .ensures),
-)
+returns c =
+    let start = c .before .before .before .before .before .before .before .before .before .before .before .before .before .before .before in
+    let spares = c .before .before .before .before .fill-erased2 .ensures in (
+      erase-does (geometry (start .args .g)) (start .args .b) (c .before .before .before .before .before .before .before .before .fill-erased .ensures) spares
+          (c .count-erase .ensures .0) (c .count-erase .ensures .1),
+      census-erased (start .pre .1) (start .args .b) (start .pre .0 .2) (in-place start .spares) spares,
+    )
 
 pub erase-spec : {M : Type 1} → statement M
 erase-spec =

@@ -1,5 +1,5 @@
 -- `steps::chip::mark_old` meets its contract, for a place and for none.
-use mathlib.Core.Path.{refl, sym, ap, _∙_}
+use mathlib.Core.Path.{sym, ap, _∙_}
 use borrow.Author.Needs.{needs}
 use Rattle.lent.specs.Model.{entry}
 use Rattle.steps.specs.Chip.{marked}
@@ -17,7 +17,9 @@ returns : tie.Need-returns
 returns c = (search needs, c .before .before .before .before .pre .1)
 
 mark-requires : tie.Need-mark-requires
-mark-requires c κs = ((c .before .before .before .before .before .before .before .pre .0 .0, c .before .before .before .before .before .before .before .pre .0 .1 _ (ap entry (c .before .before .before .old .given .1))), c .before .before .before .before .before .before .before .pre .1)
+mark-requires c κs =
+    let start = c .before .before .before .before .before .before .before in
+    ((start .pre .0 .0, start .pre .0 .1 _ (ap entry (c .before .before .before .old .given .1))), start .pre .1)
 
 same-length : tie.Need-same-length
 same-length c = search needs
@@ -26,10 +28,11 @@ same-length-2 : tie.Need-same-length-2
 same-length-2 c = search needs
 
 returns-2 : tie.Need-returns-2
-returns-2 c = (
-  c .before .before .before .before .mark .ensures .0 ∙ sym (ap (λ (e : Entry). marked (entry e) (c .before .before .before .before .before .before .before .before .before .before .before .before .args .spare .now)) (c .before .before .before .before .before .before .before .before .old .given .1)),
-  c .before .before .before .before .mark .ensures .1,
-)
+returns-2 c =
+    let marks = c .before .before .before .before .mark .ensures in
+    let told = c .before .before .before .before .before .before .before .before in
+    let spare = told .before .before .before .before .args .spare .now in
+    (marks .0 ∙ sym (ap (λ (e : Entry). marked (entry e) spare) (told .old .given .1)), marks .1)
 
 pub mark-old-spec : {M : Type 1} → statement M
 mark-old-spec =

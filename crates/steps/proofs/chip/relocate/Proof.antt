@@ -2,8 +2,9 @@
 use Prim.Native.Nat.{_+_, _*_}
 use native.Mathlib.Omega.{arith}
 use borrow.Author.Needs.{needs}
-use Rattle.steps.specs.Lies.{spare-still, next-same, next-words-lie, words-lie, spare-lies, pages-apart}
+use Rattle.steps.specs.Lies.{Words-lie, spare-still, next-same, next-words-lie, words-lie, spare-lies, pages-apart}
 use Rattle.steps.specs.Chip.{relocate-does}
+use Rattle.lent.specs.Model.{geometry}
 use Rattle.lent.specs.Shapes.{room-after-read}
 use Rattle.words.specs.Runs.{getD-any}
 use Rattle.steps.proofs.chip.relocate.Statement.{statement}
@@ -18,17 +19,29 @@ next-page-requires c κs = (c .before .before .before .before .before .pre .0 .0
 cast-q : tie.Need-cast-q
 cast-q c = search needs
 
+-- The words of the page, and those of the next page, lie in the chip.
+from-page : (start : tie.Start) → let a = start .args in Words-lie (geometry (a .g)) (a .chip .now) (a .p)
+from-page start = words-lie (start .pre .0 .0) (start .args .p) (start .pre .0 .2)
+
+to-page : (found : tie.After-next-page)
+    → let a = found .before .before .before .before .before .before .args in
+    Words-lie (geometry (a .g)) (a .chip .now) (found .next-page .result)
+to-page found =
+    let start = found .before .before .before .before .before .before in
+    next-words-lie (start .pre .1 .0 .0) (found .next-page .ensures) (start .pre .0 .0)
+
 mul-copy-within : tie.Need-mul-copy-within
-mul-copy-within c = omega (arith, words-lie (c .before .before .before .before .before .before .before .pre .0 .0) (c .before .before .before .before .before .before .before .args .p) (c .before .before .before .before .before .before .before .pre .0 .2))
+mul-copy-within c = omega (arith, from-page (c .before .before .before .before .before .before .before))
 
 mul-copy-within-2 : tie.Need-mul-copy-within-2
-mul-copy-within-2 c = omega (arith, next-words-lie (c .before .before .before .before .before .before .before .pre .1 .0 .0) (c .before .next-page .ensures) (c .before .before .before .before .before .before .before .pre .0 .0))
+mul-copy-within-2 c = omega (arith, to-page (c .before))
 
 copy-within-requires : tie.Need-copy-within-requires
 copy-within-requires c κs =
-    let from = words-lie (c .before .before .before .before .before .before .before .pre .0 .0) (c .before .before .before .before .before .before .before .args .p) (c .before .before .before .before .before .before .before .pre .0 .2) in
-    let to = next-words-lie (c .before .before .before .before .before .before .before .pre .1 .0 .0) (c .before .next-page .ensures) (c .before .before .before .before .before .before .before .pre .0 .0) in
-    ((from .words, to .words), pages-apart (c .before .before .before .before .before .before .before .args .g .w) (c .before .before .before .before .before .before .before .args .p) (c .before .next-page .result))
+    let start = c .before .before .before .before .before .before .before in (
+      (from-page start .words, to-page (c .before) .words),
+      pages-apart (start .args .g .w) (start .args .p) (c .before .next-page .result),
+    )
 
 mul-owner : tie.Need-mul-owner
 mul-owner c = search needs
@@ -48,10 +61,16 @@ count-read-requires c κs = search needs
 claim-next-requires : tie.Need-claim-next-requires
 claim-next-requires c κs =
     let read = c .before .before .count-read .ensures in
-    ((c .before .before .before .before .before .before .before .before .before .before .before .before .before .before .pre .0 .1, next-same (read .0) (c .before .before .before .before .before .before .before .before .before .before .before .before .before .before .pre .1 .0 .0), room-after-read 1 _ _ (c .before .before .before .before .before .before .before .before .before .before .before .before .before .before .pre .1 .0 .1) (read .1)), c .before .before .before .before .before .before .before .before .before .before .before .before .before .before .pre .1 .1)
+    let start = c .before .before .before .before .before .before .before .before .before .before .before .before .before .before in (
+      (start .pre .0 .1, next-same (read .0) (start .pre .1 .0 .0), room-after-read 1 _ _ (start .pre .1 .0 .1) (read .1)),
+      start .pre .1 .1,
+    )
 
 mark-requires : tie.Need-mark-requires
-mark-requires c κs = ((spare-still (c .before .before .before .before .before .before .before .before .before .before .before .before .before .before .before .before .before .before .before .before .before .pre .0 .1) (c .before .before .before .before .before .before .claim-next .kept .1 .1 .1 .0), c .before .before .before .before .before .before .before .before .before .before .before .before .before .before .before .before .before .before .before .before .before .pre .0 .2), c .before .before .before .before .before .before .claim-next .ensures .1)
+mark-requires c κs =
+    let claimed = c .before .before .before .before .before .before in
+    let start = claimed .before .before .before .before .before .before .before .before .before .before .before .before .before .before .before in
+    ((spare-still (start .pre .0 .1) (claimed .claim-next .kept .1 .1 .1 .0), start .pre .0 .2), claimed .claim-next .ensures .1)
 
 same-length : tie.Need-same-length
 same-length c = search needs
@@ -63,13 +82,20 @@ same-length-3 : tie.Need-same-length-3
 same-length-3 c = search needs
 
 returns : tie.Need-returns
-returns c = (
-  relocate-does (c .before .before .before .before .before .before .before .before .before .before .before .before .before .before .before .before .before .before .before .before .before .before .before .before .before .before .before .args .p)
-      (getD-any (c .before .before .before .before .before .before .before .before .before .before .before .before .before .before .before .before .before .before .before .before .before .before .before .before .before .before .before .args .spare .now) (c .before .before .before .before .before .before .before .before .before .before .before .before .before .before .before .before .before .before .before .before .before .before .before .before .before .before .before .args .p * 2 + 1) 0 4294967295 (omega (arith, spare-lies (c .before .before .before .before .before .before .before .before .before .before .before .before .before .before .before .before .before .before .before .before .before .before .before .before .before .before .before .pre .0 .1) (c .before .before .before .before .before .before .before .before .before .before .before .before .before .before .before .before .before .before .before .before .before .before .before .before .before .before .before .args .p) (c .before .before .before .before .before .before .before .before .before .before .before .before .before .before .before .before .before .before .before .before .before .before .before .before .before .before .before .pre .0 .2))))
-      (c .before .before .before .before .before .before .before .before .before .before .before .before .before .before .before .before .before .before .before .before .before .next-page .ensures) (c .before .before .before .before .before .before .before .before .before .before .before .before .before .before .before .before .before .before .before .copy-within .ensures) (c .before .before .before .before .before .before .before .before .before .before .before .before .before .before .before .count-read .ensures .0) (c .before .before .before .before .before .before .before .before .before .before .before .before .before .before .before .count-read .ensures .1)
-      (c .before .before .before .before .before .before .before .before .before .before .before .before .claim-next .ensures .0) (c .before .before .before .before .before .mark .ensures .0),
-  c .before .before .before .before .before .mark .ensures .1,
-)
+returns c =
+    let marked = c .before .before .before .before .before in
+    let claimed = marked .before .before .before .before .before .before .before in
+    let read = claimed .before .before .before in
+    let copied = read .before .before .before .before in
+    let found = copied .before .before in
+    let start = found .before .before .before .before .before .before in
+    let a = start .args in
+    let in-spare = spare-lies (start .pre .0 .1) (a .p) (start .pre .0 .2) in (
+      relocate-does (a .p) (getD-any (a .spare .now) (a .p * 2 + 1) 0 4294967295 (omega (arith, in-spare))) (found .next-page .ensures)
+          (copied .copy-within .ensures) (read .count-read .ensures .0) (read .count-read .ensures .1)
+          (claimed .claim-next .ensures .0) (marked .mark .ensures .0),
+      marked .mark .ensures .1,
+    )
 
 pub relocate-spec : {M : Type 1} → statement M
 relocate-spec =
