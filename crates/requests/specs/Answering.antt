@@ -50,7 +50,6 @@ pub record Writing-ready (g : Geometry) (i : ℕ) (chip spare cache buffer : Lis
   pub chip-lent : Chip-lent g chip
   pub spare-lent : Spare-lent g spare
   pub lies : i * 3 + 3 ≤ length cache
-  pub in-use : i < w .rec .used
   pub on-chip : (p : ℕ) → decode (physical-at i cache) ≡ Place p → p < pages g
   pub next : Has-next g Data (small (w .rec))
   pub long : length buffer ≡ g .W
@@ -170,7 +169,6 @@ module _ {l : ℕ} {g : Geometry} {s s₁ : State} {x : ℕ} {c c₁ : Counted} 
         chip-lent = record { accepted = ok; chip-fits = then .lengths .chip-fits };
         spare-lent = record { accepted = ok; spare-fits = then .lengths .spare-fits };
         lies = entry-lies then;
-        in-use = then .rank .in-use;
         on-chip = entry-on-chip then (a .below);
         next = record {
           in-region = then .sound .rule-3 Data .in-region;

@@ -26,17 +26,17 @@ found-in-use g cache used l is h = omega (arith, is, rank-found g cache used l (
 pub filter-still : {cache filter : List ℕ} {n m : ℕ} → m ≡ n → Filter cache n filter → Filter cache m filter
 filter-still {cache} {filter} e f = subst (λ (k : ℕ). Filter cache k filter) (sym e) f
 
-module _ {cache cache′ filter : List ℕ} {i : ℕ} {w : Work} (f : Filter cache (w .rec .used) filter) where
-  pub touched-filter : i < w .rec .used → Does-cache (touch i) cache w 0 cache′ w → Filter cache′ (w .rec .used) filter
+module _ {cache cache′ filter : List ℕ} {w : Work} (f : Filter cache (w .rec .used) filter) where
+  pub touched-filter : {i : ℕ} → i < w .rec .used → Does-cache (touch i) cache w 0 cache′ w → Filter cache′ (w .rec .used) filter
   unfolding touch set-cache give _>>=_
-  touched-filter in-use does =
+  touched-filter {i} in-use does =
       subst (λ (x : List ℕ). Filter x (w .rec .used) filter) (ap (λ (s : State). s .cache) (does [] [] [] .after)) (filter-moved f i in-use)
 
-  pub placed-filter : (place : ℕ) → i < w .rec .used → Does-cache (set-entry i place) cache w tt cache′ w → Filter cache′ (w .rec .used) filter
+  pub placed-filter : (i place : ℕ) → Does-cache (set-entry i place) cache w tt cache′ w → Filter cache′ (w .rec .used) filter
   unfolding set-entry set-cache
-  placed-filter place in-use does =
+  placed-filter i place does =
       subst (λ (x : List ℕ). Filter x (w .rec .used) filter) (ap (λ (s : State). s .cache) (does [] [] [] .after))
-      (filter-placed f i place in-use)
+      (filter-placed f i place)
 
 -- Flash's steps leave the number of entries in use.
 pub opened-keeps-used : (g : Geometry) {s s′ : State} {c c′ : Counts} → Does (open-lowest g Data) s c tt s′ c′

@@ -1,25 +1,24 @@
 -- The filter: a bit for each logical page, set where the page is cached, so that a page that isn't is known without a search. A set bit
 -- says nothing, so all that is kept is that each entry in use has its bit.
-use Prim.Native.Nat.{ℕ, zero, suc, _+_, _-_, _*_, _/_, _%_, _≤_, _<_}
-use mathlib.Core.Path.{_≡_, refl, sym, ap, _∙_}
+use Prim.Native.Nat.{ℕ, zero, suc, _+_, _-_, _*_, _%_, _≤_, _<_}
+use mathlib.Core.Path.{_≡_, sym, ap, _∙_}
 use mathlib.Core.Logic.{_≢_}
-use mathlib.Core.Bool.{Bool, true, false, cond}
+use mathlib.Core.Bool.{true, false}
 use mathlib.Core.List.{List, [], _∷_}
 use native.Mathlib.Nat.{mod-lt, mod-eq-of-lt, mul-le-mul-right}
 use native.Mathlib.Numerals.{add-one}
 use native.Mathlib.Omega.{arith}
 use lib.Dec.{eqb, ltb}
 use lib.ListN.{length, getD}
-use lib.Seq.{sets}
+use lib.Seq.{sets, length-sets}
 use borrow.Author.Tests.{eqb-true, ltb-true, lt-ltb, le-ltb}
 use Rattle.scope.specs.Geometry.{Geometry, Accepted}
 use Rattle.scope.specs.Lent.{none, entry-words, logical-at}
 use Rattle.scope.specs.Sound.{Entries-fit, rank-of}
-use Rattle.scope.specs.Cache.{entry-at, without, touch, set-entry}
+use Rattle.scope.specs.Cache.{without}
+use Rattle.flash.specs.Stores.{getD-sets-outside}
 use Rattle.flash.specs.Cases.{same?, below?, last, and-true, clash, is-false}
-use Rattle.cache.specs.Entries.{CacheEntry, entry, put as put-entry, to-front, placed, put-stores, placed-stores, rank-before, length-to-front, to-front-entry, new-in-front}
-use Rattle.lent.specs.declared.Work.{Work}
-use Rattle.lent.specs.Shapes.{Does-cache}
+use Rattle.cache.specs.Entries.{CacheEntry, entry, put as put-entry, to-front, placed, put-stores, rank-before, length-to-front, to-front-entry, new-in-front}
 use Rattle.steps.specs.Lies.{few-pages}
 use Rattle.words.specs.Bitmap.{has, put, flip, length-put, length-flip, has-put-same, has-put-other, has-flip-other}
 use Rattle.words.specs.Runs.{getD-any}
@@ -122,19 +121,19 @@ module _ {cache filter : List ℕ} {used : ℕ} (f : Filter cache used filter) w
       apart j h q =
           fits .different j i (omega arith) (omega arith) (sym (own-bit j (omega arith)) ∙ q ∙ own-bit i (omega arith))
 
-  -- An entry takes another place.
-  pub filter-placed : (i place : ℕ) → i < used → Filter (placed i place cache) used filter
-  filter-placed i place h =
-      let stores = placed-stores (f .ranks) cache (f .cache-fits) i (omega (arith, f .used-to)) (logical-at i cache) place refl in
-      record {
-        ranks = f .ranks;
-        cache-fits = stores .long;
-        used-to = f .used-to;
-        filter-fits = f .filter-fits;
-        each = λ j k. same? j i
-            (λ q. ap (λ (x : CacheEntry). has filter (bit-of (x .logical))) (ap (λ (n : ℕ). entry n (placed i place cache)) q ∙ stores .here) ∙ f .each i h)
-            (λ q. ap (λ (x : CacheEntry). has filter (bit-of (x .logical))) (stores .elsewhere j q) ∙ f .each j k);
-      }
+-- An entry takes another place, whether it is in use or not: no entry's page is another.
+pub filter-placed : {cache filter : List ℕ} {used : ℕ} → Filter cache used filter → (i place : ℕ) → Filter (placed i place cache) used filter
+filter-placed {cache} {filter} f i place =
+    record {
+      ranks = f .ranks;
+      cache-fits = length-sets cache (i * entry-words + 1) (place ∷ 1 ∷ []) ∙ f .cache-fits;
+      used-to = f .used-to;
+      filter-fits = f .filter-fits;
+      each = λ j h.
+          ap (λ (l : ℕ). has filter (bit-of l))
+          (getD-sets-outside cache (i * entry-words + 1) (place ∷ 1 ∷ []) (j * entry-words) none (λ k m e. omega arith))
+          ∙ f .each j h;
+    }
 
 -- As the leaves leave them.
 pub filter-gains : {cache filter cache′ filter′ : List ℕ} {used used′ b : ℕ} → Filter cache used filter → (l place : ℕ)

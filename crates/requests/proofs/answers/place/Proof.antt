@@ -1,6 +1,5 @@
 -- `requests::answers::place` meets its contract: its parts are the definition's.
 use mathlib.Core.Path.{sym, ap, _∙_}
-use native.Mathlib.Omega.{arith}
 use borrow.Author.Needs.{needs}
 use Rattle.scope.specs.Lent.{decode}
 use Rattle.steps.specs.Lies.{spare-still}
@@ -67,8 +66,7 @@ returns c =
           (c .before .before .before .set-entry .ensures _),
       (
         marked .mark-old .ensures .1,
-        λ filter f. placed-filter {w = new .work} (filter-still used f) (new .value) (omega (arith, used, start .pre .0 .in-use))
-            (c .before .before .before .set-entry .ensures (new .work)),
+        λ filter f. placed-filter {w = new .work} (filter-still used f) (a .i) (new .value) (c .before .before .before .set-entry .ensures (new .work)),
       ),
     )
 

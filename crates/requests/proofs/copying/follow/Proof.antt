@@ -3,7 +3,7 @@ use native.Mathlib.Omega.{arith}
 use borrow.Author.Needs.{needs}
 use Rattle.lent.specs.Model.{geometry}
 use Rattle.requests.specs.Waiting.{entry-follows, page-waits}
-use Rattle.requests.specs.Filtered.{found-in-use, placed-filter}
+use Rattle.requests.specs.Filtered.{placed-filter}
 use Rattle.requests.proofs.copying.follow.Statement.{statement}
 use Rattle.requests.proofs.copying.follow.Tie as tie
 
@@ -29,10 +29,7 @@ returns c =
     let below = c .before .before .before .before .if1 .taken in
     let sets = c .before .before .set-entry .ensures (a .work) in (
       λ chip spare directory. entry-follows (geometry (a .g)) (a .l) (a .page) is-rank below sets,
-      (
-        placed-filter (start .pre .1 .0) (a .page) (found-in-use (geometry (a .g)) (a .cache .now) (a .work .rec .used) (a .l) is-rank below) sets,
-        start .pre .1 .1,
-      ),
+      (placed-filter (start .pre .1 .0) (found .rank-of .result) (a .page) sets, start .pre .1 .1),
     )
 
 wait-requires : tie.Need-wait-requires
