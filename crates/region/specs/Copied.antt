@@ -38,6 +38,12 @@ pub record Copied (g : Geometry) (r : Region) (view : View) (Inv : Invariant) (v
   pub done : Done g s (o .did) (o .after)
   pub costs : cost (o .did) ≡ 2 * next-offset r (o .after .small)
 
+-- Fewer pages are moved than a block has, since one of block v's is not valid: the open block has room as long as there are pages to move.
+pub few-moved : {g : Geometry} {r : Region} {view : View} {Inv : Invariant} {v n : ℕ} {s : State} {o : Outcome (List Mapping)}
+    → n ≤ g .P → valid-pages g (s .spare) v < g .P → Copied g r view Inv v n s o → next-offset r (o .after .small) < g .P
+few-moved {g} {v = v} {n} {s} h room copied =
+    omega (arith, copied .offset, count-upto n (g .P) (λ i. is-valid (page-in g v i) (s .spare)) h)
+
 module _ {g : Geometry} {r : Region} {follow : Following} {settling : ℕ} {view : View} {Inv : Invariant}
     (F : Follower g r follow settling view Inv) (accepted : Accepted g) (v : ℕ) (s : State)
     (here : Has-block g r v) (closed : v ≢ open-block r (s .small)) (room : valid-pages g (s .spare) v < g .P) where
@@ -55,10 +61,6 @@ module _ {g : Geometry} {r : Region} {follow : Following} {settling : ℕ} {view
         done = done-none g flash-refl;
         costs = omega (arith, cost-none);
       }
-
-  -- The open block has room as long as there are pages to move.
-  room-left : (n : ℕ) (o : Outcome (List Mapping)) → n ≤ g .P → Copied g r view Inv v n s o → next-offset r (o .after .small) < g .P
-  room-left n o h before = omega (arith, before .offset, count-upto n (g .P) (λ i. is-valid (page-in g v i) (s .spare)) h, room)
 
   copied-next : (n : ℕ) (o o₁ : Outcome (List Mapping)) → n < g .P → Copied g r view Inv v n s o
       → Page-moved g r view Inv (page-in g v n) (o .value) (o .after) (cond (is-valid (page-in g v n) (o .after .spare)) 1 0) o₁
@@ -81,7 +83,7 @@ module _ {g : Geometry} {r : Region} {follow : Following} {settling : ℕ} {view
     where
       not-next : (i : ℕ) → i < g .P → page-in g v i ≢ next-page g r (o .after)
       not-next i l e =
-          closed (page-in-same g v (open-block r (o .after .small)) i _ l (room-left n o (omega arith) before) e .0 ∙ before .opened)
+          closed (page-in-same g v (open-block r (o .after .small)) i _ l (few-moved (omega arith) room before) e .0 ∙ before .opened)
 
   pub move-pages-law : (n : ℕ) → n ≤ g .P → Copying g r view Inv [] s → next-offset r (s .small) ≡ 0
       → Copied g r view Inv v n s (move-pages g r follow v n s)
@@ -90,4 +92,4 @@ module _ {g : Geometry} {r : Region} {follow : Following} {settling : ℕ} {view
   move-pages-law (suc n) h copying empty =
       let before = move-pages-law n (omega arith) copying empty in
       copied-next n (move-pages g r follow v n s) (move-if-valid g r follow (page-in g v n) (move-pages g r follow v n s .after)) h before
-      (move-if-valid-law F accepted (page-in g v n) _ _ (before .copying) (room-left n _ (omega arith) before) (page-in-region g r v n here h))
+      (move-if-valid-law F accepted (page-in g v n) _ _ (before .copying) (few-moved (omega arith) room before) (page-in-region g r v n here h))

@@ -16,12 +16,11 @@ use Rattle.scope.specs.Lent.{valid, State, Mapping, state-of, is-valid}
 use Rattle.scope.specs.Operations.{Step}
 use Rattle.scope.specs.Room.{move-if-valid, move-pages}
 use Rattle.scope.specs.Steps.{cache-follows}
-use Rattle.flash.specs.Counting.{count-le, count-upto}
 use Rattle.flash.specs.Places.{page-on-chip, page-in-region}
 use Rattle.flash.specs.Words.{Lengths}
 use Rattle.flash.specs.Listed.{cost}
 use Rattle.cache.specs.Waiting.{Waits}
-use Rattle.region.specs.Copied.{Copied, move-pages-law}
+use Rattle.region.specs.Copied.{Copied, few-moved}
 use Rattle.promises.specs.Parts.{Index-fits}
 use Rattle.promises.specs.Follow.{place-while, Follows, cache-follower}
 use Rattle.lent.specs.declared.Work.{Work}
@@ -30,7 +29,7 @@ use Rattle.lent.specs.DoesLaws.{does-value}
 use Rattle.requests.specs.Ready.{Does-all, countable-after}
 use Rattle.requests.specs.Waiting.{Does-waiting}
 use Rattle.update.specs.Index.{less-room}
-use Rattle.update.specs.Starts.{Starts}
+use Rattle.update.specs.Starts.{Starts, copied-since}
 use Rattle.update.specs.Moving.{does-move-none, does-move-more}
 use Rattle.lent.specs.Shapes.{Room-to-count}
 use Rattle.steps.specs.Lies.{Chip-lent, Spare-lent, Has-next}
@@ -67,9 +66,10 @@ module _ {g : Geometry} {v : ℕ} {s : State} (a : Copies g v s) where
   moved n = move-pages g Data (cache-follows g) v n
 
   copied : (n : ℕ) → n ≤ g .P → Copied g Data (place-while g) (Follows g (a .l) (a .i)) v n s (moved n s)
-  copied n h =
-      move-pages-law (cache-follower (a .accepted) (a .l) (a .i)) (a .accepted) v s (a .starts .in-region) (a .starts .closed)
-      (a .starts .some-invalid) n h (a .starts .copying) (a .starts .empty)
+  copied = copied-since (cache-follower (a .accepted) (a .l) (a .i)) (a .accepted) (a .starts)
+
+  room-left : (n : ℕ) → n ≤ g .P → next-offset Data (moved n s .after .small) < g .P
+  room-left n h = few-moved h (a .starts .some-invalid) (copied n h)
 
   before-page : (n : ℕ) → n < g .P → Before-page g v n (moved n s .value) (moved n s .after)
   before-page n h =
@@ -78,15 +78,15 @@ module _ {g : Geometry} {v : ℕ} {s : State} (a : Copies g v s) where
       so-far .ahead n (omega arith) h in
       record {
         opened = so-far .copying .fits .in-region;
-        room = omega (arith, so-far .offset, count-le n (λ i. is-valid (page-in g v i) (s .spare)));
+        room = room-left n (omega arith);
         entries = so-far .copying .inv .cache .entries .at-most;
-        few = omega (arith, so-far .waiting, so-far .offset, count-le n (λ i. is-valid (page-in g v i) (s .spare)));
+        few = omega (arith, so-far .waiting, room-left n (omega arith));
         not-last = λ e. omega (
           arith,
           so-far .offset,
-          a .starts .some-invalid,
           counts-one n (ap (λ (x : ℕ). eqb x valid) (sym here) ∙ e),
-          count-upto (suc n) (g .P) (λ i. is-valid (page-in g v i) (s .spare)) h,
+          copied (suc n) h .offset,
+          room-left (suc n) h,
         );
       }
     where
@@ -113,14 +113,13 @@ after-copying {g} a =
       index = all .copying .inv .index;
       below-L = all .copying .inv .waiting .below-L;
       lengths = all .copying .lengths;
-      few = omega (arith, all .waiting, all .offset, a .starts .some-invalid);
+      few = omega (arith, all .waiting, room-left a (g .P) (omega arith));
     }
 
 pub all-copied-costs : {g : Geometry} {v : ℕ} {s : State} → Copies g v s
     → cost (move-pages g Data (cache-follows g) v (g .P) s .did) ≤ 2 * (g .P - 1)
 all-copied-costs {g} a =
-    let all = copied a (g .P) (omega arith) in
-    omega (arith, all .costs, all .offset, a .starts .some-invalid)
+    omega (arith, copied a (g .P) (omega arith) .costs, room-left a (g .P) (omega arith))
 
 -- The copying may begin, whatever directory the facts are told by, and the counts have room for it.
 pub record Copies-lent (g : Geometry) (v : ℕ) (chip spare cache : List ℕ) (w : Work) : Type 0 where

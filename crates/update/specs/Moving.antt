@@ -15,12 +15,11 @@ use Rattle.scope.specs.Lent.{erased, valid, State, Mapping, state-of, owner-of,
 use Rattle.scope.specs.Operations.{Counts}
 use Rattle.scope.specs.Room.{Following, move-if-valid, move-pages}
 use Rattle.scope.specs.Steps.{directory-names-it, directory-follows}
-use Rattle.flash.specs.Counting.{count-upto}
 use Rattle.flash.specs.Places.{page-on-chip, page-in-region}
 use Rattle.flash.specs.Words.{Lengths}
 use Rattle.region.specs.Holds.{Region-fits}
 use Rattle.region.specs.DirectoryFollows.{directory-view, since, directory-follower}
-use Rattle.region.specs.Copied.{Copied, move-pages-law}
+use Rattle.region.specs.Copied.{Copied, few-moved}
 use Rattle.lent.specs.declared.Work.{Work}
 use Rattle.lent.specs.Does.{Does}
 use Rattle.lent.specs.DoesLaws.{does-give, does-look-at, does-bind}
@@ -28,7 +27,7 @@ use Rattle.lent.specs.Shapes.{Does-flash, Does-directory, Room-to-count, room-a
 use Rattle.steps.specs.Lies.{spare-lies}
 use Rattle.steps.specs.Chip.{relocate, move-does}
 use Rattle.update.specs.Index.{Does-index, Index-lent, spare-of, no-cache, index-state, lengths-lent, less-room}
-use Rattle.update.specs.Starts.{Starts}
+use Rattle.update.specs.Starts.{Starts, copied-since}
 
 -- ---- one page
 
@@ -120,10 +119,7 @@ module _ {g : Geometry} {chip spare directory chip′ spare′ directory′ : Li
   s′ = index-state g chip′ spare′ directory′ w′
 
   copied : Copied g Translation directory-view (since g s) v i s (move-pages g Translation directory-follows v i s)
-  copied =
-      let starts = ready .starts in
-      move-pages-law (directory-follower g s) (ready .lent .accepted) v s (starts .in-region) (starts .closed) (starts .some-invalid)
-      i (before .upto) (starts .copying) (starts .empty)
+  copied = copied-since (directory-follower g s) (ready .lent .accepted) (ready .starts) i (before .upto)
 
   is-after : move-pages g Translation directory-follows v i s .after ≡ s′
   is-after = before .does (no-cache g) .after
@@ -134,13 +130,7 @@ module _ {g : Geometry} {chip spare directory chip′ spare′ directory′ : Li
   -- Fewer pages have been moved than a block has.
   few : w′ .rec .«translation_offset» < g .P
   few =
-      omega (
-        arith,
-        ap (λ (x : State). next-offset Translation (x .small)) is-after,
-        copied .offset,
-        count-upto i (g .P) (λ j. is-valid (page-in g v j) spare) (before .upto),
-        ready .starts .some-invalid,
-      )
+      subst (λ (x : State). next-offset Translation (x .small) < g .P) is-after (few-moved (before .upto) (ready .starts .some-invalid) copied)
 
   pub still-counting : Room-to-count 2 (w′ .counts)
   still-counting =

@@ -1,5 +1,5 @@
 -- What a collection starts with, once for a region and for whatever follows a moved page: its victim is a full block with an invalid
--- page, and the lowest erased block is open, with all of its pages to come.
+-- page, and the lowest erased block is open, with all of its pages to come. So the law of the copies holds from there on.
 use Prim.Native.Nat.{ℕ, _≤_, _<_}
 use mathlib.Core.Path.{_≡_, sym, subst, _∙_}
 use mathlib.Core.Logic.{_≢_}
@@ -9,13 +9,14 @@ use Rattle.scope.specs.Regions.{Region, page-in, Has-block}
 use Rattle.scope.specs.SmallRecord.{open-block, next-offset}
 use Rattle.scope.specs.Lent.{erased, State, state-of}
 use Rattle.scope.specs.Blocks.{valid-pages}
-use Rattle.scope.specs.Room.{Following, erased-blocks, lowest-erased, victim}
+use Rattle.scope.specs.Room.{Following, erased-blocks, lowest-erased, victim, move-pages}
 use Rattle.flash.specs.Words.{Lengths}
 use Rattle.region.specs.Holds.{Holds}
 use Rattle.region.specs.Room.{Victim-law, Crowded, is-crowded, victim-of-crowded}
 use Rattle.region.specs.Elsewhere.{open-with, offset-with}
 use Rattle.region.specs.Follower.{View, Invariant, Follower}
 use Rattle.region.specs.Moving.{Copying}
+use Rattle.region.specs.Copied.{Copied, move-pages-law}
 use Rattle.region.specs.Collect.{opened-lowest, open-lowest-keeps}
 
 -- Of the state with the block opened, s, and the victim v.
@@ -25,6 +26,13 @@ pub record Starts (g : Geometry) (r : Region) (view : View) (Inv : Invariant) (v
   pub some-invalid : valid-pages g (s .spare) v < g .P
   pub copying : Copying g r view Inv [] s
   pub empty : next-offset r (s .small) ≡ 0
+
+-- After n pages of it: the law of the definition.
+pub copied-since : {g : Geometry} {r : Region} {follow : Following} {settling : ℕ} {view : View} {Inv : Invariant} {v : ℕ} {s : State}
+    → Follower g r follow settling view Inv → Accepted g → Starts g r view Inv v s → (n : ℕ) → n ≤ g .P
+    → Copied g r view Inv v n s (move-pages g r follow v n s)
+copied-since {v = v} {s} F accepted starts n h =
+    move-pages-law F accepted v s (starts .in-region) (starts .closed) (starts .some-invalid) n h (starts .copying) (starts .empty)
 
 pub collection-starts : {g : Geometry} {r : Region} {follow : Following} {settling : ℕ} {view : View} {Inv : Invariant}
     → Follower g r follow settling view Inv → (s : State) → Accepted g → Lengths g s → Holds g r s (view [] s) → Inv [] s
