@@ -19,7 +19,7 @@ use Rattle.scope.specs.Calls.{state-sizes, buffer-sizes, state-tests, page-test
 use Rattle.scope.specs.Boundary.{put}
 use Rattle.scope.specs.Contracts.{Answers}
 use Rattle.words.specs.Census.{Census}
-use Rattle.steps.specs.Filter.{Filter}
+use Rattle.words.specs.Filter.{Filter}
 use Rattle.requests.specs.Ready.{Ready-for}
 use Rattle.calls.specs.Answers.{does-answers, refuses, admits}
 use Rattle.calls.specs.Sizes.{buffer-right, with-buffer}

@@ -86,8 +86,19 @@ pub fn check(
         (now (counts .exit)) ⌝ }
 {
     let mut census = [0u32; 1024];
+    let mut filter = [0u64; 1024];
     let right = lengths_right(fits, counts.len());
-    let answer = state_answer(rec, right, g, chip, spare, directory, cache, &mut census);
+    let answer = state_answer(
+        rec,
+        right,
+        g,
+        chip,
+        spare,
+        directory,
+        cache,
+        &mut census,
+        &mut filter,
+    );
     put_counts(counts, NO_COUNTS);
     answer
 }

@@ -5,9 +5,9 @@ use crate::Out;
 use crate::counting::NO_COUNTS;
 use crate::counting::put_counts;
 use crate::tests::DONE;
-use crate::tests::noted_answer;
 use crate::tests::record_answer;
 use crate::tests::run_lengths_right;
+use crate::tests::state_answer;
 use lent::Counts;
 use lent::Geometry;
 use lent::Handed;
@@ -63,7 +63,7 @@ pub fn begin(
         (now (census .exit)) (now (filter .exit)) ⌝ }
 {
     let right = run_lengths_right(g, fits, n, words, answers, counts);
-    let answer = noted_answer(rec, right, g, chip, spare, directory, cache, census, filter);
+    let answer = state_answer(rec, right, g, chip, spare, directory, cache, census, filter);
     Running {
         answer,
         counts: NO_COUNTS,

@@ -1,6 +1,6 @@
 // Tests in number order, each answered with its number, and 0 where none applies. What is tested of a slice alone is its length, which
-// comes by value. On the way the notes are taken that the steps read instead of searching: a state found sound has its census, and where no
-// test applies the filter of the cached pages is filled. They are no part of the state: a call keeps them on its stack, as long as it lasts.
+// comes by value. On the way the notes are taken that the steps read instead of searching, the census of the blocks and the filter of the
+// cached pages: a state found sound has both. They are no part of the state: a call keeps them on its stack, as long as it lasts.
 use crate::counting::COUNTS_WORDS;
 use crate::run::Request;
 use lent::Geometry;
@@ -8,7 +8,6 @@ use lent::Record;
 use soundness::geometry::accepts;
 use soundness::geometry::sizes_right;
 use soundness::sound::is_sound;
-use steps::entries::fill;
 ghost use mathlib.Core.Path.{_≡_};
 ghost use mathlib.Core.Bool.{_&&_};
 ghost use Prim.Native.Nat.{_≤_};
@@ -19,7 +18,6 @@ ghost use Rattle.scope.specs.Boundary.{counts-words};
 ghost use Rattle.scope.specs.Calls.{size-tests, record-tests};
 ghost use Rattle.scope.specs.Replies.{DONE, first-applying, right-sizes};
 ghost use Rattle.soundness.specs.Sizes.{sizes};
-ghost use Rattle.words.specs.Census.{Census};
 ghost use Rattle.calls.specs.Sizes.{buffer-right, run-right};
 ghost use Rattle.calls.specs.Tested.{State-tested};
 ghost use Rattle.calls.specs.Noted.{Noted};
@@ -116,11 +114,14 @@ pub fn state_answer(
     directory: &[u32],
     cache: &[u32],
     census: &mut [u32],
+    filter: &mut [u64; 1024],
 ) -> u32
     requires { ⌜ 1024 ≤ length (now census) ⌝ }
     ensures { λ r. ⌜ State-tested (geometry g)
         (state (now (chip .entry)) (now (spare .entry)) (now (directory .entry)) (now (cache .entry)) rec) fits r ⌝ }
-    ensures { λ r. ⌜ (r ≡ DONE → Census (geometry g) (now (spare .entry)) (now (census .exit))) ⌝ }
+    ensures { λ r. ⌜ (r ≡ DONE → Noted (geometry g)
+        (state (now (chip .entry)) (now (spare .entry)) (now (directory .entry)) (now (cache .entry)) rec)
+        (now (census .exit)) (now (filter .exit))) ⌝ }
 {
     let sizes = size_answer(
         g,
@@ -133,36 +134,9 @@ pub fn state_answer(
     if sizes != DONE {
         return sizes;
     }
-    if !is_sound(g, chip, spare, directory, cache, rec, census) {
+    if !is_sound(g, chip, spare, directory, cache, rec, census, filter) {
         return DAMAGED;
     }
-    DONE
-}
-
-// The same, with both notes. Behind a `&mut` an array's length is no part of its contract's list, so the filter's is asked for.
-pub fn noted_answer(
-    rec: Record,
-    fits: bool,
-    g: Geometry,
-    chip: &[u32],
-    spare: &[u32],
-    directory: &[u32],
-    cache: &[u32],
-    census: &mut [u32],
-    filter: &mut [u64; 1024],
-) -> u32
-    requires { ⌜ (1024 ≤ length (now census)) × (length (now filter) ≡ 1024) ⌝ }
-    ensures { λ r. ⌜ State-tested (geometry g)
-        (state (now (chip .entry)) (now (spare .entry)) (now (directory .entry)) (now (cache .entry)) rec) fits r ⌝ }
-    ensures { λ r. ⌜ (r ≡ DONE → Noted (geometry g)
-        (state (now (chip .entry)) (now (spare .entry)) (now (directory .entry)) (now (cache .entry)) rec)
-        (now (census .exit)) (now (filter .exit))) ⌝ }
-{
-    let answer = state_answer(rec, fits, g, chip, spare, directory, cache, census);
-    if answer != DONE {
-        return answer;
-    }
-    fill(rec.used as usize, cache, filter);
     DONE
 }
 
@@ -181,13 +155,13 @@ pub fn page_answer(
     census: &mut [u32],
     filter: &mut [u64; 1024],
 ) -> u32
-    requires { ⌜ (1024 ≤ length (now census)) × (length (now filter) ≡ 1024) ⌝ }
+    requires { ⌜ 1024 ≤ length (now census) ⌝ }
     ensures { λ r. ⌜ Page-tested (geometry g) (fits && eqb counts counts-words) page buffer
         (state (now (chip .entry)) (now (spare .entry)) (now (directory .entry)) (now (cache .entry)) rec) r
         (now (census .exit)) (now (filter .exit)) ⌝ }
 {
     let right = page_lengths_right(g, fits, buffer, counts);
-    let answer = noted_answer(rec, right, g, chip, spare, directory, cache, census, filter);
+    let answer = state_answer(rec, right, g, chip, spare, directory, cache, census, filter);
     if answer != DONE {
         return answer;
     }

@@ -16,7 +16,8 @@ use Rattle.cache.specs.Ranks.{rank-found}
 use Rattle.lent.specs.declared.Work.{Work}
 use Rattle.lent.specs.Does.{Does}
 use Rattle.lent.specs.Shapes.{Does-flash, Does-by-chip, Does-cache}
-use Rattle.steps.specs.Filter.{Filter, filter-moved, filter-placed}
+use Rattle.words.specs.Filter.{Filter}
+use Rattle.steps.specs.Filter.{filter-moved, filter-placed}
 
 -- A page that was found is cached.
 pub found-in-use : (g : Geometry) (cache : List ℕ) (used l : ℕ) {i : ℕ} → rank-of g cache used l ≡ i → i < g .C → i < used

@@ -22,7 +22,7 @@ ghost use Rattle.lent.specs.Shapes.{Does-by-chip};
 ghost use Rattle.promises.specs.Demands.{read-bound, write-bound};
 ghost use Rattle.promises.specs.Write.{placing};
 ghost use Rattle.words.specs.Census.{Census};
-ghost use Rattle.steps.specs.Filter.{Filter};
+ghost use Rattle.words.specs.Filter.{Filter};
 ghost use Rattle.requests.specs.Ready.{lent, Does-all, Ready-for};
 ghost use Rattle.requests.specs.Answering.{Place-ready, Writing-ready};
 

@@ -21,7 +21,7 @@ ghost use Rattle.scope.specs.Steps.{cache-or-wait, cache-follows};
 ghost use Rattle.steps.specs.Entries.{Cache-lent};
 ghost use Rattle.update.specs.Moves.{first-moves, Waits-in};
 ghost use Rattle.words.specs.Census.{Census};
-ghost use Rattle.steps.specs.Filter.{Filter};
+ghost use Rattle.words.specs.Filter.{Filter};
 ghost use Rattle.requests.specs.Ready.{Does-all};
 ghost use Rattle.requests.specs.Waiting.{Does-waiting};
 ghost use Rattle.requests.specs.Copying.{Page-to-move, Copies-lent};

@@ -15,7 +15,7 @@ ghost use Rattle.scope.specs.Regions.{Data};
 ghost use Rattle.scope.specs.Room.{collect, open-or-collect, make-room};
 ghost use Rattle.scope.specs.Steps.{cache-follows};
 ghost use Rattle.words.specs.Census.{Census};
-ghost use Rattle.steps.specs.Filter.{Filter};
+ghost use Rattle.words.specs.Filter.{Filter};
 ghost use Rattle.requests.specs.Ready.{lent, Does-all};
 ghost use Rattle.requests.specs.Collecting.{Room-ready, Collect-ready};
 

@@ -21,7 +21,7 @@ ghost use Rattle.scope.specs.Steps.{write-back, drop-entry, drop-if-full, fetch
 ghost use Rattle.promises.specs.Update.{update-bound};
 ghost use Rattle.promises.specs.Translate.{translate-bound};
 ghost use Rattle.words.specs.Census.{Census};
-ghost use Rattle.steps.specs.Filter.{Filter};
+ghost use Rattle.words.specs.Filter.{Filter};
 ghost use Rattle.requests.specs.Ready.{lent, Does-all, Ready, Ready-for};
 ghost use Rattle.requests.specs.Translating.{Fetches, Does-fetch};
 

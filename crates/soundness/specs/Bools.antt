@@ -4,9 +4,8 @@ use mathlib.Core.Path.{_≡_, refl, sym, _∙_}
 use mathlib.Core.Bool.{Bool, true, false, not, _&&_, _||_}
 use native.Mathlib.Numerals.{add-one}
 use native.Mathlib.Omega.{arith}
-use lib.Dec.{eqb}
-use borrow.Author.Tests.{eqb-true, eq-eqb, not-true, not-false}
-use Rattle.scope.specs.Counting.{all, some}
+use borrow.Author.Tests.{not-true, not-false}
+use Rattle.scope.specs.Counting.{all}
 use Rattle.flash.specs.Cases.{clash, true-and, is-false}
 use Rattle.flash.specs.Counting.{all-each}
 
@@ -22,18 +21,6 @@ or-none false p = p
 pub and-passed : (a : Bool) → a && true ≡ a
 and-passed true = refl
 and-passed false = refl
-
-pub eqb-sym : (a b : ℕ) → eqb a b ≡ eqb b a
-eqb-sym a b = same-test (eqb a b) (eqb b a) (λ p. eq-eqb b a (sym (eqb-true a b p))) (λ p. eq-eqb a b (sym (eqb-true b a p)))
-
--- Each fails where none passes.
-and-not : (a b : Bool) → not a && not b ≡ not (a || b)
-and-not true b = refl
-and-not false b = refl
-
-pub all-not-some : (n : ℕ) (f h : ℕ → Bool) → ((j : ℕ) → f j ≡ not (h j)) → all n f ≡ not (some n h)
-all-not-some zero f h e = refl
-all-not-some (suc n) f h e = rw (all-not-some n f h e, e n) (and-not (some n h) (h n))
 
 -- What a branch on `!f(..)` tells of the test that f's result equals.
 pub refused : {r b : Bool} → r ≡ b → not r ≡ true → b ≡ false

@@ -1,38 +1,32 @@
--- Rule 5 in the parts that the code tests: the entries in use one by one, that their logical pages differ, and the words behind them.
+-- Rule 5 in the parts that the code tests: the entries in use one after the other, and the words behind them.
 use Prim.Native.Nat.{ℕ, _+_, _*_, _-_, _/_, _%_, _≤_, _<_}
 use native.Mathlib.Omega.{arith}
 use mathlib.Core.Path.{_≡_, sym, ap, _∙_, subst}
-use mathlib.Core.Logic.{_≢_}
-use mathlib.Core.Bool.{Bool, true, false, not, cond, _&&_}
+use mathlib.Core.Bool.{Bool, true, false, not, _&&_}
 use mathlib.Core.List.{List}
-use lib.Dec.{eqb, ltb, leb}
+use lib.Dec.{ltb, leb}
 use lib.ListN.{length, getD, drop, length-drop}
 use lib.Seq.{getD-drop}
 use borrow.Author.Tests.{ltb-true, lt-leb}
 use Rattle.scope.specs.Counting.{all}
 use Rattle.scope.specs.Decisions.{entries-fit}
 use Rattle.scope.specs.Geometry.{Geometry}
-use Rattle.scope.specs.Laws.Decides.{Decides, by-equal, by-below, by-most, by-same, by-and, by-not, by-all}
+use Rattle.scope.specs.Laws.Decides.{Decides, by-equal, by-below, by-most, by-same, by-and, by-not, by-all, by-some}
 use Rattle.scope.specs.Laws.Decided.{entries-fit-decided}
 use Rattle.scope.specs.Lent.{none, logical-at, physical-at, changed-at, cache-size}
 use Rattle.flash.specs.Cases.{same?, below?, and-true}
-use Rattle.flash.specs.Counting.{all-each}
 use Rattle.soundness.specs.Counted.{decided-same}
 use Rattle.soundness.specs.Erased.{is-erased-word}
 use Rattle.words.specs.Bitmap.{has, put}
-use Rattle.soundness.specs.Seen.{window, taken, differ, differ-in, noted, differ-windows}
-use Rattle.words.specs.Runs.{getD-any}
+use Rattle.soundness.specs.Seen.{seen, Seen, seen-more}
 
--- An entry in use has a logical page below l and changed 0 or 1.
-abbrev pub in-use-fits : List ℕ → ℕ → ℕ → Bool
-in-use-fits cache l i = ltb (logical-at i cache) l && leb (changed-at i cache) 1
+-- The entry at rank i has a logical page below l that `before` hasn't taken, and changed 0 or 1.
+abbrev pub entry-fits : (ℕ → Bool) → List ℕ → ℕ → ℕ → Bool
+entry-fits before cache l i = ltb (logical-at i cache) l && leb (changed-at i cache) 1 && not (before (logical-at i cache))
 
--- The logical pages as keys of which none may come twice: every entry's, by rank.
-abbrev pub every : ℕ → Bool
-every i = true
-
-abbrev pub page-key : List ℕ → ℕ → ℕ
-page-key cache i = logical-at i cache
+-- So have the first n, and no page is that of an entry before it.
+abbrev pub used-fit : List ℕ → ℕ → ℕ → Bool
+used-fit cache l n = all n (λ i. entry-fits (seen cache i) cache l i)
 
 -- The words behind the entries in use.
 abbrev pub behind : List ℕ → ℕ → List ℕ
@@ -43,11 +37,10 @@ unfolding entries-fit
 too-many g cache used h = rw (lt-leb used (g .C) h)
 
 module _ (g : Geometry) (cache : List ℕ) (used : ℕ) (most : used ≤ g .C) (long : length cache ≡ cache-size g) where
-  Fits-in-use : Type 0
-  Fits-in-use = (i : ℕ) → i < used → (logical-at i cache < g .L) × (changed-at i cache ≤ 1)
-
-  Differ-below : Type 0
-  Differ-below = (i : ℕ) → i < used → (j : ℕ) → j < i → logical-at i cache ≢ logical-at j cache
+  Used-fit : Type 0
+  Used-fit =
+      (i : ℕ) → i < used
+      → ((logical-at i cache < g .L) × (changed-at i cache ≤ 1)) × (((j : ℕ) × (j < i) × (logical-at j cache ≡ logical-at i cache)) → ⊥)
 
   None-behind : Type 0
   None-behind = (k : ℕ) → k < length (behind cache used) → getD (behind cache used) k none ≡ none
@@ -82,59 +75,51 @@ module _ (g : Geometry) (cache : List ℕ) (used : ℕ) (most : used ≤ g .C) (
       (λ n. at 2 (omega arith) (u .2)))
 
   parts-decide : Decides
-      (all used (in-use-fits cache (g .L)) && differ every (page-key cache) used && all (length (behind cache used)) (is-erased-word (behind cache used)))
-      ((Fits-in-use × Differ-below) × None-behind)
-  unfolding Fits-in-use Differ-below None-behind
+      (used-fit cache (g .L) used && all (length (behind cache used)) (is-erased-word (behind cache used)))
+      (Used-fit × None-behind)
+  unfolding Used-fit None-behind
   parts-decide =
       by-and
-      (by-and
-      (by-all used (λ i. by-and (by-below (logical-at i cache) (g .L)) (by-most (changed-at i cache) 1)))
-      (by-all used (λ i. by-all i (λ j. by-not (by-equal (logical-at i cache) (logical-at j cache))))))
+      (by-all used (λ i. by-and
+      (by-and (by-below (logical-at i cache) (g .L)) (by-most (changed-at i cache) 1))
+      (by-not (by-some i (λ j. by-equal (logical-at j cache) (logical-at i cache))))))
       (by-all (length (behind cache used)) (λ k. by-equal (getD (behind cache used) k none) none))
 
   -- Of two ranks the higher one first, for the pairs of rule 5.
-  all-differ : Differ-below → (i j : ℕ) → i < used → j < used → logical-at i cache ≡ logical-at j cache → i ≡ j
-  unfolding Differ-below
+  all-differ : Used-fit → (i j : ℕ) → i < used → j < used → logical-at i cache ≡ logical-at j cache → i ≡ j
+  unfolding Used-fit
   all-differ h i j hi hj e =
-      below? i j (λ l. absurd (h j hj i l (sym e))) (λ l. below? j i (λ m. absurd (h i hi j m e)) (λ m. omega arith))
+      below? i j (λ l. absurd (h j hj .1 (i, l, e))) (λ l. below? j i (λ m. absurd (h i hi .1 (j, m, sym e))) (λ m. omega arith))
 
   pub entries-by-parts :
-      (all used (in-use-fits cache (g .L)) && differ every (page-key cache) used && all (length (behind cache used)) (is-erased-word (behind cache used)))
-      ≡ entries-fit g cache used
-  unfolding Fits-in-use Differ-below
+      used-fit cache (g .L) used && all (length (behind cache used)) (is-erased-word (behind cache used)) ≡ entries-fit g cache used
+  unfolding Used-fit
   entries-by-parts =
       decided-same
       (by-same
       (λ x. record {
         at-most = most;
-        below-L = λ i h. x .0 .0 i h .0;
-        different = all-differ (x .0 .1);
-        changed-fits = λ i h. x .0 .0 i h .1;
+        below-L = λ i h. x .0 i h .0 .0;
+        different = all-differ (x .0);
+        changed-fits = λ i h. x .0 i h .0 .1;
         unused = unused-words (x .1);
       })
-      (λ f. ((λ i h. (f .below-L i h, f .changed-fits i h), λ i h j l e. omega (arith, f .different i j h (omega arith) e)), words-unused (f .unused)))
+      (λ f. (
+        λ i h. ((f .below-L i h, f .changed-fits i h), λ e. omega (arith, f .different (e .0) i (omega (arith, e .1)) h (e .2))),
+        words-unused (f .unused),
+      ))
       parts-decide)
       (entries-fit-decided g cache used)
 
--- What the code notes of the entry at rank i is what a walk over the pages notes.
-module _ (cache : List ℕ) (w i : ℕ) (map : List ℕ) (h : i * 3 < length cache) where
-  key-is : getD cache (i * 3) 0 ≡ page-key cache i
-  key-is = getD-any cache (i * 3) 0 none h
+-- A walk over the entries in use that stops at the first which doesn't fit.
+module _ (cache : List ℕ) (l i : ℕ) (filter : List ℕ) (before : Seen cache i filter) where
+  -- What the filter tells of entry i is what the entries before it tell.
+  pub fits-seen : entry-fits (has filter) cache l i ≡ entry-fits (seen cache i) cache l i
+  fits-seen = ap (λ (b : Bool). ltb (logical-at i cache) l && leb (changed-at i cache) 1 && not b) (before .pages (logical-at i cache))
 
-  pub page-new : (r : Bool) → r ≡ not (eqb (getD cache (i * 3) 0 / window) w && has map (getD cache (i * 3) 0 % window))
-      → r ≡ not (taken every (page-key cache) w i && has map (page-key cache i % window))
-  page-new r e = e ∙ ap (λ (k : ℕ). not (eqb (k / window) w && has map (k % window))) key-is
-
-  pub page-noted : (map′ : List ℕ)
-      → map′ ≡ cond (eqb (getD cache (i * 3) 0 / window) w) (put map (getD cache (i * 3) 0 % window)) map
-      → noted every (page-key cache) w i map ≡ map′
-  unfolding noted
-  page-noted map′ e = sym (e ∙ ap (λ (k : ℕ). cond (eqb (k / window) w) (put map (k % window)) map) key-is)
-
--- The windows below l are all that the logical pages of fitting entries lie in.
-pub windows-differ : (cache : List ℕ) (l n : ℕ) → all n (in-use-fits cache l) ≡ true
-    → all ((l + 65535) / window) (λ w. differ-in every (page-key cache) w n) ≡ differ every (page-key cache) n
-windows-differ cache l n fit =
-    differ-windows every (page-key cache) ((l + 65535) / window) n (λ i h p.
-    let below = ltb-true (logical-at i cache) l (and-true (ltb (logical-at i cache) l) (leb (changed-at i cache) 1) (all-each n (in-use-fits cache l) fit i h) .0) in
-    omega arith)
+  pub fits-noted : (filter′ : List ℕ) → l ≤ 65536 → entry-fits (has filter) cache l i ≡ true → filter′ ≡ put filter (logical-at i cache)
+      → Seen cache (i + 1) filter′
+  fits-noted filter′ few fits is =
+      let both = and-true (ltb (logical-at i cache) l && leb (changed-at i cache) 1) (not (has filter (logical-at i cache))) fits .0 in
+      let below = ltb-true (logical-at i cache) l (and-true (ltb (logical-at i cache) l) (leb (changed-at i cache) 1) both .0) in
+      rw is (seen-more cache i filter (omega arith) before)

@@ -1,91 +1,70 @@
 // Rule 5: used entries number at most C, have different logical pages below L and changed 0 or 1; unused entries are none throughout.
-// Any words may stand in the cache, and any number may come as used.
+// Any words may stand in the cache, and any number may come as used. The pages differ where each is new to the filter, which takes them one
+// after the other; where the rule holds, it is the filter of the cached pages.
 ghost use mathlib.Core.Path.{_≡_};
 ghost use mathlib.Core.Bool.{true};
-ghost use Prim.Native.Nat.{_+_, _*_, _≤_, _<_};
+ghost use Prim.Native.Nat.{_+_, _*_, _≤_};
 ghost use lib.ListN.{length};
 ghost use Rattle.lent.specs.Model.{geometry};
-ghost use Rattle.scope.specs.Counting.{all};
 ghost use Rattle.scope.specs.Decisions.{entries-fit};
-ghost use Rattle.scope.specs.Lent.{cache-size};
-ghost use Rattle.soundness.specs.Entries.{in-use-fits, every, page-key};
-ghost use Rattle.soundness.specs.Seen.{differ, differ-in};
+ghost use Rattle.scope.specs.Geometry.{Accepted};
+ghost use Rattle.scope.specs.Lent.{cache-size, logical-at};
+ghost use Rattle.words.specs.Bitmap.{has, put};
+ghost use Rattle.words.specs.Filter.{Filter};
+ghost use Rattle.soundness.specs.Entries.{entry-fits, used-fit};
+ghost use Rattle.soundness.specs.Seen.{Seen};
 use crate::erased::only_erased;
-use crate::window;
 use lent::Geometry;
+use words::bitmap;
 
-// The entry at rank i has a logical page below l and changed 0 or 1.
-fn in_use_fits(cache: &[u32], l: u32, i: usize) -> bool
-    requires { ⌜ i * 3 + 3 ≤ length (now cache) ⌝ }
-    ensures { λ r. ⌜ r ≡ in-use-fits (now (cache .entry)) l i ⌝ }
+// The entry at rank i has a logical page below l, changed 0 or 1, and the page is new to the filter, which takes it.
+fn entry_fits(cache: &[u32], l: u32, i: usize, filter: &mut [u64; 1024]) -> bool
+    requires { ⌜ (i * 3 + 3 ≤ length (now cache)) × (l ≤ 65536) ⌝ }
+    ensures { λ r. ⌜ r ≡ entry-fits (has (now (filter .entry))) (now (cache .entry)) l i ⌝ }
+    ensures { λ r. ⌜ (r ≡ true → now (filter .exit) ≡ put (now (filter .entry)) (logical-at i (now (cache .entry)))) ⌝ }
 {
-    if l <= cache[i * 3] {
+    let page = cache[i * 3];
+    if l <= page {
         return false;
     }
-    cache[i * 3 + 2] <= 1
+    if 1 < cache[i * 3 + 2] {
+        return false;
+    }
+    let at = page as usize;
+    let new = !bitmap::has(filter, at);
+    bitmap::put(filter, at);
+    new
 }
 
-// So have the first n entries.
-fn all_fit(cache: &[u32], l: u32, n: usize) -> bool
-    requires { ⌜ n * 3 ≤ length (now cache) ⌝ }
-    ensures { λ r. ⌜ r ≡ all n (in-use-fits (now (cache .entry)) l) ⌝ }
+// So do the first n entries, each in its turn, from an empty filter on.
+fn used_fit(cache: &[u32], l: u32, n: usize, filter: &mut [u64; 1024]) -> bool
+    requires { ⌜ (n * 3 ≤ length (now cache)) × (l ≤ 65536) ⌝ }
+    ensures { λ r. ⌜ r ≡ used-fit (now (cache .entry)) l n ⌝ }
+    ensures { λ r. ⌜ (r ≡ true → Seen (now (cache .entry)) n (now (filter .exit))) ⌝ }
 {
+    bitmap::clear(filter);
     let mut i = 0;
     while i < n {
-        if !in_use_fits(cache, l, i) {
+        if !entry_fits(cache, l, i, filter) {
             return false;
         }
         i += 1;
-    }
-    true
-}
-
-// Of the first n entries no two have a logical page of window w in common.
-fn differ_in(cache: &[u32], n: usize, w: usize) -> bool
-    requires { ⌜ n * 3 ≤ length (now cache) ⌝ }
-    ensures { λ r. ⌜ r ≡ differ-in every (page-key (now (cache .entry))) w n ⌝ }
-{
-    let mut map = [0u64; 1024];
-    let mut i = 0;
-    while i < n {
-        if !window::note(&mut map, cache[i * 3] as usize, w) {
-            return false;
-        }
-        i += 1;
-    }
-    true
-}
-
-// Nor in any window: all below l are looked at, a window at a time.
-fn pages_differ(cache: &[u32], l: u32, n: usize) -> bool
-    requires { ⌜ n * 3 ≤ length (now cache) ⌝ }
-    requires { ⌜ all n (in-use-fits (now cache) l) ≡ true ⌝ }
-    ensures { λ r. ⌜ r ≡ differ every (page-key (now (cache .entry))) n ⌝ }
-{
-    let windows = (l as usize + (window::WINDOW - 1)) / window::WINDOW;
-    let mut w = 0;
-    while w < windows {
-        if !differ_in(cache, n, w) {
-            return false;
-        }
-        w += 1;
     }
     true
 }
 
 // Rule 5.
-pub fn entries_fit(g: Geometry, cache: &[u32], used: u32) -> bool
+pub fn entries_fit(g: Geometry, cache: &[u32], used: u32, filter: &mut [u64; 1024]) -> bool
+    requires { ⌜ Accepted (geometry g) ⌝ }
     requires { ⌜ length (now cache) ≡ cache-size (geometry g) ⌝ }
     ensures { λ r. ⌜ r ≡ entries-fit (geometry g) (now (cache .entry)) used ⌝ }
+    ensures { λ r. ⌜ (r ≡ true → Filter (now (cache .entry)) used (now (filter .exit))) ⌝ }
 {
     if g.c < used {
         return false;
     }
     let n = used as usize;
-    if !all_fit(cache, g.l, n) {
-        return false;
-    }
-    if !pages_differ(cache, g.l, n) {
+    if !used_fit(cache, g.l, n, filter) {
         return false;
     }
     let behind = n * 3;

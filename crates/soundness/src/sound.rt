@@ -11,6 +11,7 @@ ghost use Rattle.scope.specs.Geometry.{Accepted, blocks};
 ghost use Rattle.scope.specs.Lent.{chip-size, spare-size, directory-size};
 ghost use Rattle.scope.specs.Regions.{Data};
 ghost use Rattle.words.specs.Census.{Census};
+ghost use Rattle.words.specs.Filter.{Filter};
 ghost use Rattle.soundness.specs.Named.{valid-in};
 ghost use Rattle.soundness.specs.Survey.{Found};
 ghost use Rattle.soundness.specs.Whole.{flash-sound, cache-sound, Flash-holds};
@@ -57,7 +58,7 @@ fn flash_sound(
     }
 }
 
-// Rules 5 to 7, of the cache, its places and its entries' words.
+// Rules 5 to 7, of the cache, its places and its entries' words; where they hold, the filter has the cached pages.
 fn cache_sound(
     g: Geometry,
     chip: &[u32],
@@ -66,14 +67,16 @@ fn cache_sound(
     cache: &[u32],
     used: u32,
     valid: usize,
+    filter: &mut [u64; 1024],
 ) -> bool
     requires { ⌜ Accepted (geometry g) ⌝ }
     requires { ⌜ Lengths-fit (geometry g) (now chip) (now spare) (now directory) (now cache) ⌝ }
     requires { ⌜ Flash-holds (geometry g) (now spare) (now directory) ⌝ }
     requires { ⌜ valid ≡ valid-in (geometry g) Data (now spare) ⌝ }
     ensures { λ r. ⌜ r ≡ cache-sound (geometry g) (now (chip .entry)) (now (spare .entry)) (now (directory .entry)) (now (cache .entry)) used ⌝ }
+    ensures { λ r. ⌜ (r ≡ true → Filter (now (cache .entry)) used (now (filter .exit))) ⌝ }
 {
-    if !entries_fit(g, cache, used) {
+    if !entries_fit(g, cache, used, filter) {
         return false;
     }
     if !places_hold(g, chip, spare, directory, cache, used, valid) {
@@ -82,7 +85,8 @@ fn cache_sound(
     unchanged_agree(g, chip, directory, cache, used)
 }
 
-// Whether the state is sound, for any words in the slices and any numbers in the record. Where it is, the census is taken.
+// Whether the state is sound, for any words in the slices and any numbers in the record. Where it is, the census is taken
+// and the filter has the cached pages.
 pub fn is_sound(
     g: Geometry,
     chip: &[u32],
@@ -91,6 +95,7 @@ pub fn is_sound(
     cache: &[u32],
     rec: Record,
     census: &mut [u32],
+    filter: &mut [u64; 1024],
 ) -> bool
     requires { ⌜ Accepted (geometry g) ⌝ }
     requires { ⌜ Lengths-fit (geometry g) (now chip) (now spare) (now directory) (now cache) ⌝ }
@@ -98,10 +103,20 @@ pub fn is_sound(
     ensures { λ r. ⌜ r ≡ sound (geometry g)
         (state (now (chip .entry)) (now (spare .entry)) (now (directory .entry)) (now (cache .entry)) rec) ⌝ }
     ensures { λ r. ⌜ (r ≡ true → Census (geometry g) (now (spare .entry)) (now (census .exit))) ⌝ }
+    ensures { λ r. ⌜ (r ≡ true → Filter (now (cache .entry)) (rec .used) (now (filter .exit))) ⌝ }
 {
     let flash = flash_sound(g, chip, spare, directory, rec, census);
     if !flash.fits {
         return false;
     }
-    cache_sound(g, chip, spare, directory, cache, rec.used, flash.valid)
+    cache_sound(
+        g,
+        chip,
+        spare,
+        directory,
+        cache,
+        rec.used,
+        flash.valid,
+        filter,
+    )
 }

@@ -1,5 +1,4 @@
--- The filter: a bit for each logical page, set where the page is cached, so that a page that isn't is known without a search. A set bit
--- says nothing, so all that is kept is that each entry in use has its bit.
+-- The filter of the cached pages from step to step: what each leaf does to the cache and to the filter keeps every entry in use its bit.
 use Prim.Native.Nat.{ℕ, zero, suc, _+_, _-_, _*_, _%_, _≤_, _<_}
 use mathlib.Core.Path.{_≡_, sym, ap, _∙_}
 use mathlib.Core.Logic.{_≢_}
@@ -21,19 +20,8 @@ use Rattle.flash.specs.Cases.{same?, below?, last, and-true, clash, is-false}
 use Rattle.cache.specs.Entries.{CacheEntry, entry, put as put-entry, to-front, placed, put-stores, rank-before, length-to-front, to-front-entry, new-in-front}
 use Rattle.steps.specs.Lies.{few-pages}
 use Rattle.words.specs.Bitmap.{has, put, flip, length-put, length-flip, has-put-same, has-put-other, has-flip-other}
-use Rattle.words.specs.Runs.{getD-any}
+use Rattle.words.specs.Filter.{Filter, bit-of}
 use Rattle.words.specs.Searches.{lowest-fails}
-
--- The bit of a logical page.
-abbrev pub bit-of : ℕ → ℕ
-bit-of l = l % 65536
-
-pub record Filter (cache : List ℕ) (used : ℕ) (filter : List ℕ) : Type 0 where
-  pub ranks : ℕ
-  pub cache-fits : length cache ≡ ranks * entry-words
-  pub used-to : used ≤ ranks
-  pub filter-fits : length filter ≡ 1024
-  pub each : (i : ℕ) → i < used → has filter (bit-of (logical-at i cache)) ≡ true
 
 -- A page's bit is put in, and those that are there stay.
 module _ (filter : List ℕ) (l : ℕ) (long : length filter ≡ 1024) where
@@ -154,16 +142,3 @@ filter-loses {used = used} {used′} f g i ok fits last less is-bit is-flip stor
 
     logical-few : {g : Geometry} → Accepted g → g .L ≤ 65536
     logical-few {g} ok = omega (arith, ok .L-to, few-pages ok, mul-le-mul-right (g .P) (fewer (g .D) (g .T)))
-
--- One entry more has its bit.
-pub fill-more : (cache filter : List ℕ) (i : ℕ) {b : ℕ} {filter′ : List ℕ} → i * 3 < length cache → length filter ≡ 1024
-    → ((k : ℕ) → k < i → has filter (bit-of (logical-at k cache)) ≡ true) → b ≡ bit-of (getD cache (i * 3) 0) → filter′ ≡ put filter b
-    → (length filter′ ≡ 1024) × ((k : ℕ) → k < i + 1 → has filter′ (bit-of (logical-at k cache)) ≡ true)
-fill-more cache filter i {b} h long before is-bit is-put =
-    let own : b ≡ bit-of (logical-at i cache) = is-bit ∙ ap bit-of (getD-any cache (i * 3) 0 none h) in
-    rw (is-put, own) (
-      length-put filter (bit-of (logical-at i cache)) ∙ long,
-      λ k l. last k i (omega arith)
-          (λ m. still filter (logical-at i cache) long (logical-at k cache) (before k m))
-          (λ q. rw q (put-there filter (logical-at i cache) long)),
-    )

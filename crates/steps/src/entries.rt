@@ -9,7 +9,7 @@ use words::entries::to_front;
 use words::runs::store_three;
 use words::runs::store_two;
 ghost use mathlib.Core.Path.{_≡_};
-ghost use Prim.Native.Nat.{ℕ, _+_, _*_, _≤_, _<_};
+ghost use Prim.Native.Nat.{_+_, _*_, _≤_, _<_};
 ghost use lib.ListN.{length};
 ghost use Rattle.scope.specs.Geometry.{Accepted};
 ghost use Rattle.scope.specs.Sound.{Entries-fit, rank-of};
@@ -19,9 +19,7 @@ ghost use Rattle.lent.specs.declared.Work.{Work};
 ghost use Rattle.lent.specs.Model.{geometry};
 ghost use Rattle.lent.specs.Shapes.{Does-cache};
 ghost use Rattle.steps.specs.Entries.{Cache-lent};
-ghost use Rattle.steps.specs.Filter.{Filter, bit-of};
-ghost use Rattle.words.specs.Bitmap.{has};
-ghost use mathlib.Core.Bool.{true};
+ghost use Rattle.words.specs.Filter.{Filter, bit-of};
 
 // The bit of a logical page in the filter.
 fn bit_of(l: u32) -> usize
@@ -118,17 +116,4 @@ pub fn set_entry(i: usize, place: u32, cache: &mut [u32])
     ensures { λ _. ⌜ ((w : Work) → Does-cache (set-entry i place) (now (cache .entry)) w tt (now (cache .exit)) w) ⌝ }
 {
     store_two(cache, i * 3 + 1, place, 1);
-}
-
-// The filter is filled: whatever was in it, the pages of the first n entries have their bits too.
-pub fn fill(n: usize, cache: &[u32], filter: &mut [u64; 1024])
-    requires { ⌜ (n * 3 ≤ length (now cache)) × (length (now filter) ≡ 1024) ⌝ }
-    ensures { λ _. ⌜ (length (now (filter .exit)) ≡ 1024)
-        × ((i : ℕ) → i < n → has (now (filter .exit)) (bit-of (logical-at i (now (cache .entry)))) ≡ true) ⌝ }
-{
-    let mut i = 0;
-    while i < n {
-        bitmap::put(filter, bit_of(cache[i * 3]));
-        i += 1;
-    }
 }

@@ -5,3 +5,4 @@ pub mod States
 pub mod Searches
 pub mod Bitmap
 pub mod Census
+pub mod Filter

@@ -1,7 +1,14 @@
-// A set of the numbers below 65,536, a bit for each, in 8 KiB of stack: logical pages, in windows of that many where there may be more.
+// A set of the numbers below 65,536, a bit for each, in 8 KiB of stack: the cached logical pages.
 ghost use mathlib.Core.Path.{_≡_};
 ghost use Prim.Native.Nat.{_<_};
-ghost use Rattle.words.specs.Bitmap.{has, put, flip};
+ghost use Rattle.words.specs.Bitmap.{has, put, flip, empty};
+
+// The set with nothing in it, whatever it was.
+pub fn clear(map: &mut [u64; 1024])
+    ensures { λ _. ⌜ now (map .exit) ≡ empty ⌝ }
+{
+    *map = [0u64; 1024];
+}
 
 // Whether i is in the set.
 pub fn has(map: &[u64; 1024], i: usize) -> bool

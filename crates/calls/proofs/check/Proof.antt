@@ -24,9 +24,9 @@ same-length c = search needs
 returns : tie.Need-returns
 returns c =
     let tested = c .before .before .before .before .before in
-    let a = tested .before .before .before .before .before .before .before .before .args in
+    let a = tested .before .before .before .before .before .before .before .before .before .args in
     check-answers (geometry (a .g)) (state (now (a .chip)) (now (a .spare)) (now (a .directory)) (now (a .cache)) (a .rec))
-    (tested .before .before .lengths-right .ensures) (tested .state-answer .ensures .0) (c .before .before .put-counts .ensures)
+    (tested .before .before .before .lengths-right .ensures) (tested .state-answer .ensures .0) (c .before .before .put-counts .ensures)
 
 pub check-spec : {M : Type 1} → statement M
 check-spec =

@@ -13,8 +13,8 @@ use Rattle.calls.proofs.run.begin.Tie as tie
 run-lengths-right-requires : tie.Need-run-lengths-right-requires
 run-lengths-right-requires c κs = search needs
 
-noted-answer-requires : tie.Need-noted-answer-requires
-noted-answer-requires c κs = search needs
+state-answer-requires : tie.Need-state-answer-requires
+state-answer-requires c κs = search needs
 
 same-length : tie.Need-same-length
 same-length c = search needs
@@ -35,10 +35,10 @@ returns c =
     record {
       tested = run-tested (geometry (a .g)) (state (now (a .chip)) (now (a .spare)) (now (a .directory)) (now (a .cache)) (a .rec))
           (a .n) (a .words) (a .answers) (a .fits && eqb (a .counts) counts-words)
-          (right .run-lengths-right .ensures) (c .noted-answer .ensures .0);
+          (right .run-lengths-right .ensures) (c .state-answer .ensures .0);
       uncounted = refl;
       kept = refl;
-      noted = c .noted-answer .ensures .1;
+      noted = c .state-answer .ensures .1;
     }
 
 pub begin-spec : {M : Type 1} → statement M
@@ -46,7 +46,7 @@ begin-spec =
     tie.close
     (tie.spec
     run-lengths-right-requires
-    noted-answer-requires
+    state-answer-requires
     same-length
     same-length-2
     same-length-3

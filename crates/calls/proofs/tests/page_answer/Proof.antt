@@ -17,13 +17,13 @@ s c = let a = c .args in state (now (a .chip)) (now (a .spare)) (now (a .directo
 passes : (c : tie.Else1) → let start = c .before .before .before .before .before .before .before .before .before .before .before .before in State-passes (geometry (start .args .g)) (s start) (c .before .before .before .before .before .before .page-lengths-right .result)
 passes c =
     let start = c .before .before .before .before .before .before .before .before .before .before .before .before in
-    state-passes (geometry (start .args .g)) (s start) (c .before .before .before .before .before .before .page-lengths-right .result) (sym (c .if1 .left) ∙ c .before .before .before .noted-answer .ensures .0)
+    state-passes (geometry (start .args .g)) (s start) (c .before .before .before .before .before .before .page-lengths-right .result) (sym (c .if1 .left) ∙ c .before .before .before .state-answer .ensures .0)
 
 page-lengths-right-requires : tie.Need-page-lengths-right-requires
 page-lengths-right-requires c κs = search needs
 
-noted-answer-requires : tie.Need-noted-answer-requires
-noted-answer-requires c κs = search needs
+state-answer-requires : tie.Need-state-answer-requires
+state-answer-requires c κs = search needs
 
 same-length : tie.Need-same-length
 same-length c = search needs
@@ -33,7 +33,7 @@ returns c =
     let start = c .before .before .before .before .before .before .before .before .before .before .before .before in
     let right = c .before .before .before .before .before .before .page-lengths-right in
     page-tested (right .ensures)
-    (state-applies (geometry (start .args .g)) (s start) (right .result) (start .args .page) (c .before .before .before .noted-answer .ensures .0) (c .if1 .taken))
+    (state-applies (geometry (start .args .g)) (s start) (right .result) (start .args .page) (c .before .before .before .state-answer .ensures .0) (c .if1 .taken))
     (λ e. absurd (c .if1 .taken e))
 
 same-length-2 : tie.Need-same-length-2
@@ -56,14 +56,14 @@ returns-3 c =
     let right = c .before .before .before .before .before .before .before .before .page-lengths-right in
     page-tested (right .ensures)
     (below-limit (geometry (start .args .g)) (s start) (right .result) (start .args .page) (passes (c .before .before)) (c .if2 .left))
-    (λ _. c .before .before .before .before .before .noted-answer .ensures .1 (c .before .before .if1 .left))
+    (λ _. c .before .before .before .before .before .state-answer .ensures .1 (c .before .before .if1 .left))
 
 pub page-answer-spec : {M : Type 1} → statement M
 page-answer-spec =
     tie.close
     (tie.spec
     page-lengths-right-requires
-    noted-answer-requires
+    state-answer-requires
     same-length
     returns
     same-length-2

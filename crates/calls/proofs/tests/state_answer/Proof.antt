@@ -30,8 +30,8 @@ returns c =
 
 is-sound-requires : tie.Need-is-sound-requires
 is-sound-requires c κs =
-    let start = c .before .before .before .before .before .before .before .before in
-    let pass = passes (c .before) in
+    let start = c .before .before .before .before .before .before .before .before .before in
+    let pass = passes (c .before .before) in
     let ok = geometry-passes (geometry (start .args .g)) (s start) (start .args .fits) pass in
     (ok, (lengths-pass (geometry (start .args .g)) (s start) (start .args .fits) pass, omega (arith, ok .D+T-to, start .pre)))
 
@@ -40,8 +40,9 @@ same-length c = search needs
 
 returns-2 : tie.Need-returns-2
 returns-2 c =
-    let start = c .before .before .before .before .before .before .before .before .before .before .before .before in (
-      damaged (geometry (start .args .g)) (s start) (start .args .fits) (passes (c .before .before .before .before .before)) (refused (c .before .before .before .is-sound .ensures .0) (c .if2 .taken)),
+    let start = c .before .before .before .before .before .before .before .before .before .before .before .before .before in (
+      damaged (geometry (start .args .g)) (s start) (start .args .fits) (passes (c .before .before .before .before .before .before))
+          (refused (c .before .before .before .is-sound .ensures .0) (c .if2 .taken)),
       λ e. absurd (omega arith),
     )
 
@@ -50,10 +51,12 @@ same-length-2 c = search needs
 
 returns-3 : tie.Need-returns-3
 returns-3 c =
-    let start = c .before .before .before .before .before .before .before .before .before .before .before .before in
-    let checked = c .before .before .before .is-sound in (
-      undamaged (geometry (start .args .g)) (s start) (start .args .fits) (passes (c .before .before .before .before .before)) (passed (checked .ensures .0) (c .if2 .left)),
-      λ _. checked .ensures .1 (not-false _ (c .if2 .left)),
+    let start = c .before .before .before .before .before .before .before .before .before .before .before .before .before in
+    let checked = c .before .before .before .is-sound in
+    let is = not-false _ (c .if2 .left) in (
+      undamaged (geometry (start .args .g)) (s start) (start .args .fits) (passes (c .before .before .before .before .before .before))
+          (passed (checked .ensures .0) (c .if2 .left)),
+      λ _. record { counted = checked .ensures .1 .0 is; filtered = checked .ensures .1 .1 is },
     )
 
 pub state-answer-spec : {M : Type 1} → statement M

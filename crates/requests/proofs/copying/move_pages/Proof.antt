@@ -6,7 +6,7 @@ use native.Mathlib.Omega.{arith}
 use lib.ListN.{length}
 use Rattle.steps.specs.Lies.{spare-lies}
 use Rattle.words.specs.Census.{Census}
-use Rattle.steps.specs.Filter.{Filter}
+use Rattle.words.specs.Filter.{Filter}
 use Rattle.lent.specs.Model.{geometry}
 use Rattle.update.specs.Moves.{first-moves, Waits-in}
 use Rattle.requests.specs.Waiting.{waiting-counted, none-wait-in}

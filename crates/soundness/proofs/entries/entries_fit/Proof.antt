@@ -1,39 +1,43 @@
 -- `soundness::entries::entries_fit` meets its contract: the parts of rule 5, in their order.
-use mathlib.Core.Path.{ap, _∙_}
+use mathlib.Core.Path.{refl, sym, ap, _∙_}
 use mathlib.Core.List.{List}
 use Prim.Native.Nat.{ℕ, _*_}
 use lib.ListN.{length}
 use borrow.Rule.Slice.PartAt.{part-to-end}
 use borrow.Author.Needs.{needs}
+use borrow.Author.Tests.{not-false}
 use denote.Ref.{now}
-use Rattle.soundness.specs.Bools.{refused, passed}
+use Rattle.flash.specs.Cases.{clash}
 use Rattle.lent.specs.Model.{geometry}
 use Rattle.scope.specs.Counting.{all}
+use Rattle.scope.specs.Laws.Decided.{entries-fit-decided}
+use Rattle.scope.specs.Regions.{Data}
+use Rattle.soundness.specs.Bools.{refused, passed}
 use Rattle.soundness.specs.Entries.{too-many, entries-by-parts}
 use Rattle.soundness.specs.Erased.{is-erased-word}
+use Rattle.soundness.specs.Named.{owners-small}
+use Rattle.soundness.specs.Seen.{seen-filter}
 use Rattle.soundness.proofs.entries.entries_fit.Statement.{statement}
 use Rattle.soundness.proofs.entries.entries_fit.Tie as tie
 
 returns : tie.Need-returns
-returns c = let a = c .before .before .before .args in too-many (geometry (a .g)) (now (a .cache)) (a .used) (c .if1 .taken)
+returns c =
+    let a = c .before .before .before .args in
+    (too-many (geometry (a .g)) (now (a .cache)) (a .used) (c .if1 .taken), λ p. clash p refl)
 
-all-fit-requires : tie.Need-all-fit-requires
-all-fit-requires c κs = search needs
+used-fit-requires : tie.Need-used-fit-requires
+used-fit-requires c κs =
+    let start = c .before .before .before .before in
+    (search needs, owners-small (geometry (start .args .g)) Data (start .pre .0))
 
 returns-2 : tie.Need-returns-2
 returns-2 c =
-    let a = c .before .before .before .before .before .args in
-    rw (refused (c .before .all-fit .ensures) (c .if2 .taken)) at
-    (entries-by-parts (geometry (a .g)) (now (a .cache)) (a .used) (c .before .before .if1 .left) (c .before .before .before .before .before .pre))
-
-pages-differ-requires : tie.Need-pages-differ-requires
-pages-differ-requires c κs = (search needs, passed (c .before .all-fit .ensures) (c .if2 .left))
-
-returns-3 : tie.Need-returns-3
-returns-3 c =
-    let a = c .before .before .before .before .before .before .before .args in
-    rw (passed (c .before .before .before .all-fit .ensures) (c .before .before .if2 .left), refused (c .before .pages-differ .ensures) (c .if3 .taken)) at
-    (entries-by-parts (geometry (a .g)) (now (a .cache)) (a .used) (c .before .before .before .before .if1 .left) (c .before .before .before .before .before .before .before .pre))
+    let start = c .before .before .before .before .before .before in
+    let a = start .args in (
+      rw (refused (c .before .used-fit .ensures .0) (c .if2 .taken)) at
+          (entries-by-parts (geometry (a .g)) (now (a .cache)) (a .used) (c .before .before .before .if1 .left) (start .pre .1)),
+      λ p. clash p refl,
+    )
 
 mul-behind : tie.Need-mul-behind
 mul-behind c = search needs
@@ -53,27 +57,33 @@ part-only-erased-end c = search needs
 only-erased-requires : tie.Need-only-erased-requires
 only-erased-requires c κs = search needs
 
-returns-4 : tie.Need-returns-4
-returns-4 c =
-    let a = c .before .before .before .before .before .before .before .before .before .args in
+returns-3 : tie.Need-returns-3
+returns-3 c =
+    let start = c .before .before .before .before .before .before .before .before in
+    let a = start .args in
+    let used = c .before .before .before .used-fit in
+    let tells =
     c .only-erased .ensures
     ∙ ap (λ (words : List ℕ). all (length words) (is-erased-word words)) (part-to-end (now (a .cache)) (a .used * 3))
-    ∙ (rw (passed (c .before .before .before .before .before .all-fit .ensures) (c .before .before .before .before .if2 .left), passed (c .before .before .before .pages-differ .ensures) (c .before .before .if3 .left)) at
-    (entries-by-parts (geometry (a .g)) (now (a .cache)) (a .used) (c .before .before .before .before .before .before .if1 .left) (c .before .before .before .before .before .before .before .before .before .pre)))
+    ∙ (rw (passed (used .ensures .0) (c .before .before .if2 .left)) at
+    (entries-by-parts (geometry (a .g)) (now (a .cache)) (a .used) (c .before .before .before .before .before .if1 .left) (start .pre .1))) in (
+      tells,
+      λ p. seen-filter (start .pre .0) (start .pre .1)
+          (entries-fit-decided (geometry (a .g)) (now (a .cache)) (a .used) .holds (sym tells ∙ p))
+          (used .ensures .1 (not-false _ (c .before .before .if2 .left))),
+    )
 
 pub entries-fit-spec : {M : Type 1} → statement M
 entries-fit-spec =
     tie.close
     (tie.spec
     returns
-    all-fit-requires
+    used-fit-requires
     returns-2
-    pages-differ-requires
-    returns-3
     mul-behind
     mul-only-erased
     sub-only-erased
     part-only-erased-start
     part-only-erased-end
     only-erased-requires
-    returns-4)
+    returns-3)

@@ -1,16 +1,15 @@
 -- `steps::entries::forget` meets its contract.
-use mathlib.Core.Path.{refl}
+use mathlib.Core.Path.{refl, ap, _∙_}
 use Prim.Native.Nat.{_*_}
 use native.Mathlib.Nat.{mod-lt}
 use lib.ListN.{getD}
 use native.Mathlib.Omega.{arith}
 use borrow.Author.Needs.{needs}
 use Rattle.words.specs.Runs.{getD-any}
-use mathlib.Core.Path.{ap, _∙_}
-use Prim.Native.Nat.{ℕ}
 use Rattle.lent.specs.Model.{geometry}
 use Rattle.steps.specs.Entries.{forget-does}
-use Rattle.steps.specs.Filter.{filter-loses, bit-of}
+use Rattle.words.specs.Filter.{bit-of}
+use Rattle.steps.specs.Filter.{filter-loses}
 use Rattle.steps.proofs.entries.forget.Statement.{statement}
 use Rattle.steps.proofs.entries.forget.Tie as tie
 
