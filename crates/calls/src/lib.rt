@@ -8,10 +8,10 @@ mod tests;
 use crate::counting::NO_COUNTS;
 use crate::counting::put_counts;
 use crate::tests::DONE;
+use crate::tests::check_answer;
 use crate::tests::lengths_right;
 use crate::tests::page_answer;
 use crate::tests::size_answer;
-use crate::tests::state_answer;
 use lent::Geometry;
 use lent::Record;
 use lent::Work;
@@ -85,20 +85,8 @@ pub fn check(
         (state (now (chip .entry)) (now (spare .entry)) (now (directory .entry)) (now (cache .entry)) rec)
         (now (counts .exit)) ⌝ }
 {
-    let mut census = [0u32; 1024];
-    let mut filter = [0u64; 1024];
     let right = lengths_right(fits, counts.len());
-    let answer = state_answer(
-        rec,
-        right,
-        g,
-        chip,
-        spare,
-        directory,
-        cache,
-        &mut census,
-        &mut filter,
-    );
+    let answer = check_answer(rec, right, g, chip, spare, directory, cache);
     put_counts(counts, NO_COUNTS);
     answer
 }

@@ -140,6 +140,48 @@ pub fn state_answer(
     DONE
 }
 
+// The same, for a check, which needs no notes. Their text stands twice so that `is_sound` is called from two places, and the compiler leaves
+// it a function of its own: put into another, its loops lack registers and take a fifth longer.
+pub fn check_answer(
+    rec: Record,
+    fits: bool,
+    g: Geometry,
+    chip: &[u32],
+    spare: &[u32],
+    directory: &[u32],
+    cache: &[u32],
+) -> u32
+    ensures { λ r. ⌜ State-tested (geometry g)
+        (state (now (chip .entry)) (now (spare .entry)) (now (directory .entry)) (now (cache .entry)) rec) fits r ⌝ }
+{
+    let mut census = [0u32; 1024];
+    let mut filter = [0u64; 1024];
+    let sizes = size_answer(
+        g,
+        fits,
+        chip.len(),
+        spare.len(),
+        directory.len(),
+        cache.len(),
+    );
+    if sizes != DONE {
+        return sizes;
+    }
+    if !is_sound(
+        g,
+        chip,
+        spare,
+        directory,
+        cache,
+        rec,
+        &mut census,
+        &mut filter,
+    ) {
+        return DAMAGED;
+    }
+    DONE
+}
+
 // These, and PAGE: the tests of a read or a write, with the lengths of its page buffer and its counts.
 pub fn page_answer(
     rec: Record,
