@@ -29,8 +29,8 @@
 #define CALLGRIND_DUMP_STATS_AT(label) (void)(label)
 #endif
 
-enum { FEWEST_ROUNDS = 25, MOST_ROUNDS = 1000 };
-static const double BUDGET = 2e9; /* nanoseconds for a case, once it has its fewest rounds */
+enum { FEWEST_ROUNDS = 75, MOST_ROUNDS = 3000 };
+static const double BUDGET = 5e9; /* nanoseconds for a case, once it has its fewest rounds */
 static const double NEVER = 1e18;
 
 /* One case on one chip, with a node and an exchange for each side. */
@@ -63,14 +63,12 @@ static bool has_sweep(const struct test_case *c)
     return c->what == CHECK && !c->full;
 }
 
-/* Both sides at the start of a case: whatever the calls change is copied anew. */
-static void reset(struct match *m)
+/* A side at the start of a case: whatever the calls change is copied anew. */
+static void reset(struct match *m, enum side s)
 {
-    for (int s = 0; s < SIDES; s++) {
-        exchange_prepare(m->exchange[s], m->c, &m->start->g);
-        if (m->c->what != FORMAT && m->c->what != CHECK)
-            node_copy(&m->node[s], m->start);
-    }
+    exchange_prepare(m->exchange[s], m->c, &m->start->g);
+    if (m->c->what != FORMAT && m->c->what != CHECK)
+        node_copy(&m->node[s], m->start);
 }
 
 static void must_agree(const struct match *m, const uint32_t reply[SIDES])
@@ -82,9 +80,14 @@ static void must_agree(const struct match *m, const uint32_t reply[SIDES])
     exit(1);
 }
 
-/* A check comes first, untimed, so that both sides find as much of their node in the caches. */
+/*
+ * Right before its first call a side starts anew, and before each call comes a
+ * check, untimed, so that both sides find as much of their node in the caches.
+ */
 static uint32_t timed_call(struct match *m, enum side s, size_t i)
 {
+    if (i == 0)
+        reset(m, s);
     node_check(s, &m->node[s]);
     double begin = now();
     uint32_t reply = case_call(s, m->c, &m->node[s], m->exchange[s], i);
@@ -105,7 +108,6 @@ static void timed_sweep(struct match *m)
 static void timed_round(struct match *m, size_t round)
 {
     uint32_t reply[SIDES] = {0, 0};
-    reset(m);
     for (size_t i = 0; i < case_calls(m->c) && reply[OURS] == reply[THEIRS]; i++) {
         enum side first = (round + i) % 2 == 0 ? OURS : THEIRS;
         enum side second = first == OURS ? THEIRS : OURS;
@@ -144,8 +146,8 @@ static void count_case(struct match *m, const struct chip *chip)
 {
     static const char *const side_names[SIDES] = {"ours", "theirs"};
     char label[128];
-    reset(m);
     for (int s = 0; s < SIDES; s++) {
+        reset(m, s);
         snprintf(label, sizeof label, "%s\t%s\t%s\t%zu", chip->name, m->c->name, side_names[s],
                  case_calls(m->c));
         CALLGRIND_START_INSTRUMENTATION;

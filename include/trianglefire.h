@@ -20,7 +20,7 @@
  * - Beyond that a caller can do nothing wrong: every geometry, page number, count of words and
  *   content of the slices has its one answer.  A refusal writes nothing but the counts.
  * - Nothing is kept between calls but what is in the slices, and no memory is allocated.  A call
- *   takes up to 22 KiB of stack.  Calls on different states may run at the same time; calls on one
+ *   takes up to 17 KiB of stack.  Calls on different states may run at the same time; calls on one
  *   state may not, and nobody else may change it in between.
  * - The reply is returned (enum tf_reply).  The last slice, counts, takes three words: how many
  *   pages were read, how many were programmed, and how many blocks were erased.  If it has three
