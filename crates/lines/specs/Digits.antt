@@ -5,7 +5,7 @@ use mathlib.Core.Bool.{true, false}
 use mathlib.Core.List.{List, [], _∷_, _++_}
 use mathlib.Core.Path.{_≡_}
 use lib.Dec.{ltb}
-use lib.ListN.{length, take}
+use lib.ListN.{length, getD, take}
 use lib.Seq.{sets}
 use Rattle.lines.specs.Lines.{space}
 
@@ -38,6 +38,10 @@ spaced (n ∷ m ∷ numbers) = digits n ++ space ∷ spaced (m ∷ numbers)
 
 unfoldable pub line : List ℕ → List ℕ
 line numbers = spaced numbers ++ newline ∷ []
+
+-- The numbers of a printed line: the answer, its three counts, and what comes after them.
+abbrev pub numbers : ℕ → List ℕ → List ℕ → List ℕ
+numbers reply counts more = reply ∷ getD counts 0 0 ∷ getD counts 1 0 ∷ getD counts 2 0 ∷ more
 
 -- The bytes put into a list of lent bytes from a place on, and the place after them.
 pub record Puts (before : List ℕ) (at : ℕ) (bytes after : List ℕ) (next : ℕ) : Type 0 where

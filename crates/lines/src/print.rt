@@ -1,8 +1,24 @@
-// Numbers printed into lent bytes.
+// What is printed of an answer: numbers put into lent bytes.
 ghost use mathlib.Core.List.{_++_, _∷_, []};
 ghost use Prim.Native.Nat.{_+_, _*_, _≤_, _<_};
 ghost use lib.ListN.{length};
-ghost use Rattle.lines.specs.Digits.{last-digit, digits, separator, Puts, Prints};
+ghost use Rattle.lines.specs.Digits.{last-digit, digits, separator, numbers, Puts, Prints};
+
+// A write, a refusal or an unwritten read: the answer and its counts.
+pub fn put_answer(out: &mut [u8; 64], reply: u32, counts: [u32; 3]) -> usize
+    ensures { λ n. ⌜ Prints (now (out .entry)) (numbers reply counts []) (now (out .exit)) n ⌝ }
+{
+    let numbers = [reply, counts[0], counts[1], counts[2]];
+    put_line(out, &numbers)
+}
+
+// A read that is DONE: the first word too.
+pub fn put_word(out: &mut [u8; 64], reply: u32, counts: [u32; 3], word: u32) -> usize
+    ensures { λ n. ⌜ Prints (now (out .entry)) (numbers reply counts (word ∷ [])) (now (out .exit)) n ⌝ }
+{
+    let numbers = [reply, counts[0], counts[1], counts[2], word];
+    put_line(out, &numbers)
+}
 
 // Puts the numbers, a space between any two, and a newline; answers how many bytes that is.
 pub fn put_line(out: &mut [u8], numbers: &[u32]) -> usize

@@ -20,8 +20,8 @@ use Rattle.scope.specs.Laws.SmallRecord.{record-stored}
 use Rattle.scope.specs.Tables.Play.{Line, W, R, made, first-word, printed}
 use Rattle.scope.specs.Tables.Session.{G}
 use Rattle.lines.specs.declared.Parsed.the-variants.{Other}
-use Rattle.lines.specs.Digits.{Prints}
-use Rattle.session.specs.Serves.{numbers, answered, shown, Serves}
+use Rattle.lines.specs.Digits.{numbers, Prints}
+use Rattle.session.specs.Serves.{answered, shown, Serves}
 
 -- Where the record has five words and the counts are three, a call in words is the call on numbers and lists.
 gives-answers : {A : Type 0} (call : Bool → Step A) (w w′ : Words) (x : A) → length (w .small) ≡ record-words

@@ -2,8 +2,8 @@
 -- What serving a line prints and leaves, in the words of scope's sessions (Tables/Play.antt), of which its table proves 01's session.
 use Prim.Native.Nat.{ℕ, _≤_}
 use mathlib.Core.Path.{_≡_}
-use mathlib.Core.List.{List, [], _∷_}
-use lib.ListN.{length, getD, take}
+use mathlib.Core.List.{List, []}
+use lib.ListN.{length, take}
 use Rattle.scope.specs.SmallRecord.{record-of}
 use Rattle.scope.specs.Lent.{State}
 use Rattle.scope.specs.Tables.Play.{Line, W, R, made, printed}
@@ -30,10 +30,6 @@ abbrev pub shown : Parsed → State → Shown
 shown (Write page value) s = answered (W page value) s
 shown (Read page) s = answered (R page) s
 shown Other s = record { bytes = []; left = s }
-
--- The numbers of a printed line: the answer, its three counts, and what comes after them.
-abbrev pub numbers : ℕ → List ℕ → List ℕ → List ℕ
-numbers reply counts more = reply ∷ getD counts 0 0 ∷ getD counts 1 0 ∷ getD counts 2 0 ∷ more
 
 -- A line was served: its bytes stand at the front of `out`, n of them, and the state is the one after it.
 pub record Serves (what : Shown) (s′ : State) (out out′ : List ℕ) (n : ℕ) : Type 0 where

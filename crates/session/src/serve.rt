@@ -1,13 +1,12 @@
 // A line served: the call that it asks for is made, and what the program prints for it is put into lent bytes. The contracts say that
 // these bytes, and the state after, are those of document 01's definitions (specs/Serves.antt).
 use lines::Parsed;
-use lines::print::put_line;
+use lines::print::put_answer;
+use lines::print::put_word;
 use trianglefire::tf_read;
 use trianglefire::tf_write;
-ghost use mathlib.Core.List.{_∷_, []};
-ghost use Rattle.lines.specs.Digits.{Prints};
 ghost use Rattle.scope.specs.Tables.Play.{W, R};
-ghost use Rattle.session.specs.Serves.{held, answered, shown, numbers, Serves};
+ghost use Rattle.session.specs.Serves.{held, answered, shown, Serves};
 
 // G: P = 2, W = 2, D = 3, T = 3, L = 3, C = 1.
 pub const P: u32 = 2;
@@ -129,20 +128,4 @@ fn read_page(
     } else {
         put_answer(out, reply, counts)
     }
-}
-
-// A write, a refusal or an unwritten read: the answer and its counts.
-fn put_answer(out: &mut [u8; 64], reply: u32, counts: [u32; 3]) -> usize
-    ensures { λ n. ⌜ Prints (now (out .entry)) (numbers reply counts []) (now (out .exit)) n ⌝ }
-{
-    let numbers = [reply, counts[0], counts[1], counts[2]];
-    put_line(out, &numbers)
-}
-
-// A read that is DONE: the first word too.
-fn put_word(out: &mut [u8; 64], reply: u32, counts: [u32; 3], word: u32) -> usize
-    ensures { λ n. ⌜ Prints (now (out .entry)) (numbers reply counts (word ∷ [])) (now (out .exit)) n ⌝ }
-{
-    let numbers = [reply, counts[0], counts[1], counts[2], word];
-    put_line(out, &numbers)
 }
