@@ -9,7 +9,8 @@
  * The first four differ in the number of blocks alone, with entries, logical
  * pages and translation blocks in proportion: they show how the cost grows.
  * The logical pages are 94 of 100 of the most that the geometry allows, so a
- * collection has much to copy.
+ * collection has much to copy.  The last two have small blocks, and a
+ * translation page for each logical page.
  */
 const struct chip chips[] = {
     {"1/64", {64, 512, 14, 2, 780, 64}, false},
@@ -17,6 +18,8 @@ const struct chip chips[] = {
     {"1/4", {64, 512, 250, 6, 14950, 1024}, false},
     {"largest", {64, 512, 1000, 24, 60000, 4096}, true},
     {"middle", {32, 128, 480, 32, 14400, 1024}, true},
+    {"P = 16, W = 64", {16, 64, 1000, 24, 15020, 512}, false},
+    {"W = 1", {64, 1, 512, 512, 30740, 4096}, false},
 };
 const size_t chip_count = sizeof chips / sizeof *chips;
 
