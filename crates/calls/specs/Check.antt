@@ -13,8 +13,8 @@ use Rattle.scope.specs.Replies.{DONE}
 use Rattle.scope.specs.Calls.{check}
 use Rattle.scope.specs.Boundary.{put}
 use Rattle.scope.specs.Contracts.{Answers}
-use Rattle.calls.specs.Answers.{does-answers, refuses, admits}
-use Rattle.calls.specs.Tested.{State-tested}
+use Rattle.admission.specs.Answers.{does-answers, refuses, admits}
+use Rattle.admission.specs.Tested.{State-tested}
 
 -- The code tests with `right`, its own name for whether the lengths beside the state's are right.
 module _ (g : Geometry) (s : State) {right others : Bool} {n : ℕ} (named : right ≡ others)

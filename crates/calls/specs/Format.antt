@@ -14,8 +14,8 @@ use Rattle.scope.specs.Calls.{state-sizes, size-tests, format}
 use Rattle.requests.specs.Fresh.{Sized}
 use Rattle.scope.specs.Boundary.{put}
 use Rattle.scope.specs.Contracts.{Answers}
-use Rattle.calls.specs.Answers.{does-answers, refuses, admits}
-use Rattle.calls.specs.Tested.{sizes-pass, geometry-passes, lengths-pass}
+use Rattle.admission.specs.Answers.{does-answers, refuses, admits}
+use Rattle.admission.specs.Tested.{sizes-pass, geometry-passes, lengths-pass}
 
 -- The code tests with `right`, its own name for whether the lengths beside the state's are right.
 module _ (g : Geometry) (s : State) {right others : Bool} {n : ℕ} (named : right ≡ others)

@@ -21,29 +21,17 @@ use Rattle.scope.specs.Contracts.{Answers}
 use Rattle.words.specs.Census.{Census}
 use Rattle.words.specs.Filter.{Filter}
 use Rattle.requests.specs.Ready.{Ready-for}
-use Rattle.calls.specs.Answers.{does-answers, refuses, admits}
-use Rattle.calls.specs.Sizes.{buffer-right, with-buffer}
-use Rattle.calls.specs.Tested.{page-passes, geometry-passes, lengths-pass, soundness-passes}
-use Rattle.calls.specs.Room.{most-cost}
-use Rattle.calls.specs.Noted.{Noted}
+use Rattle.admission.specs.Answers.{does-answers, refuses, admits}
+use Rattle.admission.specs.Sizes.{buffer-right, with-buffer}
+use Rattle.admission.specs.Tested.{page-passes, geometry-passes, lengths-pass, soundness-passes}
+use Rattle.admission.specs.Room.{most-cost}
+use Rattle.admission.specs.PageTested.{Page-tested}
 
 -- The definition of either, by its steps.
 abbrev pub paged : Geometry → Bool → ℕ → List ℕ → Step Replied → Step Replied
 paged g others l buffer steps =
     look (λ s. state-tests g (right-sizes (state-sizes g s ++ buffer-sizes g buffer) && others) s ++ page-tests g l)
     >>= (λ tests. admit tests (replied buffer) steps)
-
--- The tests of either, where its page buffer has `buffer` words, and the notes taken where none applies.
-pub record Page-tested (g : Geometry) (others : Bool) (l buffer : ℕ) (s : State) (n : ℕ) (census filter : List ℕ) : Type 0 where
-  pub tested : n ≡ first-applying (state-tests g (right-sizes (state-sizes g s) && buffer-right g buffer others) s ++ page-tests g l)
-  pub noted : n ≡ DONE → Noted g s census filter
-
--- The code tests with `right`, its own name for whether the lengths beside the state's are right.
-pub page-tested : {g : Geometry} {others right : Bool} {l buffer : ℕ} {s : State} {n : ℕ} {census filter : List ℕ}
-    → right ≡ buffer-right g buffer others
-    → n ≡ first-applying (state-tests g (right-sizes (state-sizes g s) && right) s ++ page-tests g l) → (n ≡ DONE → Noted g s census filter)
-    → Page-tested g others l buffer s n census filter
-page-tested named tested noted = record { tested = rw named at tested; noted = noted }
 
 module _ {g : Geometry} {others : Bool} {l : ℕ} (buffer : List ℕ) {s : State} {n : ℕ} {census filter : List ℕ}
     (t : Page-tested g others l (length buffer) s n census filter) where

@@ -5,18 +5,18 @@
 mod served;
 
 use crate::served::serve_all;
-use calls::run::Request;
-use calls::run::begin;
-use calls::run::finish;
+use admission::Request;
 use lent::Geometry;
 use lent::Record;
+use serving::begin;
+use serving::finish;
 ghost use mathlib.Core.Bool.{true};
 ghost use mathlib.Core.List.{map};
 ghost use Rattle.lent.specs.Model.{geometry, state};
 ghost use Rattle.scope.specs.Requests.{replied};
 ghost use Rattle.scope.specs.Calls.{run-replied, format, check, read, write, run};
 ghost use Rattle.scope.specs.Contracts.{Answers, right-lengths};
-ghost use Rattle.calls.specs.Run.{request};
+ghost use Rattle.admission.specs.Model.{request};
 
 // The old state isn't tested.
 pub fn format(

@@ -1,14 +1,14 @@
 // The requests of a run, one after the other. Nothing is tested here: `begin` has the number of the requests and tests before the first
 // is served, and each request is the callee's to test, so that the walk is there for any slice, an empty one too.
-use calls::run::Request;
-use calls::run::Running;
-use calls::run::serve;
+use admission::Request;
 use lent::Geometry;
+use running::Running;
+use serving::serve;
 ghost use mathlib.Core.Path.{_≡_};
 ghost use lib.ListN.{length};
 ghost use Rattle.lent.specs.Model.{geometry, state};
 ghost use Rattle.scope.specs.Replies.{DONE};
-ghost use Rattle.calls.specs.Ran.{Admitted, Ran};
+ghost use Rattle.running.specs.Ran.{Admitted, Ran};
 
 pub fn serve_all(
     first: Running,

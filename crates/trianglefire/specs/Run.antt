@@ -15,11 +15,11 @@ use Rattle.scope.specs.Replies.{DONE}
 use Rattle.scope.specs.Calls.{run-replied, serve-record, serve-records, run}
 use Rattle.scope.specs.Boundary.{counts-words, requests-of}
 use Rattle.scope.specs.Contracts.{right-lengths, Answers}
-use Rattle.calls.specs.declared.run.Running.{Running}
-use Rattle.calls.specs.Run.{Begun, Finished}
-use Rattle.calls.specs.Noted.{Noted}
-use Rattle.calls.specs.Serve.{Serving, Runs, Served}
-use Rattle.calls.specs.Ran.{Admitted, runs-none, runs-more, runs-ready, run-answers}
+use Rattle.running.specs.declared.Running.{Running}
+use Rattle.running.specs.Ends.{Begun, Finished}
+use Rattle.admission.specs.Noted.{Noted}
+use Rattle.running.specs.Serve.{Serving, Runs, Served}
+use Rattle.running.specs.Ran.{Admitted, runs-none, runs-more, runs-ready, run-answers}
 use Rattle.trianglefire.specs.Asked.{half-as-many, words-at, request-at}
 
 -- ---- the loop

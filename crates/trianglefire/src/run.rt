@@ -1,13 +1,13 @@
 // A run over request words. The words are taken two by two, kind and page; an odd number of them is refused with the other lengths, before
 // any is taken.
-use calls::Out;
-use calls::run::Request;
-use calls::run::Running;
-use calls::run::begin;
-use calls::run::finish;
-use calls::run::serve;
+use admission::Out;
+use admission::Request;
 use lent::Geometry;
 use lent::Record;
+use running::Running;
+use serving::begin;
+use serving::finish;
+use serving::serve;
 ghost use Prim.Native.Nat.{_/_, _%_};
 ghost use mathlib.Core.Path.{_≡_};
 ghost use mathlib.Core.Bool.{_&&_};
@@ -17,7 +17,7 @@ ghost use Rattle.lent.specs.Model.{geometry, state};
 ghost use Rattle.scope.specs.Calls.{run-replied, serve-records, run};
 ghost use Rattle.scope.specs.Boundary.{requests-of};
 ghost use Rattle.scope.specs.Contracts.{right-lengths, Answers};
-ghost use Rattle.calls.specs.Serve.{Runs};
+ghost use Rattle.running.specs.Serve.{Runs};
 ghost use Rattle.trianglefire.specs.Run.{Tested};
 
 const REQUEST_WORDS: usize = 2;

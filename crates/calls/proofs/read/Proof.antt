@@ -5,7 +5,7 @@ use Rattle.lent.specs.Model.{geometry, counts}
 use Rattle.promises.specs.Demands.{read-bound}
 use Rattle.scope.specs.Requests.{read-steps}
 use Rattle.scope.specs.Calls.{read}
-use Rattle.calls.specs.Room.{read-few}
+use Rattle.admission.specs.Room.{read-few}
 use Rattle.calls.specs.Paged.{page-ready, page-refused, page-served}
 use Rattle.calls.proofs.read.Statement.{statement}
 use Rattle.calls.proofs.read.Tie as tie

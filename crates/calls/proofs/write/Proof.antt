@@ -5,7 +5,7 @@ use Rattle.lent.specs.Model.{geometry, counts}
 use Rattle.promises.specs.Demands.{write-bound}
 use Rattle.scope.specs.Requests.{write-steps}
 use Rattle.scope.specs.Calls.{write}
-use Rattle.calls.specs.Room.{write-few}
+use Rattle.admission.specs.Room.{write-few}
 use Rattle.calls.specs.Paged.{page-ready, page-refused, page-served}
 use Rattle.calls.proofs.write.Statement.{statement}
 use Rattle.calls.proofs.write.Tie as tie

@@ -42,43 +42,43 @@ use denote.Triple.Table.{entered, cited}
 use denote.Triple.Walked.{says, Stays, stay-ref, gave-slice, stay-none-slice, stay-none, walkOf, AllGo, goes-none, goes-ref, goes-gave-slice, goes-none-slice, Walks, ends-at, walked, walk-meets}
 use denote.Exit.{yes}
 use denote.Struct.Laws as LL
-use Rattle.calls.specs.declared.run.Running.{Running as D·Running}
-use Rattle.calls.proofs.run.Running as T·Running
-use Rattle.calls.proofs.run.Running.Laws as L·Running
-use Rattle.calls.specs.declared.Out.{Out as D·Out}
-use Rattle.calls.proofs.Out as T·Out
-use Rattle.calls.proofs.Out.Laws as L·Out
+use Rattle.running.specs.declared.Running.{Running as D·Running}
+use Rattle.running.proofs.Running as T·Running
+use Rattle.running.proofs.Running.Laws as L·Running
+use Rattle.admission.specs.declared.Out.{Out as D·Out}
+use Rattle.admission.proofs.Out as T·Out
+use Rattle.admission.proofs.Out.Laws as L·Out
 use Rattle.lent.specs.declared.Record.{Record as D·Record}
 use Rattle.lent.proofs.Record as T·Record
 use Rattle.lent.proofs.Record.Laws as L·Record
-use Rattle.calls.specs.declared.run.Request.{Request as D·Request}
-use Rattle.calls.proofs.run.Request as T·Request
-use Rattle.calls.proofs.run.Request.Laws as L·Request
+use Rattle.admission.specs.declared.Request.{Request as D·Request}
+use Rattle.admission.proofs.Request as T·Request
+use Rattle.admission.proofs.Request.Laws as L·Request
 use Rattle.lent.specs.declared.Geometry.{Geometry as D·Geometry}
 use Rattle.lent.proofs.Geometry as T·Geometry
 use Rattle.lent.proofs.Geometry.Laws as L·Geometry
-use Rattle.calls.proofs.run.begin as callee·1
-use Rattle.calls.proofs.run.begin.Symbol as symbol·1
-use Rattle.calls.proofs.run.begin.Met as met·1
-use Rattle.calls.proofs.run.begin.Symbol.{name as #·1}
+use Rattle.serving.proofs.begin as callee·1
+use Rattle.serving.proofs.begin.Symbol as symbol·1
+use Rattle.serving.proofs.begin.Met as met·1
+use Rattle.serving.proofs.begin.Symbol.{name as #·1}
 use Rattle.face.proofs.served.serve_all as callee·2
 use Rattle.face.proofs.served.serve_all.Symbol as symbol·2
 use Rattle.face.proofs.served.serve_all.Met as met·2
 use Rattle.face.proofs.served.serve_all.Symbol.{name as #·2}
-use Rattle.calls.proofs.run.finish as callee·3
-use Rattle.calls.proofs.run.finish.Symbol as symbol·3
-use Rattle.calls.proofs.run.finish.Met as met·3
-use Rattle.calls.proofs.run.finish.Symbol.{name as #·3}
+use Rattle.serving.proofs.finish as callee·3
+use Rattle.serving.proofs.finish.Symbol as symbol·3
+use Rattle.serving.proofs.finish.Met as met·3
+use Rattle.serving.proofs.finish.Symbol.{name as #·3}
 use Rattle.face.proofs.run as walked·
 use Rattle.face.proofs.run.Key.{name as #walked}
 use Rattle.face.proofs.run.Statement as stated
 use Rattle.face.proofs.run.Code as code
 use Rattle.face.proofs.run.Code.Mir as piece
 use Rattle.face.proofs.Rules.{slice, lends-again, comes-back, to-one, lends-local, local-back, zeros-typed, zeroed, holds, bare, frees-all}
-use Rattle.face.specs.Served.{run-before-begin, run-before-serve-all, run-by}
+use Rattle.face.specs.Served.{run-before-serve-all, run-by}
 use Rattle.lent.specs.Model.{geometry, state}
-use Rattle.calls.specs.Run.{Begun, Finished}
-use Rattle.calls.specs.Ran.{Ran}
+use Rattle.running.specs.Ends.{Begun, Finished}
+use Rattle.running.specs.Ran.{Ran}
 
 abbrev stayed : Stays (walked·.ended .signature .params) (walked·.ended .kept)
 stayed = (stay-ref (0 ∷ []) tt (plain (λ _. T·Record.the-row)), (stay-none (λ _. T·Geometry.the-row) yes, (stay-none-slice (1 ∷ []) tt (plain (λ _. T·Request.the-row)) yes, (gave-slice (2 ∷ []) tt (plain (λ _. u32)), (gave-slice (3 ∷ []) tt (plain (λ _. u32)), (gave-slice (4 ∷ []) tt (plain (λ _. u32)), (gave-slice (5 ∷ []) tt (plain (λ _. u32)), (gave-slice (6 ∷ []) tt (plain (λ _. u32)), (gave-slice (7 ∷ []) tt (plain (λ _. u32)), (gave-slice (8 ∷ []) tt (plain (λ _. u32)), tt))))))))))
@@ -117,11 +117,11 @@ module _ {M : Type 1} (𝓤 : URA M) (H : Heap 𝓤) (A : Atoms 𝓤) (W : Given
   abbrev gives·1 : (l·census : List ℕ) (l·filter : List ℕ) (ν·1·chip : ℕ) (δ·1·chip : GName) (ν·1·spare : ℕ) (δ·1·spare : GName) (ν·1·directory : ℕ) (δ·1·directory : GName) (ν·1·cache : ℕ) (δ·1·cache : GName) (ν·1·census : ℕ) (δ·1·census : GName) (l·16 : ℕ) (ν·1·filter : ℕ) (δ·1·filter : GName) (l·17 : ℕ) → List (Item 𝓤)
   gives·1 l·census l·filter ν·1·chip δ·1·chip ν·1·spare δ·1·spare ν·1·directory δ·1·directory ν·1·cache δ·1·cache ν·1·census δ·1·census l·16 ν·1·filter δ·1·filter l·17 = ‵ (flft (ν·1·chip ∷ []) fullShare) ∷ ‵ (flft (ν·1·spare ∷ []) fullShare) ∷ ‵ (flft (ν·1·directory ∷ []) fullShare) ∷ ‵ (flft (ν·1·cache ∷ []) fullShare) ∷ ‵ (flft (ν·1·census ∷ []) fullShare) ∷ ‵ (flft (ν·1·filter ∷ []) fullShare) ∷ ‵ (MutSlice (named 0) (ν·1·chip ∷ []) u32 .own (slice u32 b·chip o·chip δ·1·chip l·chip) ((sliceVal (b·chip, o·chip) (length l·chip)) ∷ [])) ∷ ‵ (MutSlice (named 1) (ν·1·spare ∷ []) u32 .own (slice u32 b·spare o·spare δ·1·spare l·spare) ((sliceVal (b·spare, o·spare) (length l·spare)) ∷ [])) ∷ ‵ (MutSlice (named 2) (ν·1·directory ∷ []) u32 .own (slice u32 b·directory o·directory δ·1·directory l·directory) ((sliceVal (b·directory, o·directory) (length l·directory)) ∷ [])) ∷ ‵ (MutSlice (named 3) (ν·1·cache ∷ []) u32 .own (slice u32 b·cache o·cache δ·1·cache l·cache) ((sliceVal (b·cache, o·cache) (length l·cache)) ∷ [])) ∷ ‵ (MutRef (named 4) (ν·1·census ∷ []) (Array u32 1024) .own (to-one (Array u32 1024) l·16 0 δ·1·census l·census) ((vptr l·16 0) ∷ [])) ∷ ‵ (MutRef (named 5) (ν·1·filter ∷ []) (Array u64 1024) .own (to-one (Array u64 1024) l·17 0 δ·1·filter l·filter) ((vptr l·17 0) ∷ [])) ∷ []
 
-  calling·1 : (l·census : List ℕ) (l·filter : List ℕ) (ν·1·chip : ℕ) (δ·1·chip : GName) (ν·1·spare : ℕ) (δ·1·spare : GName) (ν·1·directory : ℕ) (δ·1·directory : GName) (ν·1·cache : ℕ) (δ·1·cache : GName) (ν·1·census : ℕ) (δ·1·census : GName) (l·16 : ℕ) (ν·1·filter : ℕ) (δ·1·filter : GName) (l·17 : ℕ) (is·rec : Is T·Record.the-row v·rec ((LL.val T·Record.the-type L·Record.the-laws v·rec) ∷ [])) (zeros·census : l·census ≡ replicate 1024 0) (zeros·filter : l·filter ≡ replicate 1024 0) → ent 𝓤 (⋆ 𝓤 H A (gives·1 l·census l·filter ν·1·chip δ·1·chip ν·1·spare δ·1·spare ν·1·directory δ·1·directory ν·1·cache δ·1·cache ν·1·census δ·1·census l·16 ν·1·filter δ·1·filter l·17)) (Callee·1 𝓤 H A mm rn .pre (to·1 l·census l·filter ν·1·chip δ·1·chip ν·1·spare δ·1·spare ν·1·directory δ·1·directory ν·1·cache δ·1·cache ν·1·census δ·1·census l·16 ν·1·filter δ·1·filter l·17))
-  calling·1 l·census l·filter ν·1·chip δ·1·chip ν·1·spare δ·1·spare ν·1·directory δ·1·directory ν·1·cache δ·1·cache ν·1·census δ·1·census l·16 ν·1·filter δ·1·filter l·17 is·rec zeros·census zeros·filter =
+  calling·1 : (l·census : List ℕ) (l·filter : List ℕ) (ν·1·chip : ℕ) (δ·1·chip : GName) (ν·1·spare : ℕ) (δ·1·spare : GName) (ν·1·directory : ℕ) (δ·1·directory : GName) (ν·1·cache : ℕ) (δ·1·cache : GName) (ν·1·census : ℕ) (δ·1·census : GName) (l·16 : ℕ) (ν·1·filter : ℕ) (δ·1·filter : GName) (l·17 : ℕ) (is·rec : Is T·Record.the-row v·rec ((LL.val T·Record.the-type L·Record.the-laws v·rec) ∷ [])) → ent 𝓤 (⋆ 𝓤 H A (gives·1 l·census l·filter ν·1·chip δ·1·chip ν·1·spare δ·1·spare ν·1·directory δ·1·directory ν·1·cache δ·1·cache ν·1·census δ·1·census l·16 ν·1·filter δ·1·filter l·17)) (Callee·1 𝓤 H A mm rn .pre (to·1 l·census l·filter ν·1·chip δ·1·chip ν·1·spare δ·1·spare ν·1·directory δ·1·directory ν·1·cache δ·1·cache ν·1·census δ·1·census l·16 ν·1·filter δ·1·filter l·17))
+  calling·1 l·census l·filter ν·1·chip δ·1·chip ν·1·spare δ·1·spare ν·1·directory δ·1·directory ν·1·cache δ·1·cache ν·1·census δ·1·census l·16 ν·1·filter δ·1·filter l·17 is·rec =
       qed W (gives·1 l·census l·filter ν·1·chip δ·1·chip ν·1·spare δ·1·spare ν·1·directory δ·1·directory ν·1·cache δ·1·cache ν·1·census δ·1·census l·16 ν·1·filter δ·1·filter l·17) ∵ nothing ! $ move ! (6 ∷ 0 ∷ []) $ join ! $ move ! (5 ∷ 0 ∷ []) $ join ! $ move ! (4 ∷ 0 ∷ []) $ join ! $ move ! (3 ∷ 0 ∷ []) $ join ! $ move ! (2 ∷ 0 ∷ []) $ join ! $ move ! (1 ∷ 0 ∷ []) $ join ! $
       nothing ! $ move ! (7 ∷ 0 ∷ []) $ fjoin ! $ move ! (6 ∷ 0 ∷ []) $ fjoin ! $ move ! (5 ∷ 0 ∷ []) $ fjoin ! $ move ! (4 ∷ 0 ∷ []) $ fjoin ! $ move ! (3 ∷ 0 ∷ []) $ fjoin ! $ move ! (2 ∷ 0 ∷ []) $ fjoin ! $ owned ! usize (Is usize) (uint-makes 𝓤 H A W w64) (length l·counts) _ (refl, room·counts .0) $ fjoin ! $ owned ! usize (Is usize) (uint-makes 𝓤 H A W w64) (length l·answers) _ (refl, room·answers .0) $ fjoin ! $ owned ! usize (Is usize) (uint-makes 𝓤 H A W w64) (length l·words) _ (refl, room·words .0) $ fjoin ! $ owned ! T·Geometry.the-row (Is T·Geometry.the-row) (LL.makes T·Geometry.the-type L·Geometry.the-plain 𝓤 H A) v·g _ is·g $ fjoin ! $ owned ! usize (Is usize) (uint-makes 𝓤 H A W w64) (length l·requests) _ (refl, room·requests .0) $ fjoin ! $ owned ! bool (Is bool) (bool-makes 𝓤 H A W) true _ refl $ fjoin ! $ owned ! T·Record.the-row (Is T·Record.the-row) (LL.makes T·Record.the-type L·Record.the-plain 𝓤 H A) v·rec _ is·rec $ fjoin ! $ move ! (1 ∷ 0 ∷ []) $
-      says ! (run-before-begin zeros·census zeros·filter) $ frame ! $ done !
+      join ! $ frame ! $ done !
 
   come·1 : (l·census : List ℕ) (l·filter : List ℕ) (ν·1·chip : ℕ) (δ·1·chip : GName) (ν·1·spare : ℕ) (δ·1·spare : GName) (ν·1·directory : ℕ) (δ·1·directory : GName) (ν·1·cache : ℕ) (δ·1·cache : GName) (ν·1·census : ℕ) (δ·1·census : GName) (l·16 : ℕ) (ν·1·filter : ℕ) (δ·1·filter : GName) (l·17 : ℕ) → (w·1 : Val) (Γ : List (Item 𝓤)) {G : Goal 𝓤 H} (soaks : Soaks G)
       → ((r·1 : D·Running) (zs·1 : Unit {0} × (Unit {0} × (Unit {0} × (Unit {0} × (Unit {0} × (Unit {0} × (Unit {0} × (List ℕ × (List ℕ × (List ℕ × (List ℕ × (List ℕ × (List ℕ × (Unit {0})))))))))))))) (did·1 : Did·1 l·census l·filter r·1 zs·1) (was·1 : Is T·Running.the-row r·1 (w·1 ∷ [])) (d·1·chip : length (zs·1 .1 .1 .1 .1 .1 .1 .1 .0) ≡ length l·chip) (d·1·spare : length (zs·1 .1 .1 .1 .1 .1 .1 .1 .1 .0) ≡ length l·spare) (d·1·directory : length (zs·1 .1 .1 .1 .1 .1 .1 .1 .1 .1 .0) ≡ length l·directory) (d·1·cache : length (zs·1 .1 .1 .1 .1 .1 .1 .1 .1 .1 .1 .0) ≡ length l·cache) → Sq W (‵ (flft (ν·1·chip ∷ []) fullShare) ∷ ‵ (flft (ν·1·spare ∷ []) fullShare) ∷ ‵ (flft (ν·1·directory ∷ []) fullShare) ∷ ‵ (flft (ν·1·cache ∷ []) fullShare) ∷ ‵ (flft (ν·1·census ∷ []) fullShare) ∷ ‵ (flft (ν·1·filter ∷ []) fullShare) ∷ ‵ (finally u32 δ·1·chip (zs·1 .1 .1 .1 .1 .1 .1 .1 .0)) ∷ ‵ (finally u32 δ·1·spare (zs·1 .1 .1 .1 .1 .1 .1 .1 .1 .0)) ∷ ‵ (finally u32 δ·1·directory (zs·1 .1 .1 .1 .1 .1 .1 .1 .1 .1 .0)) ∷ ‵ (finally u32 δ·1·cache (zs·1 .1 .1 .1 .1 .1 .1 .1 .1 .1 .1 .0)) ∷ ‵ (fres δ·1·census ((Array u32 1024) .coded .code (zs·1 .1 .1 .1 .1 .1 .1 .1 .1 .1 .1 .1 .0))) ∷ ‵ (fres δ·1·filter ((Array u64 1024) .coded .code (zs·1 .1 .1 .1 .1 .1 .1 .1 .1 .1 .1 .1 .1 .0))) ∷ Γ) G) → Sq W (raw (Callee·1 𝓤 H A mm rn .post (to·1 l·census l·filter ν·1·chip δ·1·chip ν·1·spare δ·1·spare ν·1·directory δ·1·directory ν·1·cache δ·1·cache ν·1·census δ·1·census l·16 ν·1·filter δ·1·filter l·17) w·1) ∷ Γ) G
@@ -218,7 +218,7 @@ module _ {M : Type 1} (𝓤 : URA M) (H : Heap 𝓤) (A : Atoms 𝓤) (W : Given
         move ! (9 ∷ 10 ∷ []) $ lends-again ! tt u32 (named 5) (named 3) b·cache o·cache l·cache (length l·cache) (λ ν·1·cache δ·1·cache.
         owned ! (Array u32 1024) (Is (Array u32 1024)) (array-makes 𝓤 H A W u32 (uint-makes 𝓤 H A W w32) 1024) l·census _ is·census $ move ! (23 ∷ 0 ∷ []) $ lends-local ! tt (Array u32 1024) (named 4) l·16 l·census ((only (array-vals (uint-vals w32) l·census)) ∷ []) (λ ν·1·census δ·1·census.
         owned ! (Array u64 1024) (Is (Array u64 1024)) (array-makes 𝓤 H A W u64 (uint-makes 𝓤 H A W w64) 1024) l·filter _ is·filter $ move ! (26 ∷ 0 ∷ []) $ lends-local ! tt (Array u64 1024) (named 5) l·17 l·filter ((only (array-vals (uint-vals w64) l·filter)) ∷ []) (λ ν·1·filter δ·1·filter.
-        move ! (15 ∷ 12 ∷ 9 ∷ 6 ∷ 3 ∷ 0 ∷ 16 ∷ 13 ∷ 10 ∷ 7 ∷ 4 ∷ 1 ∷ []) $ cut (gives·1 l·census l·filter ν·1·chip δ·1·chip ν·1·spare δ·1·spare ν·1·directory δ·1·directory ν·1·cache δ·1·cache ν·1·census δ·1·census l·16 ν·1·filter δ·1·filter l·17) (raw (Callee·1 𝓤 H A mm rn .pre (to·1 l·census l·filter ν·1·chip δ·1·chip ν·1·spare δ·1·spare ν·1·directory δ·1·directory ν·1·cache δ·1·cache ν·1·census δ·1·census l·16 ν·1·filter δ·1·filter l·17)) ∷ []) _ (calling·1 l·census l·filter ν·1·chip δ·1·chip ν·1·spare δ·1·spare ν·1·directory δ·1·directory ν·1·cache δ·1·cache ν·1·census δ·1·census l·16 ν·1·filter δ·1·filter l·17 is·rec zeros·census zeros·filter) $
+        move ! (15 ∷ 12 ∷ 9 ∷ 6 ∷ 3 ∷ 0 ∷ 16 ∷ 13 ∷ 10 ∷ 7 ∷ 4 ∷ 1 ∷ []) $ cut (gives·1 l·census l·filter ν·1·chip δ·1·chip ν·1·spare δ·1·spare ν·1·directory δ·1·directory ν·1·cache δ·1·cache ν·1·census δ·1·census l·16 ν·1·filter δ·1·filter l·17) (raw (Callee·1 𝓤 H A mm rn .pre (to·1 l·census l·filter ν·1·chip δ·1·chip ν·1·spare δ·1·spare ν·1·directory δ·1·directory ν·1·cache δ·1·cache ν·1·census δ·1·census l·16 ν·1·filter δ·1·filter l·17)) ∷ []) _ (calling·1 l·census l·filter ν·1·chip δ·1·chip ν·1·spare δ·1·spare ν·1·directory δ·1·directory ν·1·cache δ·1·cache ν·1·census δ·1·census l·16 ν·1·filter δ·1·filter l·17 is·rec) $
         calls-at ! fm (Callee·1 𝓤 H A mm rn) known·1 (to·1 l·census l·filter ν·1·chip δ·1·chip ν·1·spare δ·1·spare ν·1·directory δ·1·directory ν·1·cache δ·1·cache ν·1·census δ·1·census l·16 ν·1·filter δ·1·filter l·17) (and-then ! (load ! (from ! (stop !)) (look ! 7 refl)) (and-then ! (true-lit !) (and-then ! (load ! (from ! (stop !)) (look ! 8 refl)) (and-then ! (load ! (from ! (stop !)) (look ! 9 refl)) (and-then ! (load ! (from ! (stop !)) (look ! 10 refl)) (and-then ! (load ! (from ! (stop !)) (look ! 11 refl)) (and-then ! (load ! (from ! (stop !)) (look ! 12 refl)) (and-then ! (load ! (from ! (stop !)) (look ! 19 refl)) (and-then ! (load ! (from ! (stop !)) (look ! 21 refl)) (and-then ! (load ! (from ! (stop !)) (look ! 23 refl)) (and-then ! (load ! (from ! (stop !)) (look ! 25 refl)) (and-then ! (load ! (from ! (stop !)) (look ! 26 refl)) (and-then ! (load ! (from ! (stop !)) (look ! 27 refl)) (no-more !)))))))))))))) (λ w·1.
         come·1 l·census l·filter ν·1·chip δ·1·chip ν·1·spare δ·1·spare ν·1·directory δ·1·directory ν·1·cache δ·1·cache ν·1·census δ·1·census l·16 ν·1·filter δ·1·filter l·17 w·1 _ tt (λ r·1 zs·1 did·1 was·1 d·1·chip d·1·spare d·1·directory d·1·cache.
         land ! (from ! (stop !)) (init ! 28 refl (LL.lawful T·Running.the-type L·Running.the-laws 𝓤 H A W .typed r·1 _ was·1 .0)) $ rewrite ! 28 (λ (v : Val). ‵ (fat fullShare L·Running.mir l·18 0 v)) (ap only (LL.tells T·Running.the-type L·Running.the-laws r·1 _ was·1)) refl $
@@ -320,6 +320,6 @@ run-spec 𝓤 H 𝓜 𝓖 𝓡 =
     (code.unfolded 𝓤 H 𝓜 𝓡)
     (walk-meets 𝓤 H (𝓖 .A) walked·.ended stayed W (all-go 𝓤 H (𝓖 .A) W (𝓜 .mem) (𝓡 .run)) (walked·.clauses 𝓤 H (𝓖 .A) (𝓜 .mem) (𝓡 .run)) (WpFn 𝓤 H (𝓣 .C) (𝓣 .Λ) code.function)
     (WpFn-mono 𝓤 H (W .laws) 𝓣 code.function) (walks 𝓤 H (𝓖 .A) W (𝓜 .mem) (𝓡 .run) 𝓣 (fmOf 𝓤 H (W .laws) 𝓣)
-    (cited 𝓤 H (Callee·1 𝓤 H (𝓖 .A) (𝓜 .mem) (𝓡 .run)) 𝓜 𝓡 code.env #·1 symbol·1.routine code.calls-calls·run·begin (met·1.met 𝓤 H 𝓜 𝓖 𝓡))
+    (cited 𝓤 H (Callee·1 𝓤 H (𝓖 .A) (𝓜 .mem) (𝓡 .run)) 𝓜 𝓡 code.env #·1 symbol·1.routine code.calls-serving·begin (met·1.met 𝓤 H 𝓜 𝓖 𝓡))
     (cited 𝓤 H (Callee·2 𝓤 H (𝓖 .A) (𝓜 .mem) (𝓡 .run)) 𝓜 𝓡 code.env #·2 symbol·2.routine code.calls-face·served·serve-all (met·2.met 𝓤 H 𝓜 𝓖 𝓡))
-    (cited 𝓤 H (Callee·3 𝓤 H (𝓖 .A) (𝓜 .mem) (𝓡 .run)) 𝓜 𝓡 code.env #·3 symbol·3.routine code.calls-calls·run·finish (met·3.met 𝓤 H 𝓜 𝓖 𝓡))))
+    (cited 𝓤 H (Callee·3 𝓤 H (𝓖 .A) (𝓜 .mem) (𝓡 .run)) 𝓜 𝓡 code.env #·3 symbol·3.routine code.calls-serving·finish (met·3.met 𝓤 H 𝓜 𝓖 𝓡))))

@@ -48,19 +48,19 @@ use denote.Triple.Table.{entered, cited}
 use denote.Triple.Walked.{says, needs, Stays, stay-ref, stay-slice, stay-none-slice, stay-none, walkOf, AllGo, goes-none, goes-ref, goes-slice, goes-none-slice, Walks, ends-at, walked, walk-meets}
 use denote.Exit.{yes}
 use denote.Struct.Laws as LL
-use Rattle.calls.specs.declared.run.Running.{Running as D·Running}
-use Rattle.calls.proofs.run.Running as T·Running
-use Rattle.calls.proofs.run.Running.Laws as L·Running
-use Rattle.calls.specs.declared.run.Request.{Request as D·Request}
-use Rattle.calls.proofs.run.Request as T·Request
-use Rattle.calls.proofs.run.Request.Laws as L·Request
+use Rattle.running.specs.declared.Running.{Running as D·Running}
+use Rattle.running.proofs.Running as T·Running
+use Rattle.running.proofs.Running.Laws as L·Running
+use Rattle.admission.specs.declared.Request.{Request as D·Request}
+use Rattle.admission.proofs.Request as T·Request
+use Rattle.admission.proofs.Request.Laws as L·Request
 use Rattle.lent.specs.declared.Geometry.{Geometry as D·Geometry}
 use Rattle.lent.proofs.Geometry as T·Geometry
 use Rattle.lent.proofs.Geometry.Laws as L·Geometry
-use Rattle.calls.proofs.run.serve as callee·1
-use Rattle.calls.proofs.run.serve.Symbol as symbol·1
-use Rattle.calls.proofs.run.serve.Met as met·1
-use Rattle.calls.proofs.run.serve.Symbol.{name as #·1}
+use Rattle.serving.proofs.serve as callee·1
+use Rattle.serving.proofs.serve.Symbol as symbol·1
+use Rattle.serving.proofs.serve.Met as met·1
+use Rattle.serving.proofs.serve.Symbol.{name as #·1}
 use Rattle.face.proofs.served.serve_all as walked·
 use Rattle.face.proofs.served.serve_all.Key.{name as #walked}
 use Rattle.face.proofs.served.serve_all.Statement as stated
@@ -70,9 +70,9 @@ use Rattle.face.proofs.Rules.{slice, lends-again, comes-back, to-one, l
 use Rattle.face.specs.Served.{serve-all-ready, serve-all-more, serve-all-none}
 use Rattle.lent.specs.Model.{geometry, state}
 use Rattle.scope.specs.Replies.{DONE}
-use Rattle.calls.specs.Ran.{Admitted, Ran}
-use Rattle.calls.specs.Serve.{Served}
-use Rattle.calls.specs.Run.{request}
+use Rattle.running.specs.Ran.{Admitted, Ran}
+use Rattle.running.specs.Serve.{Served}
+use Rattle.admission.specs.Model.{request}
 
 abbrev stayed : Stays (walked·.ended .signature .params) (walked·.ended .kept)
 stayed = (stay-none (λ _. T·Running.the-row) yes, (stay-none-slice (0 ∷ []) tt (plain (λ _. T·Request.the-row)) yes, (stay-none (λ _. T·Geometry.the-row) yes, (stay-slice (1 ∷ []) tt (plain (λ _. u32)), (stay-slice (2 ∷ []) tt (plain (λ _. u32)), (stay-slice (3 ∷ []) tt (plain (λ _. u32)), (stay-slice (4 ∷ []) tt (plain (λ _. u32)), (stay-ref (5 ∷ []) tt (arrayOf (plain (λ _. u32)) 1024), (stay-ref (6 ∷ []) tt (arrayOf (plain (λ _. u64)) 1024), (stay-slice (7 ∷ []) tt (plain (λ _. u32)), (stay-slice (8 ∷ []) tt (plain (λ _. u32)), tt)))))))))))
@@ -278,4 +278,4 @@ serve-all-spec 𝓤 H 𝓜 𝓖 𝓡 =
     (code.unfolded 𝓤 H 𝓜 𝓡)
     (walk-meets 𝓤 H (𝓖 .A) walked·.ended stayed W (all-go 𝓤 H (𝓖 .A) W (𝓜 .mem) (𝓡 .run)) (walked·.clauses 𝓤 H (𝓖 .A) (𝓜 .mem) (𝓡 .run)) (WpFn 𝓤 H (𝓣 .C) (𝓣 .Λ) code.function)
     (WpFn-mono 𝓤 H (W .laws) 𝓣 code.function) (walks 𝓤 H (𝓖 .A) W (𝓜 .mem) (𝓡 .run) 𝓣 (fmOf 𝓤 H (W .laws) 𝓣)
-    (cited 𝓤 H (Callee·1 𝓤 H (𝓖 .A) (𝓜 .mem) (𝓡 .run)) 𝓜 𝓡 code.env #·1 symbol·1.routine code.calls-calls·run·serve (met·1.met 𝓤 H 𝓜 𝓖 𝓡))))
+    (cited 𝓤 H (Callee·1 𝓤 H (𝓖 .A) (𝓜 .mem) (𝓡 .run)) 𝓜 𝓡 code.env #·1 symbol·1.routine code.calls-serving·serve (met·1.met 𝓤 H 𝓜 𝓖 𝓡))))

@@ -1,11 +1,9 @@
 -- `run::run_words` meets its contract: a run in its parts.
-use Prim.Native.Nat.{ℕ}
 use mathlib.Core.Path.{refl, _∙_}
-use lib.ListN.{length-replicate}
 use borrow.Author.Needs.{needs}
 use denote.Ref.{now}
 use Rattle.lent.specs.Model.{geometry}
-use Rattle.calls.specs.Ran.{begun-admits}
+use Rattle.running.specs.Ran.{begun-admits}
 use Rattle.trianglefire.specs.Run.{run-words-answers}
 use Rattle.trianglefire.proofs.run.run_words.Statement.{statement}
 use Rattle.trianglefire.proofs.run.run_words.Tie as tie
@@ -14,7 +12,7 @@ whole-requests-requires : tie.Need-whole-requests-requires
 whole-requests-requires c κs = search needs
 
 begin-requires : tie.Need-begin-requires
-begin-requires c κs = length-replicate {A = ℕ} 1024 0
+begin-requires c κs = search needs
 
 serve-words-requires : tie.Need-serve-words-requires
 serve-words-requires c κs =
