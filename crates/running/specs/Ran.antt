@@ -12,7 +12,7 @@ use borrow.Author.Tests.{eqb-true, eq-eqb, ne-eqb, leb-true}
 use Rattle.flash.specs.Cases.{same?, and-true}
 use Rattle.flash.specs.Words.{Lengths}
 use Rattle.lent.specs.declared.Record.{Record}
-use Rattle.lent.specs.Model.{counts}
+use Rattle.lent.specs.Model.{counts, state}
 use Rattle.lent.specs.Does.{Does}
 use Rattle.lent.specs.DoesLaws.{does-give, does-bind, does-ends, does-value}
 use Rattle.lent.specs.Shapes.{Room-to-count, room-after}
@@ -180,16 +180,19 @@ gives : {A : Type 0} {x y : A} {s s′ : State} {c c′ : Counts} → Does (give
 unfolding give
 gives {x = x} {s = s} {c = c} d = (d .value, d .after, sym (does-give {s = s} {c = c} x .counting) ∙ d .counting)
 
--- The requests' answers, the state and the counts after are those of the call.
-pub run-answers : (g : Geometry) (requests : List Request) {boundary : Bool} {a b : Running} {s s₁ s′ : State}
-    {words answers census filter words′ answers′ given given′ : List ℕ} {answer : ℕ} {rec : Record}
+-- Begun, served to the last request and finished, with the record that is handed on, is the call: the requests' answers, the state and the
+-- counts after are its own.
+pub run-answers : (g : Geometry) (requests : List Request) {boundary : Bool} {a b : Running} {s s₁ : State}
+    {chip spare directory cache words answers census filter words′ answers′ given given′ : List ℕ} {answer : ℕ} {rec : Record}
     → Begun g boundary (length requests) (length words) (length answers) (length given) s a s₁ census filter
-    → Runs (serve-records g requests (length requests)) a s₁ words answers b s′ words′ answers′
+    → Runs (serve-records g requests (length requests)) a s₁ words answers b (state chip spare directory cache (b .rec)) words′ answers′
     → Finished b given answer rec given′
-    → Answers (run g (right-lengths boundary given) requests words answers s) given (run-replied words′ answers′ answer) s′ given′
+    → Answers (run g (right-lengths boundary given) requests words answers s) given (run-replied words′ answers′ answer)
+    (state chip spare directory cache rec) given′
 unfolding run
-run-answers g requests {boundary} {a} {b} {s} {s₁} {s′} {words} {answers} {words′ = words′} {answers′} {given} {given′} {answer} begun ran finished =
-    does-answers {m = run g (right-lengths boundary given) requests words answers} {s = s} (counts (b .counts))
+run-answers g requests {boundary} {a} {b} {s} {chip = chip} {spare} {directory} {cache} {words} {answers} {words′ = words′} {answers′} {given} begun ran finished =
+    rw (finished .recorded)
+    (does-answers {m = run g (right-lengths boundary given) requests words answers} {s = s} (counts (b .counts))
     (same? (a .answer) DONE
     (λ e. rw (finished .answered ∙ ran .same-answer ∙ e)
     (admits _ (λ t. t) (run-replied words answers) (serve-records g requests (length requests) (run-replied words answers DONE))
@@ -203,15 +206,16 @@ run-answers g requests {boundary} {a} {b} {s} {s₁} {s′} {words} {answers} {w
     (ap (λ (r : RunReplied). run-replied (r .words) (r .answers) (a .answer)) (same .0)
     ∙ ap (run-replied words′ answers′) (sym (finished .answered ∙ ran .same-answer))))
     (same .1) (same .2)))
-    (finished .handed)
+    (finished .handed))
 
 -- The same with lent requests.
-pub ran-answers : {g : Geometry} {asked : List Asked} {boundary : Bool} {a b : Running} {s s₁ s′ : State}
-    {words answers census filter words′ answers′ census′ filter′ given given′ : List ℕ} {answer : ℕ} {rec : Record}
+pub ran-answers : {g : Geometry} {asked : List Asked} {boundary : Bool} {a b : Running} {s s₁ : State}
+    {chip spare directory cache words answers census filter words′ answers′ census′ filter′ given given′ : List ℕ} {answer : ℕ} {rec : Record}
     → Begun g boundary (length asked) (length words) (length answers) (length given) s a s₁ census filter
-    → Ran g asked (length asked) a s₁ words answers census filter b s′ words′ answers′ census′ filter′
+    → Ran g asked (length asked) a s₁ words answers census filter b (state chip spare directory cache (b .rec)) words′ answers′ census′ filter′
     → Finished b given answer rec given′
-    → Answers (run g (right-lengths boundary given) (map request asked) words answers s) given (run-replied words′ answers′ answer) s′ given′
+    → Answers (run g (right-lengths boundary given) (map request asked) words answers s) given (run-replied words′ answers′ answer)
+    (state chip spare directory cache rec) given′
 ran-answers {g} {asked} begun ran finished =
     let n : length (map request asked) ≡ length asked = length-map asked request in
     run-answers g (map request asked) (rw (← n) at begun) (rw (← n) at (ran .runs)) finished

@@ -58,7 +58,7 @@ use Rattle.face.proofs.format.Key.{name as #walked}
 use Rattle.face.proofs.format.Statement as stated
 use Rattle.face.proofs.format.Code as code
 use Rattle.face.proofs.format.Code.Mir as piece
-use Rattle.face.proofs.Rules.{slice, holds, bare, frees-all}
+use Rattle.walks.specs.Rules.{slice, holds, bare, frees-all}
 use Rattle.lent.specs.Model.{geometry, state}
 use Rattle.scope.specs.Calls.{format}
 use Rattle.scope.specs.Contracts.{Answers, right-lengths}

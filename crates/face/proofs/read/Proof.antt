@@ -58,7 +58,7 @@ use Rattle.face.proofs.read.Key.{name as #walked}
 use Rattle.face.proofs.read.Statement as stated
 use Rattle.face.proofs.read.Code as code
 use Rattle.face.proofs.read.Code.Mir as piece
-use Rattle.face.proofs.Rules.{slice, holds, bare, frees-all}
+use Rattle.walks.specs.Rules.{slice, holds, bare, frees-all}
 use Rattle.lent.specs.Model.{geometry, state}
 use Rattle.scope.specs.Calls.{read}
 use Rattle.scope.specs.Requests.{replied}

@@ -58,7 +58,7 @@ use Rattle.face.proofs.write.Key.{name as #walked}
 use Rattle.face.proofs.write.Statement as stated
 use Rattle.face.proofs.write.Code as code
 use Rattle.face.proofs.write.Code.Mir as piece
-use Rattle.face.proofs.Rules.{slice, holds, bare, frees-all}
+use Rattle.walks.specs.Rules.{slice, holds, bare, frees-all}
 use Rattle.lent.specs.Model.{geometry, state}
 use Rattle.scope.specs.Calls.{write}
 use Rattle.scope.specs.Requests.{replied}
