@@ -187,10 +187,10 @@ pub run-answers : (g : Geometry) (requests : List Request) {boundary : Bool} {a 
     → Begun g boundary (length requests) (length words) (length answers) (length given) s a s₁ census filter
     → Runs (serve-records g requests (length requests)) a s₁ words answers b (state chip spare directory cache (b .rec)) words′ answers′
     → Finished b given answer rec given′
-    → Answers (run g (right-lengths boundary given) requests words answers s) given (run-replied words′ answers′ answer)
-    (state chip spare directory cache rec) given′
+    → Answers (run g (right-lengths boundary given) requests words answers s) given
+    (run-replied words′ answers′ answer) (state chip spare directory cache rec) given′
 unfolding run
-run-answers g requests {boundary} {a} {b} {s} {chip = chip} {spare} {directory} {cache} {words} {answers} {words′ = words′} {answers′} {given} begun ran finished =
+run-answers g requests {boundary} {a} {b} {s} {words = words} {answers} {words′ = words′} {answers′} {given} begun ran finished =
     rw (finished .recorded)
     (does-answers {m = run g (right-lengths boundary given) requests words answers} {s = s} (counts (b .counts))
     (same? (a .answer) DONE

@@ -102,5 +102,6 @@ module _ (g : Geometry) (i : ℕ) (q : Request) (a : Running) (s : State) (words
       → Runs (serve-record g i q) a s words answers b s′
       (take (i * g .W) words ++ (buffer ++ drop k (drop (i * g .W) words))) (set answers i reply)
   request-served {buffer = buffer} {reply} {k} e w t d long =
-      rw (w, part-back words (i * g .W) (g .W) buffer fits (long ∙ ap (λ (n : ℕ). length (take n (drop (i * g .W) words))) w ∙ length-part words (i * g .W) (g .W) fits))
+      let as-long = long ∙ ap (λ (n : ℕ). length (take n (drop (i * g .W) words))) w ∙ length-part words (i * g .W) (g .W) fits in
+      rw (w, part-back words (i * g .W) (g .W) buffer fits as-long)
       (stores e (admit-serves _ _ _ t (rw w at d)))

@@ -1,9 +1,9 @@
 // Format, check, read and write in words: the small record is loaded from its words, the call is made by value and the record is stored. Each
 // contract gives, for every input, the reply and every lent word by the call's definition in words, which are those of the calls for C.
 use lent::Geometry;
-use wording::five_words;
-use wording::load;
-use wording::store;
+use wording::record::five_words;
+use wording::record::load;
+use wording::record::store;
 ghost use Rattle.lent.specs.Model.{geometry};
 ghost use Rattle.scope.specs.Requests.{replied};
 ghost use Rattle.scope.specs.Boundary.{tf-format, tf-check, tf-read, tf-write};

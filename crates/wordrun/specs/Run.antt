@@ -20,7 +20,7 @@ use Rattle.running.specs.Ends.{Begun, Finished}
 use Rattle.admission.specs.Noted.{Noted}
 use Rattle.running.specs.Serve.{Serving, Runs, Served}
 use Rattle.running.specs.Ran.{Admitted, runs-none, runs-more, runs-ready, run-answers}
-use Rattle.wordrun.specs.Asked.{half-as-many, words-at, request-at}
+use Rattle.wording.specs.Asked.{half-as-many, words-at, request-at}
 
 -- ---- the loop
 
@@ -49,10 +49,10 @@ module _ {g : Geometry} {ws : List ℕ} {n : ℕ} {a : Running} {s : State} {wor
     pub ready : b .answer ≡ DONE → Serving g i b s₁ words₁ answers₁ census₁ filter₁
     ready = runs-ready g (requests-of ws) (before .tested) h (before .runs) (before .noted)
 
-    pub turn : {c : Running} {s₂ : State} {words₂ answers₂ census₂ filter₂ : List ℕ}
-        → Served g i (words-at ws i) b s₁ words₁ answers₁ census₁ filter₁ c s₂ words₂ answers₂ census₂ filter₂
+    pub turn : {q : Request} {c : Running} {s₂ : State} {words₂ answers₂ census₂ filter₂ : List ℕ} → q ≡ words-at ws i
+        → Served g i q b s₁ words₁ answers₁ census₁ filter₁ c s₂ words₂ answers₂ census₂ filter₂
         → Turned g ws n (i + 1) a s words answers census filter c s₂ words₂ answers₂ census₂ filter₂
-    turn {c} {s₂} {words₂} {answers₂} served =
+    turn {c = c} {s₂} {words₂} {answers₂} taken served =
         record {
           all = before .all;
           so-far = omega arith;
@@ -60,7 +60,7 @@ module _ {g : Geometry} {ws : List ℕ} {n : ℕ} {a : Running} {s : State} {wor
           tested = before .tested;
           runs = runs-more g (requests-of ws) i (before .runs)
               (subst (λ (q : Request). Runs (serve-record g i q) b s₁ words₁ answers₁ c s₂ words₂ answers₂)
-              (sym (request-at ws i (omega (arith, before .all)))) (served .runs));
+              (taken ∙ sym (request-at ws i (omega (arith, before .all)))) (served .runs));
           noted = λ x. served .noted (before .noted x);
         }
 

@@ -1,16 +1,18 @@
-// A run in words. Those of the requests are taken two by two, kind and page; an odd number of them is refused with the other lengths, before
-// any is taken. The small record is loaded from its words before the run, and stored after it.
+// A run in words. An odd number of request words is refused with the other lengths, before any request is taken from them. The small record is
+// loaded from its words before the run, and stored after it.
 use admission::Out;
-use admission::Request;
 use lent::Geometry;
 use lent::Record;
 use running::Running;
 use serving::begin;
 use serving::finish;
 use serving::serve;
-use wording::five_words;
-use wording::load;
-use wording::store;
+use wording::record::five_words;
+use wording::record::load;
+use wording::record::store;
+use wording::requests::REQUEST_WORDS;
+use wording::requests::request_at;
+use wording::requests::whole_requests;
 ghost use Prim.Native.Nat.{_/_, _%_};
 ghost use mathlib.Core.Path.{_≡_};
 ghost use mathlib.Core.Bool.{_&&_};
@@ -23,18 +25,6 @@ ghost use Rattle.scope.specs.Contracts.{right-lengths, Answers, Gives};
 ghost use Rattle.running.specs.Serve.{Runs};
 ghost use Rattle.wording.specs.Words.{words as lent-words};
 ghost use Rattle.wordrun.specs.Run.{Tested};
-
-const REQUEST_WORDS: usize = 2;
-
-// The caller's other lengths, and that no request lacks its page.
-fn whole_requests(boundary: bool, words: usize) -> bool
-    ensures { λ r. ⌜ r ≡ (boundary && eqb (words % 2) 0) ⌝ }
-{
-    if !boundary {
-        return false;
-    }
-    words % REQUEST_WORDS == 0
-}
 
 // The requests one after the other, where the run was admitted.
 fn serve_words(
@@ -62,10 +52,7 @@ fn serve_words(
     let mut i = 0;
     let mut cur = first;
     while i < n {
-        let q = Request {
-            kind: requests[REQUEST_WORDS * i],
-            page: requests[REQUEST_WORDS * i + 1],
-        };
+        let q = request_at(requests, i);
         cur = serve(
             cur,
             i,

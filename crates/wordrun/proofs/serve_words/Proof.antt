@@ -27,35 +27,17 @@ abbrev μ-loop : tie.MeasureT-loop
 loop-holds : tie.Need-loop-holds Inv-loop μ-loop
 loop-holds c = (start refl (omega arith) (c .before .before .before .before .before .before .before .pre), refl, refl, refl, refl, refl, refl)
 
-mul-t18 : tie.Need-mul-t18 Inv-loop μ-loop
-mul-t18 c = search needs
-
-mul-t19 : tie.Need-mul-t19 Inv-loop μ-loop
-mul-t19 c = search needs
-
-shared-slice-read-t21 : tie.Need-shared-slice-read-t21 Inv-loop μ-loop
-shared-slice-read-t21 c = search needs
-
-mul-t22 : tie.Need-mul-t22 Inv-loop μ-loop
-mul-t22 c = search needs
-
-add-t23 : tie.Need-add-t23 Inv-loop μ-loop
-add-t23 c = search needs
-
-mul-t24 : tie.Need-mul-t24 Inv-loop μ-loop
-mul-t24 c = search needs
-
-shared-slice-read-t26 : tie.Need-shared-slice-read-t26 Inv-loop μ-loop
-shared-slice-read-t26 c = search needs
+request-at-requires : tie.Need-request-at-requires Inv-loop μ-loop
+request-at-requires c κs = omega (arith, c .loop-test .taken, c .before .loop .inv .0 .all)
 
 serve-requires : tie.Need-serve-requires Inv-loop μ-loop
 serve-requires c κs =
-    let test = c .before .before .before .before .before .before .before .before .before .before in
+    let test = c .before .before .before .before .before .before .before .before .before in
     ready (test .before .loop .inv .0) (test .loop-test .taken)
 
 add-i : tie.Need-add-i Inv-loop μ-loop
 add-i c =
-    let test = c .before .before .before .before .before .before .before .before .before .before .before .before .before .before .before .before .before .before .before .before .before .before .before in
+    let test = c .before .before .before .before .before .before .before .before .before .before .before .before .before .before .before .before .before .before .before .before .before .before in
     omega (arith, test .loop-test .taken, test .before .loop .inv .0 .countable)
 
 loop-less : tie.Need-loop-less Inv-loop μ-loop
@@ -64,9 +46,10 @@ loop-less c = search needs
 loop-again : tie.Need-loop-again Inv-loop μ-loop
 loop-again c =
     let served = c .before .before .before .before .before .before .before .before .before .before .before .before in
-    let test = served .before .before .before .before .before .before .before .before .before .before .before in
+    let request = served .before .before .before .before .before .before .before .before .before in
+    let test = request .before in
     let inv = test .before .loop .inv in (
-      turn (inv .0) (test .loop-test .taken) (served .serve .ensures),
+      turn (inv .0) (test .loop-test .taken) (request .request-at .ensures) (served .serve .ensures),
       c .before .before .before .before .before .before .before .before .before .before .before .chip .given ∙ inv .1,
       c .before .before .before .before .before .before .before .before .before .spare .given ∙ inv .2,
       c .before .before .before .before .before .before .before .directory .given ∙ inv .3,
@@ -103,13 +86,7 @@ serve-words-spec =
     Inv-loop
     μ-loop
     loop-holds
-    mul-t18
-    mul-t19
-    shared-slice-read-t21
-    mul-t22
-    add-t23
-    mul-t24
-    shared-slice-read-t26
+    request-at-requires
     serve-requires
     add-i
     loop-less

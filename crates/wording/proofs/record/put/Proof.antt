@@ -1,4 +1,4 @@
--- `wording::put` meets its contract: a word stored past the end of a list is lost.
+-- `wording::record::put` meets its contract: a word stored past the end of a list is lost.
 use Prim.Native.Nat.{_≤_}
 use borrow.Author.Needs.{needs}
 use native.Mathlib.Omega.{arith}
@@ -6,8 +6,8 @@ use mathlib.Core.Path.{sym}
 use denote.Ref.{now}
 use lib.ListN.{length}
 use lib.Seq.{set-out}
-use Rattle.wording.proofs.put.Statement.{statement}
-use Rattle.wording.proofs.put.Tie as tie
+use Rattle.wording.proofs.record.put.Statement.{statement}
+use Rattle.wording.proofs.record.put.Tie as tie
 
 mul-s : tie.Need-mul-s
 mul-s c = search needs

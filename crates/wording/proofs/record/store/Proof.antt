@@ -1,7 +1,7 @@
--- `wording::store` meets its contract: five stores, one after the other.
+-- `wording::record::store` meets its contract: five stores, one after the other.
 use borrow.Author.Needs.{needs}
-use Rattle.wording.proofs.store.Statement.{statement}
-use Rattle.wording.proofs.store.Tie as tie
+use Rattle.wording.proofs.record.store.Statement.{statement}
+use Rattle.wording.proofs.record.store.Tie as tie
 
 put-requires : tie.Need-put-requires
 put-requires c κs = search needs

@@ -1,12 +1,12 @@
--- `wording::word` meets its contract: past the end a list reads as what is asked for there.
+-- `wording::record::word` meets its contract: past the end a list reads as what is asked for there.
 use Prim.Native.Nat.{_≤_}
 use borrow.Author.Needs.{needs}
 use lib.ListN.{length, List·getD-eq-default}
 use native.Mathlib.Omega.{arith}
 use mathlib.Core.Path.{sym}
 use denote.Ref.{now}
-use Rattle.wording.proofs.word.Statement.{statement}
-use Rattle.wording.proofs.word.Tie as tie
+use Rattle.wording.proofs.record.word.Statement.{statement}
+use Rattle.wording.proofs.record.word.Tie as tie
 
 mul-result : tie.Need-mul-result
 mul-result c = search needs

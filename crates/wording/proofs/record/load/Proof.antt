@@ -1,7 +1,7 @@
--- `wording::load` meets its contract: each word where the list has it.
+-- `wording::record::load` meets its contract: each word where the list has it.
 use borrow.Author.Needs.{needs}
-use Rattle.wording.proofs.load.Statement.{statement}
-use Rattle.wording.proofs.load.Tie as tie
+use Rattle.wording.proofs.record.load.Statement.{statement}
+use Rattle.wording.proofs.record.load.Tie as tie
 
 word-requires : tie.Need-word-requires
 word-requires c κs = search needs

@@ -1,7 +1,7 @@
--- `wordrun::whole_requests` meets its contract.
+-- `wording::requests::whole_requests` meets its contract.
 use borrow.Author.Tests.{not-true, not-false}
-use Rattle.wordrun.proofs.whole_requests.Statement.{statement}
-use Rattle.wordrun.proofs.whole_requests.Tie as tie
+use Rattle.wording.proofs.requests.whole_requests.Statement.{statement}
+use Rattle.wording.proofs.requests.whole_requests.Tie as tie
 
 returns : tie.Need-returns
 returns c = rw (not-true (c .before .args .boundary) (c .if1 .taken))

@@ -1,0 +1,52 @@
+// The small record as words. Any number of words may come: what is not there reads as 0 and is not stored, and the call refuses.
+use lent::Record;
+ghost use mathlib.Core.Path.{_≡_};
+ghost use lib.Dec.{eqb};
+ghost use lib.ListN.{length, getD, set};
+ghost use lib.Seq.{sets};
+ghost use Rattle.lent.specs.Model.{small};
+ghost use Rattle.scope.specs.SmallRecord.{record-words, record-of, words-from};
+
+const RECORD_WORDS: usize = 5;
+
+pub fn five_words(record: &[u32]) -> bool
+    ensures { λ r. ⌜ r ≡ eqb (length (now («record» .entry))) record-words ⌝ }
+{
+    record.len() == RECORD_WORDS
+}
+
+fn word(s: &[u32], i: usize) -> u32
+    ensures { λ r. ⌜ r ≡ getD (now (s .entry)) i 0 ⌝ }
+{
+    if i < s.len() { s[i] } else { 0 }
+}
+
+fn put(s: &mut [u32], i: usize, x: u32)
+    ensures { λ _. ⌜ now (s .exit) ≡ set (now (s .entry)) i x ⌝ }
+{
+    if i < s.len() {
+        s[i] = x;
+    }
+}
+
+pub fn load(record: &[u32]) -> Record
+    ensures { λ r. ⌜ small r ≡ record-of (now («record» .entry)) ⌝ }
+{
+    Record {
+        open_data: word(record, 0),
+        data_offset: word(record, 1),
+        open_translation: word(record, 2),
+        translation_offset: word(record, 3),
+        used: word(record, 4),
+    }
+}
+
+pub fn store(record: &mut [u32], rec: Record)
+    ensures { λ _. ⌜ now («record» .exit) ≡ sets (now («record» .entry)) 0 (words-from (small rec)) ⌝ }
+{
+    put(record, 0, rec.open_data);
+    put(record, 1, rec.data_offset);
+    put(record, 2, rec.open_translation);
+    put(record, 3, rec.translation_offset);
+    put(record, 4, rec.used);
+}
