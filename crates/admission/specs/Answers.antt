@@ -12,7 +12,7 @@ use Rattle.lent.specs.DoesLaws.{does-give, does-look, does-bind, does-cond-true
 use Rattle.scope.specs.Lent.{State}
 use Rattle.scope.specs.Operations.{Counts, no-counts, Step, look, _>>=_}
 use Rattle.scope.specs.Replies.{DONE, Test, first-applying, admit}
-use Rattle.scope.specs.Boundary.{counts-words, put}
+use Rattle.scope.specs.Boundary.{counts-words, put-counts}
 use Rattle.scope.specs.Contracts.{Answers}
 
 pub set-three : (l : List ℕ) → length l ≡ counts-words → {a b c : ℕ} → set (set (set l 0 a) 1 b) 2 c ≡ a ∷ b ∷ c ∷ []
@@ -24,12 +24,12 @@ set-three (x ∷ y ∷ z ∷ w ∷ l) e = absurd (omega arith)
 
 -- A call that does its definition from no counts on, and puts its counts.
 pub does-answers : {A : Type 0} {m : Step A} {s s′ : State} {x : A} (c : Counts) {counts counts′ : List ℕ}
-    → Does m s no-counts x s′ c → counts′ ≡ put counts c → Answers (m s) counts x s′ counts′
+    → Does m s no-counts x s′ c → counts′ ≡ put-counts counts c → Answers (m s) counts x s′ counts′
 does-answers {m = m} {s = s} c {counts} d e =
     record {
       value = d .value;
       after = d .after;
-      counted = e ∙ ap (put counts) (sym (d .counting) ∙ counts-same (omega arith) (omega arith) (omega arith));
+      counted = e ∙ ap (put-counts counts) (sym (d .counting) ∙ counts-same (omega arith) (omega arith) (omega arith));
     }
 
 -- Tests, and the steps that follow them where none applies.

@@ -4,5 +4,5 @@ pub mod Answers
 pub mod Sizes
 pub mod Tested
 pub mod Noted
-pub mod PageTested
+pub mod SingleTested
 pub mod Room

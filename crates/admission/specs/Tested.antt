@@ -1,4 +1,4 @@
--- What the tests' answer tells: 0 only where the geometry is accepted, the lengths are right, the state is sound and the page is below L.
+-- What the tests' answer tells: 0 only where the geometry is accepted, the lengths are right, the state is sound and the request passes.
 -- And that a test that applies answers for all that follow it.
 use Prim.Native.Nat.{ℕ, _≤_, _<_}
 use mathlib.Core.Path.{_≡_, refl, sym, _∙_}
@@ -10,11 +10,12 @@ use borrow.Author.Tests.{le-leb, lt-leb}
 use Rattle.flash.specs.Cases.{on, same?, below?, and-true}
 use Rattle.flash.specs.Words.{Lengths}
 use Rattle.scope.specs.Geometry.{Geometry, Accepted, accepted}
+use Rattle.scope.specs.SmallRecord.{SmallRecord}
 use Rattle.scope.specs.Lent.{State, Request}
 use Rattle.scope.specs.Sound.{Sound}
 use Rattle.scope.specs.Decisions.{sound}
 use Rattle.scope.specs.Replies.{DONE, GEOMETRY, LENGTH, DAMAGED, KIND, PAGE, Test, first-applying, right-sizes}
-use Rattle.scope.specs.Calls.{state-sizes, size-tests, state-tests, page-tests, record-tests}
+use Rattle.scope.specs.Calls.{state-sizes, size-tests, state-tests, request-tests}
 use Rattle.scope.specs.Laws.Decided.{accepted-decided, sound-decided}
 use Rattle.soundness.specs.Sizes.{sizes-fit}
 
@@ -45,22 +46,22 @@ module _ (g : Geometry) (right others : Bool) where
   unfolding first-applying
   size-admitted a r o = rw (a, r, o)
 
--- KIND and PAGE of a request.
-module _ (g : Geometry) (q : Request) where
-  pub kind-refused : 2 ≤ q .kind → KIND ≡ first-applying (record-tests g q)
+-- KIND and PAGE of a request, each where the tests before it pass.
+module _ (g : Geometry) (small : SmallRecord) (q : Request) where
+  pub kind-refused : 2 ≤ q .kind → KIND ≡ first-applying (request-tests g small q)
   unfolding first-applying
   kind-refused k = rw (le-leb 2 (q .kind) k)
 
-  pub page-refused : q .kind < 2 → g .L ≤ q .page → PAGE ≡ first-applying (record-tests g q)
+  pub page-refused : q .kind < 2 → g .L ≤ q .page → PAGE ≡ first-applying (request-tests g small q)
   unfolding first-applying
   page-refused k p = rw (lt-leb 2 (q .kind) k, le-leb (g .L) (q .page) p)
 
-  pub request-admitted : q .kind < 2 → q .page < g .L → DONE ≡ first-applying (record-tests g q)
+  pub request-admitted : q .kind < 2 → q .page < g .L → DONE ≡ first-applying (request-tests g small q)
   unfolding first-applying
   request-admitted k p = rw (lt-leb 2 (q .kind) k, lt-leb (g .L) (q .page) p)
 
   -- One that passes them is of a page below L.
-  pub request-below : DONE ≡ first-applying (record-tests g q) → q .page < g .L
+  pub request-below : DONE ≡ first-applying (request-tests g small q) → q .page < g .L
   request-below e =
       below? (q .page) (g .L) (λ p. p)
       (λ p. absurd (below? (q .kind) 2 (λ k. omega (arith, page-refused k p)) (λ k. omega (arith, kind-refused k))))
@@ -123,28 +124,24 @@ module _ (g : Geometry) (s : State) (others : Bool) where
   pub soundness-passes : State-passes → Sound g s
   soundness-passes p = sound-decided g s .holds (p .is-sound)
 
-  module _ (l : ℕ) where
+  -- A request's tests come after the state's.
+  module _ (q : Request) where
     pub state-applies : {n : ℕ} → n ≡ first-applying (state-tests g sizes s) → n ≢ DONE
-        → n ≡ first-applying (state-tests g sizes s ++ page-tests g l)
-    state-applies = earlier-applies (state-tests g sizes s) (page-tests g l)
+        → n ≡ first-applying (state-tests g sizes s ++ request-tests g (s .small) q)
+    state-applies = earlier-applies (state-tests g sizes s) (request-tests g (s .small) q)
 
-    pub past-limit : State-passes → g .L ≤ l → PAGE ≡ first-applying (state-tests g sizes s ++ page-tests g l)
+    pub request-applies : {n : ℕ} → State-passes → n ≡ first-applying (request-tests g (s .small) q)
+        → n ≡ first-applying (state-tests g sizes s ++ request-tests g (s .small) q)
     unfolding first-applying
-    past-limit p h = rw (p .sizes-passed .accepts, p .sizes-passed .sized, p .is-sound, le-leb (g .L) l h)
+    request-applies p e = rw (p .sizes-passed .accepts, p .sizes-passed .sized, p .is-sound) e
 
-    pub below-limit : State-passes → l < g .L → DONE ≡ first-applying (state-tests g sizes s ++ page-tests g l)
-    unfolding first-applying
-    below-limit p h = rw (p .sizes-passed .accepts, p .sizes-passed .sized, p .is-sound, lt-leb (g .L) l h)
-
-    -- PAGE passed too.
-    pub record Page-passes : Type 0 where
+    -- All passed.
+    pub record Single-passes : Type 0 where
       pub state-passed : State-passes
-      pub below : l < g .L
+      pub request-passed : DONE ≡ first-applying (request-tests g (s .small) q)
 
-    pub page-passes : DONE ≡ first-applying (state-tests g sizes s ++ page-tests g l) → Page-passes
-    unfolding first-applying
-    page-passes e =
+    pub single-passes : DONE ≡ first-applying (state-tests g sizes s ++ request-tests g (s .small) q) → Single-passes
+    single-passes e =
         same? (first-applying (state-tests g sizes s)) DONE
-        (λ d. let p = state-passes (sym d) in
-        record { state-passed = p; below = below? l (g .L) (λ h. h) (λ h. absurd (omega (arith, past-limit p h))) })
+        (λ d. let p = state-passes (sym d) in record { state-passed = p; request-passed = e ∙ sym (request-applies p refl) })
         (λ d. absurd (d (sym (e ∙ sym (state-applies refl d)))))

@@ -2,7 +2,7 @@
 use lent::Counts;
 ghost use mathlib.Core.Path.{_≡_};
 ghost use Rattle.lent.specs.Model.{counts as numbers};
-ghost use Rattle.scope.specs.Boundary.{put};
+ghost use Rattle.scope.specs.Boundary.{put-counts};
 
 pub const COUNTS_WORDS: usize = 3;
 
@@ -14,7 +14,7 @@ pub const NO_COUNTS: Counts = Counts {
 };
 
 pub fn put_counts(counts: &mut [u32], c: Counts)
-    ensures { λ _. ⌜ now (counts .exit) ≡ put (now (counts .entry)) (numbers c) ⌝ }
+    ensures { λ _. ⌜ now (counts .exit) ≡ put-counts (now (counts .entry)) (numbers c) ⌝ }
 {
     if counts.len() != COUNTS_WORDS {
         return;

@@ -5,6 +5,10 @@ pub mod tests;
 
 use lent::Record;
 
+pub const KIND_READ: u32 = 0;
+
+pub const KIND_WRITE: u32 = 1;
+
 // A request: kind 0 reads and kind 1 writes a logical page.
 pub struct Request {
     pub kind: u32,

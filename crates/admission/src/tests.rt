@@ -13,15 +13,15 @@ ghost use mathlib.Core.Bool.{_&&_};
 ghost use Prim.Native.Nat.{_≤_};
 ghost use lib.Dec.{eqb};
 ghost use lib.ListN.{length};
-ghost use Rattle.lent.specs.Model.{geometry, state};
+ghost use Rattle.lent.specs.Model.{geometry, small, state};
 ghost use Rattle.scope.specs.Boundary.{counts-words};
-ghost use Rattle.scope.specs.Calls.{size-tests, record-tests};
+ghost use Rattle.scope.specs.Calls.{size-tests, request-tests};
 ghost use Rattle.scope.specs.Replies.{DONE, first-applying, right-sizes};
 ghost use Rattle.soundness.specs.Sizes.{sizes};
 ghost use Rattle.admission.specs.Sizes.{buffer-right, run-right};
 ghost use Rattle.admission.specs.Tested.{State-tested};
 ghost use Rattle.admission.specs.Noted.{Noted};
-ghost use Rattle.admission.specs.PageTested.{Page-tested};
+ghost use Rattle.admission.specs.SingleTested.{Single-tested};
 ghost use Rattle.admission.specs.Model.{request};
 
 pub const DONE: u32 = 0;
@@ -182,12 +182,25 @@ pub fn check_answer(
     DONE
 }
 
-// These, and PAGE: the tests of a read or a write, with the lengths of its page buffer and its counts.
-pub fn page_answer(
+// The tests of a request, be it a single call's or a run's, with the small record as it is then: KIND and PAGE.
+pub fn request_answer(rec: Record, g: Geometry, q: Request) -> u32
+    ensures { λ r. ⌜ r ≡ first-applying (request-tests (geometry g) (small rec) (request q)) ⌝ }
+{
+    if 2 <= q.kind {
+        return KIND;
+    }
+    if g.l <= q.page {
+        return PAGE;
+    }
+    DONE
+}
+
+// All tests of a single request: the state's, with the lengths of its page buffer and its counts, and then its own.
+pub fn single_answer(
     rec: Record,
     boundary: bool,
     g: Geometry,
-    page: u32,
+    q: Request,
     buffer: usize,
     counts: usize,
     chip: &[u32],
@@ -198,7 +211,7 @@ pub fn page_answer(
     filter: &mut [u64; 1024],
 ) -> u32
     requires { ⌜ 1024 ≤ length (now census) ⌝ }
-    ensures { λ r. ⌜ Page-tested (geometry g) (boundary && eqb counts counts-words) page buffer
+    ensures { λ r. ⌜ Single-tested (geometry g) (boundary && eqb counts counts-words) (request q) buffer
         (state (now (chip .entry)) (now (spare .entry)) (now (directory .entry)) (now (cache .entry)) rec) r
         (now (census .exit)) (now (filter .exit)) ⌝ }
 {
@@ -207,21 +220,5 @@ pub fn page_answer(
     if answer != DONE {
         return answer;
     }
-    if g.l <= page {
-        return PAGE;
-    }
-    DONE
-}
-
-// The tests of a request: KIND and PAGE.
-pub fn record_answer(g: Geometry, q: Request) -> u32
-    ensures { λ r. ⌜ r ≡ first-applying (record-tests (geometry g) (request q)) ⌝ }
-{
-    if 2 <= q.kind {
-        return KIND;
-    }
-    if g.l <= q.page {
-        return PAGE;
-    }
-    DONE
+    request_answer(rec, g, q)
 }

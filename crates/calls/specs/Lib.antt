@@ -1,4 +1,4 @@
 -- The modules of this crate.
 pub mod Format
 pub mod Check
-pub mod Paged
+pub mod Single

@@ -1,13 +1,16 @@
 // Format, check, read and write by value: 01's tests, then the steps, for every input. No call has a `requires`, and each contract settles the reply, the
 // record, every lent list and the counts by citing the call's definition. `boundary` says whether the lengths are right that only the caller
 // knows, as that of the record's words at the C boundary.
+use admission::KIND_READ;
+use admission::KIND_WRITE;
 use admission::Out;
+use admission::Request;
 use admission::counting::NO_COUNTS;
 use admission::counting::put_counts;
 use admission::tests::DONE;
 use admission::tests::check_answer;
 use admission::tests::lengths_right;
-use admission::tests::page_answer;
+use admission::tests::single_answer;
 use admission::tests::size_answer;
 use lent::Geometry;
 use lent::Record;
@@ -104,11 +107,14 @@ pub fn read(
 {
     let mut census = [0u32; 1024];
     let mut filter = [0u64; 1024];
-    let answer = page_answer(
+    let answer = single_answer(
         rec,
         boundary,
         g,
-        page,
+        Request {
+            kind: KIND_READ,
+            page,
+        },
         buffer.len(),
         counts.len(),
         chip,
@@ -168,11 +174,14 @@ pub fn write(
 {
     let mut census = [0u32; 1024];
     let mut filter = [0u64; 1024];
-    let answer = page_answer(
+    let answer = single_answer(
         rec,
         boundary,
         g,
-        page,
+        Request {
+            kind: KIND_WRITE,
+            page,
+        },
         buffer.len(),
         counts.len(),
         chip,

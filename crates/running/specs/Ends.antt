@@ -10,7 +10,7 @@ use Rattle.scope.specs.Geometry.{Geometry}
 use Rattle.scope.specs.Lent.{State, most-requests}
 use Rattle.scope.specs.Operations.{no-counts}
 use Rattle.scope.specs.Replies.{DONE, Test, first-applying, right-sizes}
-use Rattle.scope.specs.Boundary.{counts-words, put}
+use Rattle.scope.specs.Boundary.{counts-words, put-counts}
 use Rattle.scope.specs.Calls.{state-sizes, state-tests}
 use Rattle.running.specs.declared.Running.{Running}
 use Rattle.admission.specs.Noted.{Noted}
@@ -41,4 +41,4 @@ pub record Begun (g : Geometry) (boundary : Bool) (n words answers counted : ℕ
 pub record Finished (cur : Running) (given : List ℕ) (answer : ℕ) (rec : Record) (given′ : List ℕ) : Type 0 where
   pub answered : answer ≡ cur .answer
   pub recorded : rec ≡ cur .rec
-  pub handed : given′ ≡ put given (counts (cur .counts))
+  pub handed : given′ ≡ put-counts given (counts (cur .counts))

@@ -1,6 +1,6 @@
 -- What the requests of a run keep, one after the other: the state stays sound, what is lent keeps its lengths, and each costs little.
 use Prim.Native.Nat.{ℕ, zero, suc, _+_, _*_, _≤_, _<_}
-use mathlib.Core.Path.{_≡_, refl, ap, _∙_}
+use mathlib.Core.Path.{_≡_, refl, sym, ap, _∙_}
 use mathlib.Core.List.{List, []}
 use native.Mathlib.Omega.{arith}
 use lib.Dec.{eqb}
@@ -13,12 +13,11 @@ use Rattle.flash.specs.Words.{Lengths}
 use Rattle.scope.specs.Geometry.{Geometry, Accepted}
 use Rattle.scope.specs.Lent.{State, Request}
 use Rattle.scope.specs.Sound.{Sound}
-use Rattle.scope.specs.Operations.{Outcome, give, _>>=_}
+use Rattle.scope.specs.Operations.{Outcome, give, look, _>>=_}
 use Rattle.scope.specs.Replies.{DONE, first-applying, admit}
-use Rattle.scope.specs.Calls.{RunReplied, record-tests, part, no-request, serve, serve-record, serve-records}
+use Rattle.scope.specs.Calls.{RunReplied, request-tests, part, no-request, serve, answer-record, serve-record, serve-records}
 use Rattle.promises.specs.Read.{read-law}
 use Rattle.promises.specs.Write.{write-law}
-use Rattle.promises.specs.Refusals.{answered}
 use Rattle.promises.specs.Records.{record-stores}
 use Rattle.words.specs.Runs.{length-part}
 use Rattle.soundness.specs.Sizes.{piece-inside}
@@ -51,22 +50,21 @@ module _ {g : Geometry} (ok : Accepted g) where
       (λ e. let law = write-law ok (q .page) buffer s len sound below long in
       rw e (record { sound = law .sound; lengths = law .lengths; few = omega (arith, law .costs, write-few ok) }))
 
-  answered-keeps : (i : ℕ) (q : Request) (words : List ℕ) (s : State) → Lengths g s → Sound g s → i * g .W + g .W ≤ length words
-      → Keeps g most-cost (answered g i q words s)
-  unfolding answered admit give
-  answered-keeps i q words s len sound fits =
-      let n = first-applying (record-tests g q) in
+  answer-keeps : (q : Request) (buffer : List ℕ) (s : State) → Lengths g s → Sound g s → length buffer ≡ g .W
+      → Keeps g most-cost (answer-record g q buffer s)
+  unfolding answer-record admit look give _>>=_
+  answer-keeps q buffer s len sound long =
+      let n = first-applying (request-tests g (s .small) q) in
       same? n DONE
-      (λ e. rw (eq-eqb n DONE e)
-      (serve-keeps q (part g i words) s len sound (request-below g q (cc)) (length-part words (i * g .W) (g .W) fits)))
+      (λ e. rw (eq-eqb n DONE e) (serve-keeps q buffer s len sound (request-below g (s .small) q (sym e)) long))
       (λ e. rw (ne-eqb n DONE e) (record { sound = sound; lengths = len; few = omega (arith, cost-none) }))
 
   record-keeps : (i : ℕ) (q : Request) (lent : RunReplied) (s : State) → Lengths g s → Sound g s
       → i * g .W + g .W ≤ length (lent .words)
       → Keeps-lent g (lent .words) (lent .answers) most-cost (serve-record g i q lent s)
   record-keeps i q lent s len sound fits =
-      let a = answered g i q (lent .words) s in
-      let kept = answered-keeps i q (lent .words) s len sound fits in
+      let a = answer-record g q (part g i (lent .words)) s in
+      let kept = answer-keeps q (part g i (lent .words)) s len sound (length-part (lent .words) (i * g .W) (g .W) fits) in
       let stored = record-stores g i q lent s in
       record {
         sound = rw (stored .state) (kept .sound);

@@ -18,12 +18,12 @@ use Rattle.scope.specs.Geometry.{Geometry, Accepted}
 use Rattle.scope.specs.Lent.{State, Request}
 use Rattle.scope.specs.Sound.{Sound}
 use Rattle.scope.specs.Operations.{Step, give}
-use Rattle.scope.specs.Replies.{DONE, first-applying, admit}
+use Rattle.scope.specs.Replies.{DONE, first-applying}
 use Rattle.scope.specs.Requests.{Replied, replied}
-use Rattle.scope.specs.Calls.{RunReplied, run-replied, record-tests, part, serve, serve-record}
+use Rattle.scope.specs.Calls.{RunReplied, run-replied, request-tests, part, serve, answer-record, serve-record}
 use Rattle.running.specs.declared.Running.{Running}
 use Rattle.words.specs.Runs.{length-part}
-use Rattle.admission.specs.Answers.{admit-refuses, admit-serves}
+use Rattle.admission.specs.Answers.{refuses, admits}
 use Rattle.admission.specs.Room.{most-cost}
 use Rattle.admission.specs.Noted.{Noted}
 
@@ -79,7 +79,7 @@ module _ (g : Geometry) (i : ℕ) (q : Request) (a : Running) (s : State) (words
     (admitted : a .answer ≡ DONE) (fits : i * g .W + g .W ≤ length words) where
   -- The request is admitted too, or it isn't: r is what its tests and its steps hand back.
   stores : {b : Running} {s′ : State} {r : Replied} → b .answer ≡ DONE
-      → Does (admit (record-tests g q) (replied (part g i words)) (serve g q (part g i words))) s (counts (a .counts)) r s′ (counts (b .counts))
+      → Does (answer-record g q (part g i words)) s (counts (a .counts)) r s′ (counts (b .counts))
       → Runs (serve-record g i q) a s words answers b s′ (sets words (i * g .W) (r .buffer)) (set answers i (r .reply))
   unfolding serve-record
   stores e d =
@@ -88,20 +88,22 @@ module _ (g : Geometry) (i : ℕ) (q : Request) (a : Running) (s : State) (words
         does = does-cond-true _ _ _ (eq-eqb (a .answer) DONE admitted) (does-bind _ d (does-give _));
       }
 
-  pub request-refused : {n : ℕ} → n ≡ first-applying (record-tests g q) → n ≢ DONE
+  pub request-refused : {n : ℕ} → n ≡ first-applying (request-tests g (s .small) q) → n ≢ DONE
       → Runs (serve-record g i q) a s words answers a s words (set answers i n)
+  unfolding answer-record
   request-refused {n} e h =
       subst (λ (l : List ℕ). Runs (serve-record g i q) a s words answers a s l (set answers i n))
       (part-stays words (i * g .W) (g .W) fits)
-      (stores admitted (admit-refuses _ _ _ e h))
+      (stores admitted (refuses (λ s. request-tests g (s .small) q) (λ t. t) _ _ e h))
 
   pub request-served : {b : Running} {s′ : State} {buffer : List ℕ} {reply k : ℕ} → b .answer ≡ DONE → k ≡ g .W
-      → DONE ≡ first-applying (record-tests g q)
+      → DONE ≡ first-applying (request-tests g (s .small) q)
       → Does (serve g q (take k (drop (i * g .W) words))) s (counts (a .counts)) (replied buffer reply) s′ (counts (b .counts))
       → length buffer ≡ length (take k (drop (i * g .W) words))
       → Runs (serve-record g i q) a s words answers b s′
       (take (i * g .W) words ++ (buffer ++ drop k (drop (i * g .W) words))) (set answers i reply)
+  unfolding answer-record
   request-served {buffer = buffer} {reply} {k} e w t d long =
       let as-long = long ∙ ap (λ (n : ℕ). length (take n (drop (i * g .W) words))) w ∙ length-part words (i * g .W) (g .W) fits in
       rw (w, part-back words (i * g .W) (g .W) buffer fits as-long)
-      (stores e (admit-serves _ _ _ t (rw w at d)))
+      (stores e (admits (λ s. request-tests g (s .small) q) (λ t. t) _ _ t (rw w at d)))

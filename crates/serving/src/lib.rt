@@ -1,12 +1,13 @@
 // A run in three parts, so that whoever has the requests can go through them: `begin` tests once, `serve` serves one request, `finish`
 // hands over the counts. What the parts hand on says whether the run was admitted; where it wasn't, nothing is done. Whoever goes through
 // the requests also owns the notes, which `begin` takes and every request keeps, so that a run searches the chip once.
+use admission::KIND_READ;
 use admission::Out;
 use admission::Request;
 use admission::counting::NO_COUNTS;
 use admission::counting::put_counts;
 use admission::tests::DONE;
-use admission::tests::record_answer;
+use admission::tests::request_answer;
 use admission::tests::run_lengths_right;
 use admission::tests::state_answer;
 use lent::Geometry;
@@ -83,7 +84,7 @@ fn serve_request(
         (state (now (chip .exit)) (now (spare .exit)) (now (directory .exit)) (now (cache .exit)) (r .work .rec))
         (now (census .exit)) (now (filter .exit)) ⌝ }
 {
-    if q.kind == 0 {
+    if q.kind == KIND_READ {
         return read(
             work,
             g,
@@ -137,7 +138,7 @@ pub fn serve(
     if cur.answer != DONE {
         return cur;
     }
-    let refusal = record_answer(g, q);
+    let refusal = request_answer(cur.rec, g, q);
     if refusal != DONE {
         answers[i] = refusal;
         return cur;

@@ -12,7 +12,7 @@ use Rattle.scope.specs.SmallRecord.{SmallRecord, record-words, record-of, words
 use Rattle.scope.specs.Operations.{Step}
 use Rattle.scope.specs.Boundary.{Words, from-words, to-words, right-words, in-words}
 use Rattle.scope.specs.Contracts.{Answers, Gives, right-lengths}
-use Rattle.scope.specs.Laws.SmallRecord.{record-kept}
+use Rattle.scope.specs.Laws.SmallRecord.{record-words-kept}
 use Rattle.lent.specs.declared.Record.{Record}
 use Rattle.lent.specs.Model.{small, state}
 
@@ -23,7 +23,7 @@ words chip spare directory cache record′ counts =
 
 -- Numbers that come back as they were loaded change no word.
 pub stored-back : (l : List ℕ) {r : SmallRecord} → r ≡ record-of l → l ≡ sets l 0 (words-from r)
-stored-back l loaded = sym (record-kept l) ∙ ap (λ (r : SmallRecord). sets l 0 (words-from r)) (sym loaded)
+stored-back l loaded = sym (record-words-kept l) ∙ ap (λ (r : SmallRecord). sets l 0 (words-from r)) (sym loaded)
 
 module _ {A : Type 0} (record′ : List ℕ) {chip spare directory cache counts chip′ spare′ directory′ cache′ record″ counts′ : List ℕ}
     {rec rec′ : Record} {x : A} where

@@ -4,7 +4,7 @@ use mathlib.Core.Path.{_≡_, refl, sym, _∙_}
 use native.Mathlib.Omega.{arith}
 use borrow.Author.Needs.{needs}
 use denote.Ref.{now}
-use Rattle.lent.specs.Model.{geometry, state}
+use Rattle.lent.specs.Model.{geometry, small, state}
 use Rattle.scope.specs.Calls.{serve-record}
 use Rattle.words.specs.Runs.{length-part}
 use Rattle.admission.specs.Model.{request}
@@ -22,8 +22,8 @@ returns c =
     let a = c .before .before .before .before .before .before .before .before .args in
     record { runs = not-admitted (serve-record (geometry (a .g)) (a .i) (request (a .q))) (c .if1 .taken); noted = λ x. x }
 
-record-answer-requires : tie.Need-record-answer-requires
-record-answer-requires c κs = search needs
+request-answer-requires : tie.Need-request-answer-requires
+request-answer-requires c κs = search needs
 
 mul-answers : tie.Need-mul-answers
 mul-answers c = omega (arith, asked (c .before .before) .answer-fits, c .before .before .before .before .before .before .before .before .before .before .good .1 .1 .1 .1 .1 .1 .1 .1 .1 .1 .1 .0)
@@ -39,7 +39,7 @@ returns-2 c =
     let a = c .before .before .before .before .before .before .before .before .before .before .args in
     record {
       runs = request-refused (geometry (a .g)) (a .i) (request (a .q)) (a .cur) (state (now (a .chip)) (now (a .spare)) (now (a .directory)) (now (a .cache)) (a .cur .rec)) (now (a .words)) (now (a .answers))
-          (c .before .before .if1 .left) (asked (c .before .before) .part-fits) (c .before .record-answer .ensures) (c .if2 .taken);
+          (c .before .before .if1 .left) (asked (c .before .before) .part-fits) (c .before .request-answer .ensures) (c .if2 .taken);
       noted = λ x. x;
     }
 
@@ -73,7 +73,7 @@ serve-request-requires c κs =
       (
         record {
           ready = record { accepted = ready .accepted; lengths = ready .lengths; sound = ready .sound; countable = ready .countable };
-          below = request-below (geometry (a .g)) (request (a .q)) (sym (tested .if2 .left) ∙ tested .before .record-answer .ensures);
+          below = request-below (geometry (a .g)) (small (a .cur .rec)) (request (a .q)) (sym (tested .if2 .left) ∙ tested .before .request-answer .ensures);
         },
         rw at (length-part (now (a .words)) (a .i * a .g .w) (a .g .w) (ready .part-fits)),
       ),
@@ -113,7 +113,7 @@ returns-3 c =
     record {
       runs = request-served (geometry (a .g)) (a .i) (request (a .q)) (a .cur) (state (now (a .chip)) (now (a .spare)) (now (a .directory)) (now (a .cache)) (a .cur .rec)) (now (a .words)) (now (a .answers))
           (tested .before .before .if1 .left) (asked (tested .before .before) .part-fits) refl at
-          (sym (tested .if2 .left) ∙ tested .before .record-answer .ensures) (done .serve-request .ensures .0) (done .serve-request .kept .1 .1 .1 .1 .1 .1 .1 .1 .1 .0);
+          (sym (tested .if2 .left) ∙ tested .before .request-answer .ensures) (done .serve-request .ensures .0) (done .serve-request .kept .1 .1 .1 .1 .1 .1 .1 .1 .1 .0);
       noted = λ _. done .serve-request .ensures .1;
     }
 
@@ -122,7 +122,7 @@ serve-spec =
     tie.close
     (tie.spec
     returns
-    record-answer-requires
+    request-answer-requires
     mul-answers
     slice-write-answers
     same-length
