@@ -4,11 +4,9 @@ use admission::Request;
 use lent::Geometry;
 use running::Running;
 use serving::serve;
-ghost use mathlib.Core.Path.{_≡_};
 ghost use lib.ListN.{length};
 ghost use Rattle.lent.specs.Model.{geometry, state};
-ghost use Rattle.scope.specs.Replies.{DONE};
-ghost use Rattle.running.specs.Ran.{Admitted, Ran};
+ghost use Rattle.running.specs.Ran.{Tested, Ran};
 
 pub fn serve_all(
     first: Running,
@@ -23,8 +21,8 @@ pub fn serve_all(
     words: &mut [u32],
     answers: &mut [u32],
 ) -> Running
-    requires { ⌜ (first .answer ≡ DONE → Admitted (geometry g) (length (now requests)) first
-        (state (now chip) (now spare) (now directory) (now cache) (first .rec)) (now words) (now answers) (now census) (now filter)) ⌝ }
+    requires { ⌜ Tested (geometry g) (length (now requests)) first
+        (state (now chip) (now spare) (now directory) (now cache) (first .rec)) (now words) (now answers) (now census) (now filter) ⌝ }
     ensures { λ last. ⌜ Ran (geometry g) (now (requests .entry)) (length (now (requests .entry))) first
         (state (now (chip .entry)) (now (spare .entry)) (now (directory .entry)) (now (cache .entry)) (first .rec))
         (now (words .entry)) (now (answers .entry)) (now (census .entry)) (now (filter .entry)) last

@@ -15,8 +15,7 @@ use Rattle.lent.specs.declared.Record.{Record}
 use Rattle.lent.specs.Model.{counts, state}
 use Rattle.lent.specs.Does.{Does}
 use Rattle.lent.specs.DoesLaws.{does-give, does-bind, does-ends, does-value}
-use Rattle.lent.specs.Shapes.{Room-to-count, room-after}
-use Rattle.scope.specs.Geometry.{Geometry, Accepted}
+use Rattle.scope.specs.Geometry.{Geometry}
 use Rattle.scope.specs.Lent.{State, Request, most-requests}
 use Rattle.scope.specs.Sound.{Sound}
 use Rattle.scope.specs.Operations.{Counts, no-counts, give, _>>=_}
@@ -34,6 +33,7 @@ use Rattle.admission.specs.Tested.{state-passes, geometry-passes, lengths-pass,
 use Rattle.admission.specs.Room.{most-cost}
 use Rattle.running.specs.Ends.{Begun, Finished}
 use Rattle.admission.specs.Noted.{Noted}
+use Rattle.running.specs.Asks.{Asks, asks-less, asks-again}
 use Rattle.running.specs.Serve.{Serving, Runs, Served}
 use Rattle.running.specs.Records.{records-keep}
 
@@ -73,20 +73,19 @@ module _ (g : Geometry) (requests : List Request) {a : Running} {s : State} {wor
 
 -- ---- where the run is admitted
 
--- What the tests of a run of n requests give, and the notes that were taken.
+-- What the tests of a run of n requests give: that all of them may be asked for, and what is lent.
 pub record Admitted (g : Geometry) (n : ℕ) (a : Running) (s : State) (words answers census filter : List ℕ) : Type 0 where
-  pub accepted : Accepted g
-  pub lengths : Lengths g s
-  pub sound : Sound g s
+  pub asks : Asks g (n * most-cost) s (a .counts) census filter
   pub words-long : length words ≡ n * g .W
   pub answers-long : length answers ≡ n
-  pub at-most : n ≤ most-requests
-  pub uncounted : counts (a .counts) ≡ no-counts
-  pub noted : Noted g s census filter
+
+-- For those that are served only where the run is admitted.
+abbrev pub Tested : Geometry → ℕ → Running → State → List ℕ → List ℕ → List ℕ → List ℕ → Type 0
+Tested g n a s words answers census filter = a .answer ≡ DONE → Admitted g n a s words answers census filter
 
 pub begun-admits : {g : Geometry} {boundary : Bool} {n counted : ℕ} {s s′ : State} {words answers census filter : List ℕ} {a : Running}
-    → Begun g boundary n (length words) (length answers) counted s a s′ census filter → a .answer ≡ DONE
-    → Admitted g n a s′ words answers census filter
+    → Begun g boundary n (length words) (length answers) counted s a s′ census filter
+    → Tested g n a s′ words answers census filter
 begun-admits {g} {boundary} {n} {counted} {s} {s′} {words} {answers} {census} {filter} {a} begun e =
     let others = boundary && eqb counted counts-words in
     let right = run-right g n (length words) (length answers) others in
@@ -95,21 +94,29 @@ begun-admits {g} {boundary} {n} {counted} {s} {s′} {words} {answers} {census} 
     let sizes = pass .sizes-passed in
     let few = and-true (leb n most-requests) _ (and-true (right-sizes (state-sizes g s)) right (sizes .sized) .1) in
     let long = and-true (eqb (length words) (n * g .W)) _ (few .1) in
+    let at-most = leb-true n most-requests (few .0) in
     record {
-      accepted = geometry-passes g s right sizes;
-      lengths = subst (Lengths g) (sym (begun .kept)) (lengths-pass g s right sizes);
-      sound = subst (Sound g) (sym (begun .kept)) (soundness-passes g s right pass);
+      asks = record {
+        ready = record {
+          accepted = geometry-passes g s right sizes;
+          lengths = subst (Lengths g) (sym (begun .kept)) (lengths-pass g s right sizes);
+          sound = subst (Sound g) (sym (begun .kept)) (soundness-passes g s right pass);
+          countable = record {
+            reads = omega (arith, at-most, ap (λ (c : Counts). c .reads) (begun .uncounted));
+            programs = omega (arith, at-most, ap (λ (c : Counts). c .programs) (begun .uncounted));
+            erases = omega (arith, at-most, ap (λ (c : Counts). c .erases) (begun .uncounted));
+          };
+        };
+        noted = begun .noted e;
+      };
       words-long = eqb-true (length words) (n * g .W) (long .0);
       answers-long = eqb-true (length answers) n (and-true (eqb (length answers) n) others (long .1) .0);
-      at-most = leb-true n most-requests (few .0);
-      uncounted = begun .uncounted;
-      noted = begun .noted e;
     }
 
 -- Request i can be served after those before it.
 pub runs-ready : (g : Geometry) (requests : List Request) {n i : ℕ} {a b : Running} {s s′ : State}
     {words answers census filter words′ answers′ census′ filter′ : List ℕ}
-    → (a .answer ≡ DONE → Admitted g n a s words answers census filter) → i < n
+    → Tested g n a s words answers census filter → i < n
     → Runs (serve-records g requests i) a s words answers b s′ words′ answers′
     → (Noted g s census filter → Noted g s′ census′ filter′)
     → b .answer ≡ DONE → Serving g i b s′ words′ answers′ census′ filter′
@@ -118,26 +125,15 @@ runs-ready g requests {n} {i} {a} {b} {s} {s′} {words} {answers} tested h ran 
     let start = tested admitted in
     let lent = run-replied words answers DONE in
     let did = rw (eq-eqb (a .answer) DONE admitted) at (ran .does) in
-    let kept = records-keep (start .accepted) requests lent s (start .lengths) (start .sound) n (start .words-long) i (omega arith) in
+    let ready = start .asks .ready in
+    let kept = records-keep (ready .accepted) requests lent s (ready .lengths) (ready .sound) n (start .words-long) i (omega arith) in
     let long = ap (λ (r : RunReplied). length (r .words)) (did .value) in
     record {
-      accepted = start .accepted;
-      lengths = rw (did .after) at (kept .lengths);
-      sound = rw (did .after) at (kept .sound);
+      asks = asks-again most-cost (i * most-cost) (asks-less (omega arith) (start .asks)) did (kept .few) (kept .lengths) (kept .sound)
+          (noted (start .asks .noted));
       part-fits = omega (arith, piece-inside (g .W) n i h, long, kept .words-long, start .words-long);
       answer-fits = omega (arith, ap (λ (r : RunReplied). length (r .answers)) (did .value), kept .answers-long, start .answers-long);
-      countable = room-after most-cost (i * most-cost) (a .counts) (b .counts) (serve-records g requests i lent s .did)
-          (none-counted i (omega (arith, start .at-most)) (start .uncounted)) (kept .few) (did .counting);
-      noted = noted (start .noted);
     }
-  where
-    none-counted : (i : ℕ) → i < most-requests → counts (a .counts) ≡ no-counts → Room-to-count (most-cost + i * most-cost) (a .counts)
-    none-counted i h e =
-        record {
-          reads = omega (arith, ap (λ (c : Counts). c .reads) e);
-          programs = omega (arith, ap (λ (c : Counts). c .programs) e);
-          erases = omega (arith, ap (λ (c : Counts). c .erases) e);
-        }
 
 -- ---- lent requests
 
@@ -169,7 +165,7 @@ module _ {g : Geometry} {asked : List Asked} {a : Running} {s : State} {words an
           noted = λ x. served .noted (ran .noted x);
         }
 
-    pub ran-ready : (a .answer ≡ DONE → Admitted g (length asked) a s words answers census filter) → b .answer ≡ DONE
+    pub ran-ready : Tested g (length asked) a s words answers census filter → b .answer ≡ DONE
         → Serving g i b s₁ words₁ answers₁ census₁ filter₁
     ran-ready tested = runs-ready g (map request asked) tested h (ran .runs) (ran .noted)
 
@@ -190,8 +186,12 @@ pub run-answers : (g : Geometry) (requests : List Request) {boundary : Bool} {a 
     → Answers (run g (right-lengths boundary given) requests words answers s) given
     (run-replied words′ answers′ answer) (state chip spare directory cache rec) given′
 unfolding run
-run-answers g requests {boundary} {a} {b} {s} {words = words} {answers} {words′ = words′} {answers′} {given} begun ran finished =
-    rw (finished .recorded)
+run-answers g requests {boundary} {a} {b} {s} {chip = chip} {spare} {directory} {cache} {words} {answers} {words′ = words′} {answers′} {given} {given′}
+    {answer} begun ran finished =
+    subst
+    (λ (r : Record). Answers (run g (right-lengths boundary given) requests words answers s) given
+    (run-replied words′ answers′ answer) (state chip spare directory cache r) given′)
+    (sym (finished .recorded))
     (does-answers {m = run g (right-lengths boundary given) requests words answers} {s = s} (counts (b .counts))
     (same? (a .answer) DONE
     (λ e. rw (finished .answered ∙ ran .same-answer ∙ e)

@@ -9,14 +9,11 @@ use lib.Dec.{eqb}
 use lib.ListN.{length, take, drop, set, take-append-drop}
 use lib.Seq.{sets, sets-eq, drop-drop}
 use borrow.Author.Tests.{eq-eqb, ne-eqb}
-use Rattle.flash.specs.Words.{Lengths}
 use Rattle.lent.specs.Model.{counts}
 use Rattle.lent.specs.Does.{Does}
 use Rattle.lent.specs.DoesLaws.{does-give, does-bind, does-cond-true, does-cond-false}
-use Rattle.lent.specs.Shapes.{Room-to-count}
-use Rattle.scope.specs.Geometry.{Geometry, Accepted}
+use Rattle.scope.specs.Geometry.{Geometry}
 use Rattle.scope.specs.Lent.{State, Request}
-use Rattle.scope.specs.Sound.{Sound}
 use Rattle.scope.specs.Operations.{Step, give}
 use Rattle.scope.specs.Replies.{DONE, first-applying}
 use Rattle.scope.specs.Requests.{Replied, replied}
@@ -26,16 +23,13 @@ use Rattle.words.specs.Runs.{length-part}
 use Rattle.admission.specs.Answers.{refuses, admits}
 use Rattle.admission.specs.Room.{most-cost}
 use Rattle.admission.specs.Noted.{Noted}
+use Rattle.running.specs.Asks.{Asks}
 
 -- Request i can be served.
 pub record Serving (g : Geometry) (i : ℕ) (cur : Running) (s : State) (words answers census filter : List ℕ) : Type 0 where
-  pub accepted : Accepted g
-  pub lengths : Lengths g s
-  pub sound : Sound g s
+  pub asks : Asks g most-cost s (cur .counts) census filter
   pub part-fits : i * g .W + g .W ≤ length words
   pub answer-fits : i < length answers
-  pub countable : Room-to-count most-cost (cur .counts)
-  pub noted : Noted g s census filter
 
 -- A part of a run, from a to b: where the run is admitted it does m to what is lent, and nothing else.
 pub record Runs (m : RunReplied → Step RunReplied) (a : Running) (s : State) (words answers : List ℕ)

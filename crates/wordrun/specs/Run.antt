@@ -19,14 +19,10 @@ use Rattle.running.specs.declared.Running.{Running}
 use Rattle.running.specs.Ends.{Begun, Finished}
 use Rattle.admission.specs.Noted.{Noted}
 use Rattle.running.specs.Serve.{Serving, Runs, Served}
-use Rattle.running.specs.Ran.{Admitted, runs-none, runs-more, runs-ready, run-answers}
+use Rattle.running.specs.Ran.{Tested, runs-none, runs-more, runs-ready, run-answers}
 use Rattle.wording.specs.Asked.{half-as-many, words-at, request-at}
 
 -- ---- the loop
-
--- What the run's tests have found, for those that are served only where the run is admitted.
-abbrev pub Tested : Geometry → ℕ → Running → State → List ℕ → List ℕ → List ℕ → List ℕ → Type 0
-Tested g n a s words answers census filter = a .answer ≡ DONE → Admitted g n a s words answers census filter
 
 -- The loop before request i of n: those before it are served.
 pub record Turned (g : Geometry) (ws : List ℕ) (n i : ℕ) (a : Running) (s : State) (words answers census filter : List ℕ)

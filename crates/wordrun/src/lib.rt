@@ -24,7 +24,7 @@ ghost use Rattle.scope.specs.Boundary.{requests-of, tf-run};
 ghost use Rattle.scope.specs.Contracts.{right-lengths, Answers, Gives};
 ghost use Rattle.running.specs.Serve.{Runs};
 ghost use Rattle.wording.specs.Words.{words as lent-words};
-ghost use Rattle.wordrun.specs.Run.{Tested};
+ghost use Rattle.running.specs.Ran.{Tested};
 
 // The requests one after the other, where the run was admitted.
 fn serve_words(

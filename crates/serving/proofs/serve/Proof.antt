@@ -72,12 +72,12 @@ serve-request-requires c κs =
     let at : a .i * a .g .w + a .g .w - a .i * a .g .w ≡ a .g .w = omega arith in (
       (
         record {
-          ready = record { accepted = ready .accepted; lengths = ready .lengths; sound = ready .sound; countable = ready .countable };
+          ready = ready .asks .ready;
           below = request-below (geometry (a .g)) (small (a .cur .rec)) (request (a .q)) (sym (tested .if2 .left) ∙ tested .before .request-answer .ensures);
         },
         rw at (length-part (now (a .words)) (a .i * a .g .w) (a .g .w) (ready .part-fits)),
       ),
-      ready .noted,
+      ready .asks .noted,
     )
 
 mul-answers-2 : tie.Need-mul-answers-2

@@ -69,8 +69,7 @@ use Rattle.facerun.proofs.served.serve_all.Code.Mir as piece
 use Rattle.walks.specs.Rules.{slice, lends-again, comes-back, to-one, lends-ref-again, ref-comes-back, holds, bare, frees-all}
 use Rattle.facerun.specs.Served.{serve-all-ready, serve-all-more, serve-all-none}
 use Rattle.lent.specs.Model.{geometry, state}
-use Rattle.scope.specs.Replies.{DONE}
-use Rattle.running.specs.Ran.{Admitted, Ran}
+use Rattle.running.specs.Ran.{Tested, Ran}
 use Rattle.running.specs.Serve.{Served}
 use Rattle.admission.specs.Model.{request}
 
@@ -80,7 +79,7 @@ stayed = (stay-none (λ _. T·Running.the-row) yes, (stay-none-slice (0 ∷ []) 
 abbrev Callee·1 : {M : Type 1} (𝓤 : URA M) (H : Heap 𝓤) (A : Atoms 𝓤) (mm : Memory → SProp 𝓤) (rn : Routine → Fun 𝓤) → Contract 𝓤
 Callee·1 𝓤 H A mm rn = tripleOf 𝓤 H A callee·1.signature (callee·1.spec 𝓤 H A mm rn)
 
-module _ {M : Type 1} (𝓤 : URA M) (H : Heap 𝓤) (A : Atoms 𝓤) (W : Given 𝓤 H A) (mm : Memory → SProp 𝓤) (rn : Routine → Fun 𝓤) (v·first : D·Running) (is·first : Is T·Running.the-row v·first ((LL.val T·Running.the-type L·Running.the-laws v·first) ∷ [])) (κ·requests : Lft) (q·requests : Share) (b·requests o·requests : ℕ) (γ·requests : GName) (l·requests : List D·Request) (room·requests : Room T·Request.the-row (length l·requests)) (v·g : D·Geometry) (is·g : Is T·Geometry.the-row v·g ((LL.val T·Geometry.the-type L·Geometry.the-laws v·g) ∷ [])) (κ·chip : Lft) (q·chip : Share) (b·chip o·chip : ℕ) (γ·chip : GName) (l·chip : List ℕ) (room·chip : Room u32 (length l·chip)) (κ·spare : Lft) (q·spare : Share) (b·spare o·spare : ℕ) (γ·spare : GName) (l·spare : List ℕ) (room·spare : Room u32 (length l·spare)) (κ·directory : Lft) (q·directory : Share) (b·directory o·directory : ℕ) (γ·directory : GName) (l·directory : List ℕ) (room·directory : Room u32 (length l·directory)) (κ·cache : Lft) (q·cache : Share) (b·cache o·cache : ℕ) (γ·cache : GName) (l·cache : List ℕ) (room·cache : Room u32 (length l·cache)) (κ·census : Lft) (q·census : Share) (b·census o·census : ℕ) (γ·census : GName) (l·census : List ℕ) (κ·filter : Lft) (q·filter : Share) (b·filter o·filter : ℕ) (γ·filter : GName) (l·filter : List ℕ) (κ·words : Lft) (q·words : Share) (b·words o·words : ℕ) (γ·words : GName) (l·words : List ℕ) (room·words : Room u32 (length l·words)) (κ·answers : Lft) (q·answers : Share) (b·answers o·answers : ℕ) (γ·answers : GName) (l·answers : List ℕ) (room·answers : Room u32 (length l·answers)) (needed : (v·first .answer ≡ DONE → Admitted (geometry v·g) (length (l·requests)) v·first (state (l·chip) (l·spare) (l·directory) (l·cache) (v·first .rec)) (l·words) (l·answers) (l·census) (l·filter))) where
+module _ {M : Type 1} (𝓤 : URA M) (H : Heap 𝓤) (A : Atoms 𝓤) (W : Given 𝓤 H A) (mm : Memory → SProp 𝓤) (rn : Routine → Fun 𝓤) (v·first : D·Running) (is·first : Is T·Running.the-row v·first ((LL.val T·Running.the-type L·Running.the-laws v·first) ∷ [])) (κ·requests : Lft) (q·requests : Share) (b·requests o·requests : ℕ) (γ·requests : GName) (l·requests : List D·Request) (room·requests : Room T·Request.the-row (length l·requests)) (v·g : D·Geometry) (is·g : Is T·Geometry.the-row v·g ((LL.val T·Geometry.the-type L·Geometry.the-laws v·g) ∷ [])) (κ·chip : Lft) (q·chip : Share) (b·chip o·chip : ℕ) (γ·chip : GName) (l·chip : List ℕ) (room·chip : Room u32 (length l·chip)) (κ·spare : Lft) (q·spare : Share) (b·spare o·spare : ℕ) (γ·spare : GName) (l·spare : List ℕ) (room·spare : Room u32 (length l·spare)) (κ·directory : Lft) (q·directory : Share) (b·directory o·directory : ℕ) (γ·directory : GName) (l·directory : List ℕ) (room·directory : Room u32 (length l·directory)) (κ·cache : Lft) (q·cache : Share) (b·cache o·cache : ℕ) (γ·cache : GName) (l·cache : List ℕ) (room·cache : Room u32 (length l·cache)) (κ·census : Lft) (q·census : Share) (b·census o·census : ℕ) (γ·census : GName) (l·census : List ℕ) (κ·filter : Lft) (q·filter : Share) (b·filter o·filter : ℕ) (γ·filter : GName) (l·filter : List ℕ) (κ·words : Lft) (q·words : Share) (b·words o·words : ℕ) (γ·words : GName) (l·words : List ℕ) (room·words : Room u32 (length l·words)) (κ·answers : Lft) (q·answers : Share) (b·answers o·answers : ℕ) (γ·answers : GName) (l·answers : List ℕ) (room·answers : Room u32 (length l·answers)) (needed : Tested (geometry v·g) (length (l·requests)) v·first (state (l·chip) (l·spare) (l·directory) (l·cache) (v·first .rec)) (l·words) (l·answers) (l·census) (l·filter)) where
   abbrev a : D·Running × (RefT (List D·Request) × (D·Geometry × (RefT (List ℕ) × (RefT (List ℕ) × (RefT (List ℕ) × (RefT (List ℕ) × (RefT (List ℕ) × (RefT (List ℕ) × (RefT (List ℕ) × (RefT (List ℕ) × (Unit {0})))))))))))
   a = (v·first, (slice T·Request.the-row b·requests o·requests γ·requests l·requests, (v·g, (slice u32 b·chip o·chip γ·chip l·chip, (slice u32 b·spare o·spare γ·spare l·spare, (slice u32 b·directory o·directory γ·directory l·directory, (slice u32 b·cache o·cache γ·cache l·cache, (to-one (Array u32 1024) b·census o·census γ·census l·census, (to-one (Array u64 1024) b·filter o·filter γ·filter l·filter, (slice u32 b·words o·words γ·words l·words, (slice u32 b·answers o·answers γ·answers l·answers, tt)))))))))))
 
@@ -265,7 +264,7 @@ module _ {M : Type 1} (𝓤 : URA M) (H : Heap 𝓤) (A : Atoms 𝓤) (W : Given
   walks : (𝓣 : Tables 𝓤 H) (fm : FmC 𝓤 H (W .laws) (𝓣 .C)) (known·1 : Triple 𝓤 (𝓣 .C #·1) (Callee·1 𝓤 H A mm rn)) → Walks 𝓤 H A walked·.ended stayed (WpFn 𝓤 H (𝓣 .C) (𝓣 .Λ) code.function) (walked·.clauses 𝓤 H A mm rn)
   walks 𝓣 fm known·1 =
       walked 𝓤 H A walked·.ended stayed (walked·.clauses 𝓤 H A mm rn) (WpFn 𝓤 H (𝓣 .C) (𝓣 .Λ) code.function) (λ κs. (LL.vals T·Running.the-type L·Running.the-laws, (slice-vals, (LL.vals T·Geometry.the-type L·Geometry.the-laws, (slice-vals, (slice-vals, (slice-vals, (slice-vals, (ptr-vals, (ptr-vals, (slice-vals, (slice-vals, tt)))))))))))) (λ κs. (LL.tells T·Running.the-type L·Running.the-laws, (shr-slice-tells (named 0) (κs .0) T·Request.the-row, (LL.tells T·Geometry.the-type L·Geometry.the-laws, (mut-slice-tells (named 1) (κs .1 .0) u32, (mut-slice-tells (named 2) (κs .1 .1 .0) u32, (mut-slice-tells (named 3) (κs .1 .1 .1 .0) u32, (mut-slice-tells (named 4) (κs .1 .1 .1 .1 .0) u32, (mut-tells (named 5) (κs .1 .1 .1 .1 .1 .0) (Array u32 1024), (mut-tells (named 6) (κs .1 .1 .1 .1 .1 .1 .0) (Array u64 1024), (mut-slice-tells (named 7) (κs .1 .1 .1 .1 .1 .1 .1 .0) u32, (mut-slice-tells (named 8) (κs .1 .1 .1 .1 .1 .1 .1 .1 .0) u32, tt))))))))))))
-      (λ κs qs bounds a gh are. needs 𝓤 (((a .0) .answer ≡ DONE → Admitted (geometry (a .1 .1 .0)) (length (((a .1 .0) .now))) (a .0) (state (((a .1 .1 .1 .0) .now)) (((a .1 .1 .1 .1 .0) .now)) (((a .1 .1 .1 .1 .1 .0) .now)) (((a .1 .1 .1 .1 .1 .1 .0) .now)) ((a .0) .rec)) (((a .1 .1 .1 .1 .1 .1 .1 .1 .1 .0) .now)) (((a .1 .1 .1 .1 .1 .1 .1 .1 .1 .1 .0) .now)) (((a .1 .1 .1 .1 .1 .1 .1 .0) .now)) (((a .1 .1 .1 .1 .1 .1 .1 .1 .0) .now)))) _ (λ needed. walk 𝓤 H A W mm rn (a .0) (LL.owes T·Running.the-type L·Running.the-laws (a .0) (LL.owed T·Running.the-type L·Running.the-laws (a .0) _ (are .0))) (κs .0) (qs .0) ((a .1 .0) .ptr .0) ((a .1 .0) .ptr .1) ((a .1 .0) .name) ((a .1 .0) .now) ((are .1 .0) .0 .1) (a .1 .1 .0) (LL.owes T·Geometry.the-type L·Geometry.the-laws (a .1 .1 .0) (LL.owed T·Geometry.the-type L·Geometry.the-laws (a .1 .1 .0) _ (are .1 .1 .0))) (κs .1 .0) (qs .1 .0) ((a .1 .1 .1 .0) .ptr .0) ((a .1 .1 .1 .0) .ptr .1) ((a .1 .1 .1 .0) .name) ((a .1 .1 .1 .0) .now) ((are .1 .1 .1 .0) .0 .1) (κs .1 .1 .0) (qs .1 .1 .0) ((a .1 .1 .1 .1 .0) .ptr .0) ((a .1 .1 .1 .1 .0) .ptr .1) ((a .1 .1 .1 .1 .0) .name) ((a .1 .1 .1 .1 .0) .now) ((are .1 .1 .1 .1 .0) .0 .1) (κs .1 .1 .1 .0) (qs .1 .1 .1 .0) ((a .1 .1 .1 .1 .1 .0) .ptr .0) ((a .1 .1 .1 .1 .1 .0) .ptr .1) ((a .1 .1 .1 .1 .1 .0) .name) ((a .1 .1 .1 .1 .1 .0) .now) ((are .1 .1 .1 .1 .1 .0) .0 .1) (κs .1 .1 .1 .1 .0) (qs .1 .1 .1 .1 .0) ((a .1 .1 .1 .1 .1 .1 .0) .ptr .0) ((a .1 .1 .1 .1 .1 .1 .0) .ptr .1) ((a .1 .1 .1 .1 .1 .1 .0) .name) ((a .1 .1 .1 .1 .1 .1 .0) .now) ((are .1 .1 .1 .1 .1 .1 .0) .0 .1) (κs .1 .1 .1 .1 .1 .0) (qs .1 .1 .1 .1 .1 .0) ((a .1 .1 .1 .1 .1 .1 .1 .0) .ptr .0) ((a .1 .1 .1 .1 .1 .1 .1 .0) .ptr .1) ((a .1 .1 .1 .1 .1 .1 .1 .0) .name) ((a .1 .1 .1 .1 .1 .1 .1 .0) .now) (κs .1 .1 .1 .1 .1 .1 .0) (qs .1 .1 .1 .1 .1 .1 .0) ((a .1 .1 .1 .1 .1 .1 .1 .1 .0) .ptr .0) ((a .1 .1 .1 .1 .1 .1 .1 .1 .0) .ptr .1) ((a .1 .1 .1 .1 .1 .1 .1 .1 .0) .name) ((a .1 .1 .1 .1 .1 .1 .1 .1 .0) .now) (κs .1 .1 .1 .1 .1 .1 .1 .0) (qs .1 .1 .1 .1 .1 .1 .1 .0) ((a .1 .1 .1 .1 .1 .1 .1 .1 .1 .0) .ptr .0) ((a .1 .1 .1 .1 .1 .1 .1 .1 .1 .0) .ptr .1) ((a .1 .1 .1 .1 .1 .1 .1 .1 .1 .0) .name) ((a .1 .1 .1 .1 .1 .1 .1 .1 .1 .0) .now) ((are .1 .1 .1 .1 .1 .1 .1 .1 .1 .0) .0 .1) (κs .1 .1 .1 .1 .1 .1 .1 .1 .0) (qs .1 .1 .1 .1 .1 .1 .1 .1 .0) ((a .1 .1 .1 .1 .1 .1 .1 .1 .1 .1 .0) .ptr .0) ((a .1 .1 .1 .1 .1 .1 .1 .1 .1 .1 .0) .ptr .1) ((a .1 .1 .1 .1 .1 .1 .1 .1 .1 .1 .0) .name) ((a .1 .1 .1 .1 .1 .1 .1 .1 .1 .1 .0) .now) ((are .1 .1 .1 .1 .1 .1 .1 .1 .1 .1 .0) .0 .1) needed 𝓣 fm known·1))
+      (λ κs qs bounds a gh are. needs 𝓤 (Tested (geometry (a .1 .1 .0)) (length (((a .1 .0) .now))) (a .0) (state (((a .1 .1 .1 .0) .now)) (((a .1 .1 .1 .1 .0) .now)) (((a .1 .1 .1 .1 .1 .0) .now)) (((a .1 .1 .1 .1 .1 .1 .0) .now)) ((a .0) .rec)) (((a .1 .1 .1 .1 .1 .1 .1 .1 .1 .0) .now)) (((a .1 .1 .1 .1 .1 .1 .1 .1 .1 .1 .0) .now)) (((a .1 .1 .1 .1 .1 .1 .1 .0) .now)) (((a .1 .1 .1 .1 .1 .1 .1 .1 .0) .now))) _ (λ needed. walk 𝓤 H A W mm rn (a .0) (LL.owes T·Running.the-type L·Running.the-laws (a .0) (LL.owed T·Running.the-type L·Running.the-laws (a .0) _ (are .0))) (κs .0) (qs .0) ((a .1 .0) .ptr .0) ((a .1 .0) .ptr .1) ((a .1 .0) .name) ((a .1 .0) .now) ((are .1 .0) .0 .1) (a .1 .1 .0) (LL.owes T·Geometry.the-type L·Geometry.the-laws (a .1 .1 .0) (LL.owed T·Geometry.the-type L·Geometry.the-laws (a .1 .1 .0) _ (are .1 .1 .0))) (κs .1 .0) (qs .1 .0) ((a .1 .1 .1 .0) .ptr .0) ((a .1 .1 .1 .0) .ptr .1) ((a .1 .1 .1 .0) .name) ((a .1 .1 .1 .0) .now) ((are .1 .1 .1 .0) .0 .1) (κs .1 .1 .0) (qs .1 .1 .0) ((a .1 .1 .1 .1 .0) .ptr .0) ((a .1 .1 .1 .1 .0) .ptr .1) ((a .1 .1 .1 .1 .0) .name) ((a .1 .1 .1 .1 .0) .now) ((are .1 .1 .1 .1 .0) .0 .1) (κs .1 .1 .1 .0) (qs .1 .1 .1 .0) ((a .1 .1 .1 .1 .1 .0) .ptr .0) ((a .1 .1 .1 .1 .1 .0) .ptr .1) ((a .1 .1 .1 .1 .1 .0) .name) ((a .1 .1 .1 .1 .1 .0) .now) ((are .1 .1 .1 .1 .1 .0) .0 .1) (κs .1 .1 .1 .1 .0) (qs .1 .1 .1 .1 .0) ((a .1 .1 .1 .1 .1 .1 .0) .ptr .0) ((a .1 .1 .1 .1 .1 .1 .0) .ptr .1) ((a .1 .1 .1 .1 .1 .1 .0) .name) ((a .1 .1 .1 .1 .1 .1 .0) .now) ((are .1 .1 .1 .1 .1 .1 .0) .0 .1) (κs .1 .1 .1 .1 .1 .0) (qs .1 .1 .1 .1 .1 .0) ((a .1 .1 .1 .1 .1 .1 .1 .0) .ptr .0) ((a .1 .1 .1 .1 .1 .1 .1 .0) .ptr .1) ((a .1 .1 .1 .1 .1 .1 .1 .0) .name) ((a .1 .1 .1 .1 .1 .1 .1 .0) .now) (κs .1 .1 .1 .1 .1 .1 .0) (qs .1 .1 .1 .1 .1 .1 .0) ((a .1 .1 .1 .1 .1 .1 .1 .1 .0) .ptr .0) ((a .1 .1 .1 .1 .1 .1 .1 .1 .0) .ptr .1) ((a .1 .1 .1 .1 .1 .1 .1 .1 .0) .name) ((a .1 .1 .1 .1 .1 .1 .1 .1 .0) .now) (κs .1 .1 .1 .1 .1 .1 .1 .0) (qs .1 .1 .1 .1 .1 .1 .1 .0) ((a .1 .1 .1 .1 .1 .1 .1 .1 .1 .0) .ptr .0) ((a .1 .1 .1 .1 .1 .1 .1 .1 .1 .0) .ptr .1) ((a .1 .1 .1 .1 .1 .1 .1 .1 .1 .0) .name) ((a .1 .1 .1 .1 .1 .1 .1 .1 .1 .0) .now) ((are .1 .1 .1 .1 .1 .1 .1 .1 .1 .0) .0 .1) (κs .1 .1 .1 .1 .1 .1 .1 .1 .0) (qs .1 .1 .1 .1 .1 .1 .1 .1 .0) ((a .1 .1 .1 .1 .1 .1 .1 .1 .1 .1 .0) .ptr .0) ((a .1 .1 .1 .1 .1 .1 .1 .1 .1 .1 .0) .ptr .1) ((a .1 .1 .1 .1 .1 .1 .1 .1 .1 .1 .0) .name) ((a .1 .1 .1 .1 .1 .1 .1 .1 .1 .1 .0) .now) ((are .1 .1 .1 .1 .1 .1 .1 .1 .1 .1 .0) .0 .1) needed 𝓣 fm known·1))
 
   all-go : AllGo 𝓤 H A W 9 (walked·.signature .params) (walked·.ended .kept) stayed
   all-go = (goes-none 𝓤 H A W 9 (λ _. T·Running.the-row) yes (λ κs x f. refl), (goes-none-slice 𝓤 H A W 9 (0 ∷ []) tt (plain (λ _. T·Request.the-row)) yes, (goes-none 𝓤 H A W 9 (λ _. T·Geometry.the-row) yes (λ κs x f. refl), (goes-slice 𝓤 H A W 9 1 tt (plain (λ _. u32)), (goes-slice 𝓤 H A W 9 2 tt (plain (λ _. u32)), (goes-slice 𝓤 H A W 9 3 tt (plain (λ _. u32)), (goes-slice 𝓤 H A W 9 4 tt (plain (λ _. u32)), (goes-ref 𝓤 H A W 9 5 tt (arrayOf (plain (λ _. u32)) 1024), (goes-ref 𝓤 H A W 9 6 tt (arrayOf (plain (λ _. u64)) 1024), (goes-slice 𝓤 H A W 9 7 tt (plain (λ _. u32)), (goes-slice 𝓤 H A W 9 8 tt (plain (λ _. u32)), tt)))))))))))
