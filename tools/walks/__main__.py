@@ -6,8 +6,8 @@ WHY
     is not trusted: the check refuses a walk that does not fit the source. Print anew after each change of a signature or a contract.
 
 COMMANDS, from the repository's folder; `rt fmt` after the first
-    python3 tools/walks CRATE            writes the proof files of all such functions of a crate, and its proofs/Rules.antt, the rules
-                                         that walks cite; proofs/Lib.antt has a line `pub mod Rules`
+    python3 tools/walks CRATE            writes the proof files of all such functions of a crate, and crates/walks/specs/Rules.antt, the
+                                         rules that the walks of every crate cite
     python3 tools/walks CRATE FUNCTION   prints the proof file of one function
     python3 tools/walks rules            prints Rules.antt
     python3 tools/walks --check          holds every printed file of the repository to what is printed now, the layout aside
@@ -53,6 +53,7 @@ from source import Item, Misfit, Source  # noqa: E402
 
 HERE = Path(__file__).resolve().parent
 COMMAND = "python3 tools/walks"
+RULES = Path("crates/walks/specs/Rules.antt")
 PRINTED = re.compile(rf"-- Printed by `{COMMAND} ([\w ]+)`")
 
 
@@ -68,12 +69,12 @@ def proof(source: Source, item: Item) -> str:
 
 
 def write_all(source: Source, crate: str) -> None:
-    """Writes the proof files of all walked functions of a crate, and its rules."""
+    """Writes the proof files of all walked functions of a crate, and the rules that they cite."""
     proofs, walked = source.root / "crates" / crate / "proofs", source.walked(crate)
     if not walked:
         raise Misfit(f"crate '{crate}' has no function over a lent record or lent requests")
     texts = {proofs.joinpath(*item.modules, item.name, "Proof.antt"): proof(source, item) for item in walked}
-    for path, text in {**texts, proofs / "Rules.antt": rules()}.items():
+    for path, text in {**texts, source.root / RULES: rules()}.items():
         path.parent.mkdir(parents=True, exist_ok=True)
         path.write_text(text)
         print(f"wrote {path.relative_to(source.root)}")
@@ -82,7 +83,7 @@ def write_all(source: Source, crate: str) -> None:
 def check(source: Source) -> None:
     """Holds every printed file to what is printed now. `rt fmt` changes the layout alone, so that is not compared."""
     stale, seen = [], 0
-    for path in sorted(source.root.glob("crates/*/proofs/**/*.antt")):
+    for path in sorted(source.root.glob("crates/**/*.antt")):
         old = path.read_text()
         if m := PRINTED.match(old):
             seen += 1

@@ -83,7 +83,7 @@ class Walk:
             "use denote.Struct.Laws as LL\n", *(s.uses(self.own) for s in structs.values()), *(call.uses(self.own) for call in self.calls),
             f"use {module} as walked·\nuse {module}.Key.{{name as #walked}}\nuse {module}.Statement as stated\n"
             f"use {module}.Code as code\nuse {module}.Code.Mir as piece\n",
-            use_lines([(rule, f"Rattle.{self.own}.proofs.Rules") for rule in RULES if rule in words_of(body)]), use_lines(self.cites.items())])
+            use_lines([(rule, "Rattle.walks.specs.Rules") for rule in RULES if rule in words_of(body)]), use_lines(self.cites.items())])
 
     def statements(self) -> str:
         """How each parameter stands at exit, and the callees' contracts."""

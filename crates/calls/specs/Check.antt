@@ -11,10 +11,10 @@ use Rattle.scope.specs.Lent.{State}
 use Rattle.scope.specs.Operations.{no-counts, give}
 use Rattle.scope.specs.Replies.{DONE}
 use Rattle.scope.specs.Calls.{check}
-use Rattle.scope.specs.Boundary.{put}
+use Rattle.scope.specs.Boundary.{put-counts}
 use Rattle.scope.specs.Contracts.{Answers}
-use Rattle.calls.specs.Answers.{does-answers, refuses, admits}
-use Rattle.calls.specs.Tested.{State-tested}
+use Rattle.admission.specs.Answers.{does-answers, refuses, admits}
+use Rattle.admission.specs.Tested.{State-tested}
 
 -- The code tests with `right`, its own name for whether the lengths beside the state's are right.
 module _ (g : Geometry) (s : State) {right others : Bool} {n : ℕ} (named : right ≡ others)
@@ -29,5 +29,5 @@ module _ (g : Geometry) (s : State) {right others : Bool} {n : ℕ} (named : rig
       (λ z. rw z (admits _ (λ t. t) (λ n. n) (give DONE) (sym z ∙ answered) (does-give DONE)))
       (λ z. refuses _ (λ t. t) (λ n. n) (give DONE) answered z)
 
-  pub check-answers : {counts counts′ : List ℕ} → counts′ ≡ put counts no-counts → Answers (check g others s) counts n s counts′
+  pub check-answers : {counts counts′ : List ℕ} → counts′ ≡ put-counts counts no-counts → Answers (check g others s) counts n s counts′
   check-answers e = does-answers no-counts does-check e

@@ -12,10 +12,10 @@ use Rattle.scope.specs.Replies.{DONE, first-applying, right-sizes}
 use Rattle.scope.specs.Requests.{format-steps}
 use Rattle.scope.specs.Calls.{state-sizes, size-tests, format}
 use Rattle.requests.specs.Fresh.{Sized}
-use Rattle.scope.specs.Boundary.{put}
+use Rattle.scope.specs.Boundary.{put-counts}
 use Rattle.scope.specs.Contracts.{Answers}
-use Rattle.calls.specs.Answers.{does-answers, refuses, admits}
-use Rattle.calls.specs.Tested.{sizes-pass, geometry-passes, lengths-pass}
+use Rattle.admission.specs.Answers.{does-answers, refuses, admits}
+use Rattle.admission.specs.Tested.{sizes-pass, geometry-passes, lengths-pass}
 
 -- The code tests with `right`, its own name for whether the lengths beside the state's are right.
 module _ (g : Geometry) (s : State) {right others : Bool} {n : ℕ} (named : right ≡ others)
@@ -28,12 +28,12 @@ module _ (g : Geometry) (s : State) {right others : Bool} {n : ℕ} (named : rig
       let pass = sizes-pass g s right (sym e ∙ tested) in
       record { accepted = geometry-passes g s right pass; lengths = lengths-pass g s right pass }
 
-  pub format-refused : {counts counts′ : List ℕ} → n ≢ DONE → counts′ ≡ put counts no-counts
+  pub format-refused : {counts counts′ : List ℕ} → n ≢ DONE → counts′ ≡ put-counts counts no-counts
       → Answers (format g others s) counts n s counts′
   unfolding format
   format-refused h e = does-answers no-counts (refuses _ (size-tests g) (λ n. n) (format-steps g) answered h) e
 
   pub format-served : {s′ : State} (c : Counts) {counts counts′ : List ℕ} → n ≡ DONE → Does (format-steps g) s no-counts DONE s′ c
-      → counts′ ≡ put counts c → Answers (format g others s) counts DONE s′ counts′
+      → counts′ ≡ put-counts counts c → Answers (format g others s) counts DONE s′ counts′
   unfolding format
   format-served c e d p = does-answers c (admits _ (size-tests g) (λ n. n) (format-steps g) (sym e ∙ answered) d) p

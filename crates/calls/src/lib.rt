@@ -1,17 +1,17 @@
-// The five calls by value: 01's tests, then the steps, for every input. No call has a `requires`, and each contract settles the reply, the
-// record, every lent list and the counts by citing the call's definition. `fits` says whether the lengths are right that only the caller
+// Format, check, read and write by value: 01's tests, then the steps, for every input. No call has a `requires`, and each contract settles the reply, the
+// record, every lent list and the counts by citing the call's definition. `boundary` says whether the lengths are right that only the caller
 // knows, as that of the record's words at the C boundary.
-mod counting;
-pub mod run;
-mod tests;
-
-use crate::counting::NO_COUNTS;
-use crate::counting::put_counts;
-use crate::tests::DONE;
-use crate::tests::check_answer;
-use crate::tests::lengths_right;
-use crate::tests::page_answer;
-use crate::tests::size_answer;
+use admission::KIND_READ;
+use admission::KIND_WRITE;
+use admission::Out;
+use admission::Request;
+use admission::counting::NO_COUNTS;
+use admission::counting::put_counts;
+use admission::tests::DONE;
+use admission::tests::check_answer;
+use admission::tests::lengths_right;
+use admission::tests::single_answer;
+use admission::tests::size_answer;
 use lent::Geometry;
 use lent::Record;
 use lent::Work;
@@ -21,16 +21,10 @@ ghost use Rattle.scope.specs.Calls.{format, check, read, write};
 ghost use Rattle.scope.specs.Requests.{replied};
 ghost use Rattle.scope.specs.Contracts.{Answers, right-lengths};
 
-// The reply number, and the small record after the call.
-pub struct Out {
-    pub answer: u32,
-    pub rec: Record,
-}
-
 // The old state isn't tested.
 pub fn format(
     rec: Record,
-    fits: bool,
+    boundary: bool,
     g: Geometry,
     chip: &mut [u32],
     spare: &mut [u32],
@@ -39,13 +33,13 @@ pub fn format(
     counts: &mut [u32],
 ) -> Out
     ensures { λ o. ⌜ Answers
-        (format (geometry g) (right-lengths fits (now (counts .entry)))
+        (format (geometry g) (right-lengths boundary (now (counts .entry)))
         (state (now (chip .entry)) (now (spare .entry)) (now (directory .entry)) (now (cache .entry)) rec))
         (now (counts .entry)) (o .answer)
         (state (now (chip .exit)) (now (spare .exit)) (now (directory .exit)) (now (cache .exit)) (o .rec))
         (now (counts .exit)) ⌝ }
 {
-    let right = lengths_right(fits, counts.len());
+    let right = lengths_right(boundary, counts.len());
     let answer = size_answer(
         g,
         right,
@@ -70,7 +64,7 @@ pub fn format(
 // Changes nothing but the counts.
 pub fn check(
     rec: Record,
-    fits: bool,
+    boundary: bool,
     g: Geometry,
     chip: &[u32],
     spare: &[u32],
@@ -79,13 +73,13 @@ pub fn check(
     counts: &mut [u32],
 ) -> u32
     ensures { λ r. ⌜ Answers
-        (check (geometry g) (right-lengths fits (now (counts .entry)))
+        (check (geometry g) (right-lengths boundary (now (counts .entry)))
         (state (now (chip .entry)) (now (spare .entry)) (now (directory .entry)) (now (cache .entry)) rec))
         (now (counts .entry)) r
         (state (now (chip .entry)) (now (spare .entry)) (now (directory .entry)) (now (cache .entry)) rec)
         (now (counts .exit)) ⌝ }
 {
-    let right = lengths_right(fits, counts.len());
+    let right = lengths_right(boundary, counts.len());
     let answer = check_answer(rec, right, g, chip, spare, directory, cache);
     put_counts(counts, NO_COUNTS);
     answer
@@ -94,7 +88,7 @@ pub fn check(
 // Fills the page buffer where the page was written.
 pub fn read(
     rec: Record,
-    fits: bool,
+    boundary: bool,
     g: Geometry,
     page: u32,
     chip: &mut [u32],
@@ -105,7 +99,7 @@ pub fn read(
     counts: &mut [u32],
 ) -> Out
     ensures { λ o. ⌜ Answers
-        (read (geometry g) (right-lengths fits (now (counts .entry))) page (now (buffer .entry))
+        (read (geometry g) (right-lengths boundary (now (counts .entry))) page (now (buffer .entry))
         (state (now (chip .entry)) (now (spare .entry)) (now (directory .entry)) (now (cache .entry)) rec))
         (now (counts .entry)) (replied (now (buffer .exit)) (o .answer))
         (state (now (chip .exit)) (now (spare .exit)) (now (directory .exit)) (now (cache .exit)) (o .rec))
@@ -113,11 +107,14 @@ pub fn read(
 {
     let mut census = [0u32; 1024];
     let mut filter = [0u64; 1024];
-    let answer = page_answer(
+    let answer = single_answer(
         rec,
-        fits,
+        boundary,
         g,
-        page,
+        Request {
+            kind: KIND_READ,
+            page,
+        },
         buffer.len(),
         counts.len(),
         chip,
@@ -158,7 +155,7 @@ pub fn read(
 // Leaves the page buffer as it is.
 pub fn write(
     rec: Record,
-    fits: bool,
+    boundary: bool,
     g: Geometry,
     page: u32,
     chip: &mut [u32],
@@ -169,7 +166,7 @@ pub fn write(
     counts: &mut [u32],
 ) -> Out
     ensures { λ o. ⌜ Answers
-        (write (geometry g) (right-lengths fits (now (counts .entry))) page (now (buffer .entry))
+        (write (geometry g) (right-lengths boundary (now (counts .entry))) page (now (buffer .entry))
         (state (now (chip .entry)) (now (spare .entry)) (now (directory .entry)) (now (cache .entry)) rec))
         (now (counts .entry)) (replied (now (buffer .entry)) (o .answer))
         (state (now (chip .exit)) (now (spare .exit)) (now (directory .exit)) (now (cache .exit)) (o .rec))
@@ -177,11 +174,14 @@ pub fn write(
 {
     let mut census = [0u32; 1024];
     let mut filter = [0u64; 1024];
-    let answer = page_answer(
+    let answer = single_answer(
         rec,
-        fits,
+        boundary,
         g,
-        page,
+        Request {
+            kind: KIND_WRITE,
+            page,
+        },
         buffer.len(),
         counts.len(),
         chip,

@@ -1,41 +1,36 @@
--- The three demands, as statements about the contracts of the public calls: whatever outcome a contract allows meets them, in the
--- words of crate promises (Demands.antt). Said once for any face; `rattle-face` and `c-face` of Faces.antt are the two, and the
+-- The three demands, as statements about the contracts of the public calls: whatever outcome a contract allows meets them, in the words of
+-- crate promises (Grounds.antt to Demands.antt). Said once for any face; `rattle-face` and `c-face` of Faces.antt are the two, and the
 -- theorems stand in Theorems.antt. An outcome is of a call x that lends a slice for the counts: what it hands back, and the node n′.
 use Prim.Native.Nat.{ℕ, _+_, _≤_, _<_}
 use mathlib.Core.Path.{_≡_}
 use mathlib.Core.Logic.{_≢_, _⊎_}
-use mathlib.Core.Bool.{Bool, true, false}
-use mathlib.Core.List.{List, [], _∷_, _++_}
+use mathlib.Core.Bool.{Bool, true}
+use mathlib.Core.List.{List, [], _∷_}
 use lib.ListN.{length, getD}
 use Rattle.scope.specs.Geometry.{Geometry, Accepted}
 use Rattle.scope.specs.Lent.{none, State, Request, most-requests}
 use Rattle.scope.specs.Sound.{Sound}
 use Rattle.scope.specs.Operations.{Outcome, counted, no-counts}
 use Rattle.scope.specs.Replies.{DONE, UNWRITTEN}
-use Rattle.scope.specs.Boundary.{put, words-of-counts}
-use Rattle.scope.specs.Calls.{state-sizes, buffer-sizes, run-sizes, part, no-request, run-replied, RunReplied, run}
+use Rattle.scope.specs.Boundary.{put-counts, words-of-counts}
+use Rattle.scope.specs.Calls.{state-sizes, buffer-sizes, run-sizes, read-of, write-of, part, no-request, run-replied, RunReplied, run}
 use Rattle.flash.specs.Listed.{Allowed}
 use Rattle.flash.specs.Clearing.{Clears-each}
-use Rattle.promises.specs.Demands.{Right, Wrong, Fits, Misfits, Grounds, Refuses, Refusal, format-grounds, state-grounds, Demand-1-record, own, own-operations, Call, Format, Check, Read-page, Write-page, Run, make, Store, Nothing, remembered, noted-records, held, Tells, One-for-each, read-bound, write-bound, Reads-well, Writes-well}
+use Rattle.promises.specs.Grounds.{Ground, Right, Refuses, Refusal, format-grounds, check-grounds, single-grounds, run-grounds}
+use Rattle.promises.specs.Refused.{Demand-1-record, own, own-operations}
+use Rattle.promises.specs.Remembered.{Call, Format, Check, Read-page, Write-page, Run, make, Store, Nothing, remembered, noted-records, held}
+use Rattle.promises.specs.Demands.{Tells, One-for-each, read-bound, write-bound, Reads-well, Writes-well}
 use Rattle.contracts.specs.Faces.{Back, Face, Made, Trace, left-by, seen}
 
 -- ---- Demand 1: any input, one answer
 
--- What each refusal of a call is given for.
-abbrev pub page-grounds : Geometry → Bool → ℕ → List ℕ → State → Grounds
-page-grounds g fits l buffer s =
-    let sizes = state-sizes g s ++ buffer-sizes g buffer in
-    state-grounds g s (Fits sizes fits) (Misfits sizes fits) (g .L ≤ l)
-
-abbrev pub grounds : Geometry → Call → State → Grounds
-grounds g (Format fits) s = format-grounds g (Misfits (state-sizes g s) fits)
-grounds g (Check fits) s = state-grounds g s (Fits (state-sizes g s) fits) (Misfits (state-sizes g s) fits) ⊥
-grounds g (Read-page fits l buffer) s = page-grounds g fits l buffer s
-grounds g (Write-page fits l buffer) s = page-grounds g fits l buffer s
-grounds g (Run fits requests words answers) s =
-    let sizes = state-sizes g s ++ run-sizes g requests words answers in
-    state-grounds g s ((Right sizes × (length requests ≤ most-requests)) × (fits ≡ true))
-    ((Wrong sizes ⊎ (most-requests < length requests)) ⊎ (fits ≡ false)) ⊥
+-- What each refusal of a call is given for: the tables of the definitions' demand 1.
+abbrev pub grounds : Geometry → Call → State → List Ground
+grounds g (Format boundary) s = format-grounds g boundary s
+grounds g (Check boundary) s = check-grounds g boundary s
+grounds g (Read-page boundary l buffer) s = single-grounds g boundary (read-of l) buffer s
+grounds g (Write-page boundary l buffer) s = single-grounds g boundary (write-of l) buffer s
+grounds g (Run boundary requests words answers) s = run-grounds g boundary requests words answers s
 
 -- A run's outcome by what was handed back.
 abbrev pub handed-back : Back → Outcome RunReplied → Outcome RunReplied
@@ -47,32 +42,32 @@ pub record Demand-1-of (F : Face) (g : Geometry) (n : F .Node) (x : F .Lent) (co
   -- Each number exactly on its grounds, and no other; UNWRITTEN is a read's.
   pub refuses : Refuses (b .reply) (grounds g (F .call n x counts) (F .state n))
   pub unwritten-by-read : b .reply ≡ UNWRITTEN
-      → (fits : Bool) × (l : ℕ) × (buffer : List ℕ) × (F .call n x counts ≡ Read-page fits l buffer)
+      → (boundary : Bool) × (l : ℕ) × (buffer : List ℕ) × (F .call n x counts ≡ Read-page boundary l buffer)
   -- The table's "lent memory after" is "unchanged" and its counts are 0, 0, 0, "written whenever it has three".
-  pub unchanged : Refusal (b .reply) → (n′ ≡ n) × (b .counts ≡ put counts no-counts)
+  pub unchanged : Refusal (b .reply) → (n′ ≡ n) × (b .counts ≡ put-counts counts no-counts)
   -- "Read DONE fills the page buffer", and nothing else does: not UNWRITTEN, and no refusal.
-  pub read-keeps : (fits : Bool) (l : ℕ) (buffer : List ℕ) → F .call n x counts ≡ Read-page fits l buffer
+  pub read-keeps : (boundary : Bool) (l : ℕ) (buffer : List ℕ) → F .call n x counts ≡ Read-page boundary l buffer
       → b .reply ≢ DONE → b .words ≡ buffer
-  pub run-keeps : (fits : Bool) (requests : List Request) (words answers : List ℕ)
-      → F .call n x counts ≡ Run fits requests words answers → Refusal (b .reply) → (b .words ≡ words) × (b .answers ≡ answers)
+  pub run-keeps : (boundary : Bool) (requests : List Request) (words answers : List ℕ)
+      → F .call n x counts ≡ Run boundary requests words answers → Refusal (b .reply) → (b .words ≡ words) × (b .answers ≡ answers)
   -- "Each record gets its own number and the run goes on"; a refused one writes only its own answer.
-  pub record-of-run : (fits : Bool) (requests : List Request) (words answers : List ℕ) (i : ℕ)
-      → F .call n x counts ≡ Run fits requests words answers → b .reply ≡ DONE → i < length requests
-      → Demand-1-record g requests words answers (F .state n) (handed-back b (run g fits requests words answers (F .state n))) i
+  pub record-of-run : (boundary : Bool) (requests : List Request) (words answers : List ℕ) (i : ℕ)
+      → F .call n x counts ≡ Run boundary requests words answers → b .reply ≡ DONE → i < length requests
+      → Demand-1-record g requests words answers (F .state n) (handed-back b (run g boundary requests words answers (F .state n))) i
   -- "An empty run changes nothing", and neither does check.
-  pub empty-run : (fits : Bool) (words answers : List ℕ) → F .call n x counts ≡ Run fits [] words answers
-      → (n′ ≡ n) × (b .words ≡ words) × (b .answers ≡ answers) × (b .counts ≡ put counts no-counts)
-  pub check-unchanged : (fits : Bool) → F .call n x counts ≡ Check fits → (n′ ≡ n) × (b .counts ≡ put counts no-counts)
+  pub empty-run : (boundary : Bool) (words answers : List ℕ) → F .call n x counts ≡ Run boundary [] words answers
+      → (n′ ≡ n) × (b .words ≡ words) × (b .answers ≡ answers) × (b .counts ≡ put-counts counts no-counts)
+  pub check-unchanged : (boundary : Bool) → F .call n x counts ≡ Check boundary → (n′ ≡ n) × (b .counts ≡ put-counts counts no-counts)
 
 -- ---- Demand 2: reads give what was written
 
 -- The store is what a program remembers: a read tells what it holds, and so does each record of a run.
 pub record Demand-2-of (F : Face) (g : Geometry) (n : F .Node) (store : Store) (x : F .Lent) (counts : List ℕ) (b : Back) :
     Type 0 where
-  pub read-tells : (fits : Bool) (l : ℕ) (buffer : List ℕ) → F .call n x counts ≡ Read-page fits l buffer
+  pub read-tells : (boundary : Bool) (l : ℕ) (buffer : List ℕ) → F .call n x counts ≡ Read-page boundary l buffer
       → ¬ (Refusal (b .reply)) → Tells (store l) (b .reply) (b .words)
-  pub record-tells : (fits : Bool) (requests : List Request) (words answers : List ℕ) (i : ℕ)
-      → F .call n x counts ≡ Run fits requests words answers →
+  pub record-tells : (boundary : Bool) (requests : List Request) (words answers : List ℕ) (i : ℕ)
+      → F .call n x counts ≡ Run boundary requests words answers →
       let q = getD requests i no-request in
       let reply = getD (b .answers) i none in
       b .reply ≡ DONE → i < length requests → q .kind ≡ 0 → ¬ (Refusal reply)
@@ -110,12 +105,12 @@ pub record Demand-3-of (F : Face) (g : Geometry) (n : F .Node) (x : F .Lent) (co
       let reply = getD (b .answers) i none in
       let did = own g requests words answers (F .state n) i .did in
       q .page < g .L → (q .kind ≡ 0 → Reads-well g reply did) × (q .kind ≡ 1 → Writes-well g reply did)
-  pub run-counts : (fits : Bool) (requests : List Request) (words answers : List ℕ)
-      → F .call n x counts ≡ Run fits requests words answers → b .reply ≡ DONE
-      → b .counts ≡ put counts (counted (own-operations g requests words answers (F .state n) (length requests)))
+  pub run-counts : (boundary : Bool) (requests : List Request) (words answers : List ℕ)
+      → F .call n x counts ≡ Run boundary requests words answers → b .reply ≡ DONE
+      → b .counts ≡ put-counts counts (counted (own-operations g requests words answers (F .state n) (length requests)))
   -- "In every answer the three counts equal the reads, programs and erases among the listed steps that the call's definition makes",
   -- each step allowed at its moment.
-  pub counted : b .counts ≡ put counts (counted (make g (F .call n x counts) (F .state n) .did))
+  pub counted : b .counts ≡ put-counts counts (counted (make g (F .call n x counts) (F .state n) .did))
   pub allowed : Allowed g (make g (F .call n x counts) (F .state n) .did) (F .state n)
   pub clears : Clears-each g (make g (F .call n x counts) (F .state n) .did) (F .state n)
 

@@ -14,7 +14,7 @@ use Rattle.scope.specs.Requests.{replied}
 use Rattle.scope.specs.Calls.{run-replied, format, check, read, write, run}
 use Rattle.scope.specs.Boundary.{Words, right-words, requests-of, tf-format, tf-check, tf-read, tf-write, tf-run}
 use Rattle.scope.specs.Contracts.{Answers, Gives, right-lengths}
-use Rattle.promises.specs.Demands.{Call, Format, Check, Read-page, Write-page, Run, Answer, Event}
+use Rattle.promises.specs.Remembered.{Call, Format, Check, Read-page, Write-page, Run, Answer, Event}
 
 -- What a call hands back beside the node: its reply, the words of its page buffer or of a run's data buffer, a run's answers, and the
 -- slice of the counts, each as after the call. A field that the call has nothing for is any list.
@@ -40,22 +40,22 @@ pub record Face : Type 1 where
 
 -- The contract of a call whose Bool is the whole test of such lengths.
 abbrev pub Answered : Geometry → Call → List ℕ → State → Back → State → Type 0
-Answered g (Format fits) counts s b s′ = Answers (format g fits s) counts (b .reply) s′ (b .counts)
-Answered g (Check fits) counts s b s′ = Answers (check g fits s) counts (b .reply) s′ (b .counts)
-Answered g (Read-page fits l buffer) counts s b s′ =
-    Answers (read g fits l buffer s) counts (replied (b .words) (b .reply)) s′ (b .counts)
-Answered g (Write-page fits l buffer) counts s b s′ =
-    Answers (write g fits l buffer s) counts (replied buffer (b .reply)) s′ (b .counts)
-Answered g (Run fits requests words answers) counts s b s′ =
-    Answers (run g fits requests words answers s) counts (run-replied (b .words) (b .answers) (b .reply)) s′ (b .counts)
+Answered g (Format boundary) counts s b s′ = Answers (format g boundary s) counts (b .reply) s′ (b .counts)
+Answered g (Check boundary) counts s b s′ = Answers (check g boundary s) counts (b .reply) s′ (b .counts)
+Answered g (Read-page boundary l buffer) counts s b s′ =
+    Answers (read g boundary l buffer s) counts (replied (b .words) (b .reply)) s′ (b .counts)
+Answered g (Write-page boundary l buffer) counts s b s′ =
+    Answers (write g boundary l buffer s) counts (replied buffer (b .reply)) s′ (b .counts)
+Answered g (Run boundary requests words answers) counts s b s′ =
+    Answers (run g boundary requests words answers s) counts (run-replied (b .words) (b .answers) (b .reply)) s′ (b .counts)
 
 -- A call with its counts: their length is tested with the caller's own.
 abbrev pub with-counts : Call → List ℕ → Call
-with-counts (Format fits) counts = Format (right-lengths fits counts)
-with-counts (Check fits) counts = Check (right-lengths fits counts)
-with-counts (Read-page fits l buffer) counts = Read-page (right-lengths fits counts) l buffer
-with-counts (Write-page fits l buffer) counts = Write-page (right-lengths fits counts) l buffer
-with-counts (Run fits requests words answers) counts = Run (right-lengths fits counts) requests words answers
+with-counts (Format boundary) counts = Format (right-lengths boundary counts)
+with-counts (Check boundary) counts = Check (right-lengths boundary counts)
+with-counts (Read-page boundary l buffer) counts = Read-page (right-lengths boundary counts) l buffer
+with-counts (Write-page boundary l buffer) counts = Write-page (right-lengths boundary counts) l buffer
+with-counts (Run boundary requests words answers) counts = Run (right-lengths boundary counts) requests words answers
 
 abbrev pub rattle-face : Face
 rattle-face =
@@ -153,11 +153,11 @@ left-by F n (m ∷ ms) = left-by F (m .after) ms
 
 -- What a program sees of a trace: the calls with their answers.
 abbrev pub answer-to : Call → Back → Answer
-answer-to (Format fits) b = record { reply = b .reply; answers = [] }
-answer-to (Check fits) b = record { reply = b .reply; answers = [] }
-answer-to (Read-page fits l buffer) b = record { reply = b .reply; answers = [] }
-answer-to (Write-page fits l buffer) b = record { reply = b .reply; answers = [] }
-answer-to (Run fits requests words answers) b = record { reply = b .reply; answers = b .answers }
+answer-to (Format boundary) b = record { reply = b .reply; answers = [] }
+answer-to (Check boundary) b = record { reply = b .reply; answers = [] }
+answer-to (Read-page boundary l buffer) b = record { reply = b .reply; answers = [] }
+answer-to (Write-page boundary l buffer) b = record { reply = b .reply; answers = [] }
+answer-to (Run boundary requests words answers) b = record { reply = b .reply; answers = b .answers }
 
 abbrev pub seen : (F : Face) → F .Node → List (Made F) → List Event
 seen F n [] = []

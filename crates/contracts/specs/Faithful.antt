@@ -15,18 +15,18 @@ use Rattle.scope.specs.Lent.{State}
 use Rattle.scope.specs.Operations.{Step, Outcome}
 use Rattle.scope.specs.Boundary.{Words, counts-words, in-words, right-words, tf-format, tf-check, tf-read, tf-write, tf-run}
 use Rattle.scope.specs.Contracts.{Answers, Gives, right-lengths}
-use Rattle.scope.specs.Laws.SmallRecord.{record-stored, record-kept}
+use Rattle.scope.specs.Laws.SmallRecord.{record-stored, record-words-kept}
 use Rattle.flash.specs.Cases.{and-true, true-and}
-use Rattle.promises.specs.Demands.{Call, Format, Check, Read-page, Write-page, Run, make}
+use Rattle.promises.specs.Remembered.{Call, Format, Check, Read-page, Write-page, Run, make}
 use Rattle.contracts.specs.Faces.{Back, Face, Answered, with-counts, rattle-face, Slices, lend, In-words, Tf-format, Tf-check, Tf-read, Tf-write, Tf-run, call-in-words, Given, state-of-slices, c-face}
 
 -- The Bool of a call: whether the lengths are right that no state has.
-abbrev pub fits-of : Call → Bool
-fits-of (Format fits) = fits
-fits-of (Check fits) = fits
-fits-of (Read-page fits l buffer) = fits
-fits-of (Write-page fits l buffer) = fits
-fits-of (Run fits requests words answers) = fits
+abbrev pub boundary-of : Call → Bool
+boundary-of (Format boundary) = boundary
+boundary-of (Check boundary) = boundary
+boundary-of (Read-page boundary l buffer) = boundary
+boundary-of (Write-page boundary l buffer) = boundary
+boundary-of (Run boundary requests words answers) = boundary
 
 -- What an outcome that a contract allows is.
 pub record Says (F : Face) (g : Geometry) (x : F .Lent) (counts : List ℕ) (n : F .Node) (b : Back) (n′ : F .Node) : Type 0 where
@@ -43,13 +43,13 @@ pub record Faithful (F : Face) (g : Geometry) : Type 0 where
   pub says : (x : F .Lent) (counts : List ℕ) (n : F .Node) (b : Back) (n′ : F .Node) → F .Contract g x counts n b n′
       → Says F g x counts n b n′
   -- The length of the counts is tested.
-  pub three : (x : F .Lent) (counts : List ℕ) (n : F .Node) → fits-of (F .call n x counts) ≡ true → length counts ≡ counts-words
+  pub three : (x : F .Lent) (counts : List ℕ) (n : F .Node) → boundary-of (F .call n x counts) ≡ true → length counts ≡ counts-words
 
 -- ---- Rattle
 
-counts-tested : (fits : Bool) (counts : List ℕ) → right-lengths fits counts ≡ true → length counts ≡ counts-words
-counts-tested fits counts e =
-    eqb-true (length counts) counts-words (and-true fits (eqb (length counts) counts-words) e .1)
+counts-tested : (boundary : Bool) (counts : List ℕ) → right-lengths boundary counts ≡ true → length counts ≡ counts-words
+counts-tested boundary counts e =
+    eqb-true (length counts) counts-words (and-true boundary (eqb (length counts) counts-words) e .1)
 
 -- The state of an outcome is the definition's.
 answers-after : {A : Type 0} {o : Outcome A} {counts : List ℕ} {x : A} {s′ : State} {counts′ : List ℕ}
@@ -58,18 +58,18 @@ answers-after a = record { value = a .value; after = refl; counted = a .counted 
 
 answered-made : (g : Geometry) (c : Call) (counts : List ℕ) (s : State) (b : Back) (s′ : State) → Answered g c counts s b s′
     → Answered g c counts s b (make g c s .after) × (make g c s .after ≡ s′)
-answered-made g (Format fits) counts s b s′ a = (answers-after a, a .after)
-answered-made g (Check fits) counts s b s′ a = (answers-after a, a .after)
-answered-made g (Read-page fits l buffer) counts s b s′ a = (answers-after a, a .after)
-answered-made g (Write-page fits l buffer) counts s b s′ a = (answers-after a, a .after)
-answered-made g (Run fits requests words answers) counts s b s′ a = (answers-after a, a .after)
+answered-made g (Format boundary) counts s b s′ a = (answers-after a, a .after)
+answered-made g (Check boundary) counts s b s′ a = (answers-after a, a .after)
+answered-made g (Read-page boundary l buffer) counts s b s′ a = (answers-after a, a .after)
+answered-made g (Write-page boundary l buffer) counts s b s′ a = (answers-after a, a .after)
+answered-made g (Run boundary requests words answers) counts s b s′ a = (answers-after a, a .after)
 
-three-of : (c : Call) (counts : List ℕ) → fits-of (with-counts c counts) ≡ true → length counts ≡ counts-words
-three-of (Format fits) counts e = counts-tested fits counts e
-three-of (Check fits) counts e = counts-tested fits counts e
-three-of (Read-page fits l buffer) counts e = counts-tested fits counts e
-three-of (Write-page fits l buffer) counts e = counts-tested fits counts e
-three-of (Run fits requests words answers) counts e = counts-tested fits counts e
+three-of : (c : Call) (counts : List ℕ) → boundary-of (with-counts c counts) ≡ true → length counts ≡ counts-words
+three-of (Format boundary) counts e = counts-tested boundary counts e
+three-of (Check boundary) counts e = counts-tested boundary counts e
+three-of (Read-page boundary l buffer) counts e = counts-tested boundary counts e
+three-of (Write-page boundary l buffer) counts e = counts-tested boundary counts e
+three-of (Run boundary requests words answers) counts e = counts-tested boundary counts e
 
 pub rattle-faithful : (g : Geometry) → Faithful rattle-face g
 rattle-faithful g =
@@ -132,7 +132,7 @@ given-down g (Tf-read l buffer) counts n b n′ a = let d = comes-down _ n count
 given-down g (Tf-write l buffer) counts n b n′ a = let d = comes-down _ n counts a in (d .answers, d .stored)
 given-down g (Tf-run requests words answers) counts n b n′ a = let d = comes-down _ n counts a in (d .answers, d .stored)
 
-words-tested : (x : In-words) (counts : List ℕ) (n : Slices) → fits-of (call-in-words n x counts) ≡ true
+words-tested : (x : In-words) (counts : List ℕ) (n : Slices) → boundary-of (call-in-words n x counts) ≡ true
     → length counts ≡ counts-words
 words-tested Tf-format counts n e = right-words-exactly n counts .0 e .1
 words-tested Tf-check counts n e = right-words-exactly n counts .0 e .1
@@ -159,7 +159,7 @@ slices-kept n =
       directory = n .directory;
       cache = n .cache;
       small = words;
-    }) (record-kept (n .small))
+    }) (record-words-kept (n .small))
 
 pub c-faithful : (g : Geometry) → Faithful c-face g
 c-faithful g =

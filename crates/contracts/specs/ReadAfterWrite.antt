@@ -21,7 +21,9 @@ use Rattle.scope.specs.Calls.{run-sizes, part, run-replied, write}
 use Rattle.scope.specs.Boundary.{counts-words, right-words, words-of-counts, tf-read, tf-write, tf-run, requests-of}
 use Rattle.scope.specs.Contracts.{Gives}
 use Rattle.flash.specs.Cases.{true-and}
-use Rattle.promises.specs.Demands.{Right, Refusal, Held, Words, Nothing, held, Tells, Read-page, Write-page, Run, write-bound, read-bound}
+use Rattle.promises.specs.Grounds.{Right, Refusal}
+use Rattle.promises.specs.Remembered.{Held, Holding, Nothing, held, Read-page, Write-page, Run}
+use Rattle.promises.specs.Demands.{Tells, write-bound, read-bound}
 use Rattle.contracts.specs.Faces.{Back, Slices, lend, state-of-slices, Tf-read, Tf-write, Tf-run, c-face}
 use Rattle.contracts.specs.ContractDemands.{sum, Node-kept, Demands-after, Demand-3-of}
 use Rattle.contracts.specs.Faithful.{right-words-exactly}
@@ -29,14 +31,14 @@ use Rattle.contracts.specs.Theorems.{c-calls-meet}
 
 -- What tells of words that were written is DONE, with those words.
 abbrev words-in : List ℕ → Held → List ℕ
-words-in other (Words words) = words
+words-in other (Holding words) = words
 words-in other Nothing = other
 
 abbrev Is-words : Held → Type 0
-Is-words (Words words) = Unit {0}
+Is-words (Holding words) = Unit {0}
 Is-words Nothing = ⊥
 
-told-words : (words : List ℕ) {content : Held} (reply : ℕ) (buffer : List ℕ) → content ≡ Words words → Tells content reply buffer
+told-words : (words : List ℕ) {content : Held} (reply : ℕ) (buffer : List ℕ) → content ≡ Holding words → Tells content reply buffer
     → (reply ≡ DONE) × (buffer ≡ words)
 told-words words reply buffer e (inl (done, is)) = (done, sym (ap (words-in words) (sym e ∙ is)))
 told-words words reply buffer e (inr (unwritten, is)) = absurd (subst Is-words (sym e ∙ is) tt)
@@ -53,8 +55,8 @@ module _ {g : Geometry} (ok : Accepted g) where
 
   module _ (n : Slices) (kept : Node-kept c-face g n) (l : ℕ) (below : l < g .L) (buffer counts : List ℕ)
       (long : length buffer ≡ g .W) (three : length counts ≡ counts-words) (reply : ℕ) (n′ : Slices) (counts′ : List ℕ) where
-    fits : right-words (lend n counts) ≡ true
-    fits = right-words-exactly n counts .1 (kept .formed, three)
+    words-right : right-words (lend n counts) ≡ true
+    words-right = right-words-exactly n counts .1 (kept .formed, three)
 
     write-meets : Gives (tf-write g l (lend n counts) buffer) (replied buffer reply) (lend n′ counts′)
         → Demand-3-of c-face g n (Tf-write l buffer) counts (handed reply [] [] counts′)
@@ -63,12 +65,12 @@ module _ {g : Geometry} (ok : Accepted g) where
 
     pub write-is-done : Gives (tf-write g l (lend n counts) buffer) (replied buffer reply) (lend n′ counts′)
         → (reply ≡ DONE) × (sum counts′ ≤ write-bound g)
-    write-is-done wrote = write-meets wrote .writes-well l buffer (ap (λ b. Write-page b l buffer) fits) below (long, tt)
+    write-is-done wrote = write-meets wrote .writes-well l buffer (ap (λ b. Write-page b l buffer) words-right) below (long, tt)
 
     pub write-counts-are-listed : Gives (tf-write g l (lend n counts) buffer) (replied buffer reply) (lend n′ counts′)
         → counts′ ≡ words-of-counts (counted (write g true l buffer (state-of-slices n) .did))
     write-counts-are-listed wrote =
-        subst (λ b. counts′ ≡ words-of-counts (counted (write g b l buffer (state-of-slices n) .did))) fits
+        subst (λ b. counts′ ≡ words-of-counts (counted (write g b l buffer (state-of-slices n) .did))) words-right
         (write-meets wrote .counted ∙ rw (eq-eqb (length counts) counts-words three) refl)
 
     pub read-is-answered : (buffer′ : List ℕ)
@@ -76,7 +78,7 @@ module _ {g : Geometry} (ok : Accepted g) where
         → ((reply ≡ DONE) ⊎ (reply ≡ UNWRITTEN)) × (sum counts′ ≤ read-bound g)
     read-is-answered buffer′ gave =
         c-calls-meet g .demands-after ok n kept [] tt .demand-3 (Tf-read l buffer) counts (handed reply buffer′ [] counts′) n′ gave
-        .reads-well l buffer (ap (λ b. Read-page b l buffer) fits) below (long, tt)
+        .reads-well l buffer (ap (λ b. Read-page b l buffer) words-right) below (long, tt)
 
   -- ---- a write, and then a read
 
@@ -90,7 +92,7 @@ module _ {g : Geometry} (ok : Accepted g) where
         (record { lent = Tf-write l buffer; counts = counts; back = handed reply [] [] counts′; after = n′ } ∷ [])
     after-write = c-calls-meet g .demands-after ok n kept _ (wrote, tt)
 
-    told : Tells (cond (eqb k l) (Words buffer) (held g (state-of-slices n) k)) reply′ page′
+    told : Tells (cond (eqb k l) (Holding buffer) (held g (state-of-slices n) k)) reply′ page′
     told =
         let (answered, _) = read-is-answered n′ (after-write .node) k k-below page later page-long later-three reply′ n″ later′
         page′ gave in
@@ -121,8 +123,8 @@ module _ {g : Geometry} (ok : Accepted g) where
     abbrev requests : List Request
     requests = requests-of (1 ∷ l ∷ 0 ∷ l ∷ [])
 
-    run-fits : (right-words (lend n counts) && true) ≡ true
-    run-fits = true-and (right-words-exactly n counts .1 (kept .formed, three)) refl
+    run-words-right : (right-words (lend n counts) && true) ≡ true
+    run-words-right = true-and (right-words-exactly n counts .1 (kept .formed, three)) refl
 
     after-nothing : Demands-after c-face g n []
     after-nothing = c-calls-meet g .demands-after ok n kept [] tt
@@ -133,7 +135,7 @@ module _ {g : Geometry} (ok : Accepted g) where
     second-record-reads =
         let back = handed reply words′ answers′ counts′ in
         let lent = Tf-run (1 ∷ l ∷ 0 ∷ l ∷ []) words answers in
-        let is = ap (λ fits. Run fits requests words answers) run-fits in
+        let is = ap (λ words-right. Run words-right requests words answers) run-words-right in
         let d3 = after-nothing .demand-3 lent counts back n′ ran in
         let right : Right (run-sizes g requests words answers) = (words-long, (answers-long, tt)) in
         let done = d3 .runs-well requests words answers is right (omega arith) in

@@ -15,22 +15,25 @@ use Rattle.scope.specs.Operations.{Operation, Outcome, Counts, counted, give}
 use Rattle.scope.specs.Requests.{Replied}
 use Rattle.scope.specs.Replies.{DONE, UNWRITTEN}
 use Rattle.scope.specs.Calls.{state-sizes, buffer-sizes, RunReplied, part, no-request, read, write, run}
-use Rattle.scope.specs.Boundary.{counts-words, put, words-of-counts}
+use Rattle.scope.specs.Boundary.{counts-words, put-counts, words-of-counts}
 use Rattle.flash.specs.Listed.{total, Allowed}
 use Rattle.flash.specs.Clearing.{Clears-each}
-use Rattle.promises.specs.Demands.{Right, Refusal, own, own-operations, Call, Format, Check, Read-page, Write-page, Run, make, after-calls, history, Event, remembered, noted-records, Store, Nothing, held, Tells, One-for-each, Demand-3, Reads-well, Writes-well}
-use Rattle.promises.specs.Refusals.{check-tested}
+use Rattle.promises.specs.Grounds.{Right, Refusal}
+use Rattle.promises.specs.Refused.{own, own-operations}
+use Rattle.promises.specs.Remembered.{Call, Format, Check, Read-page, Write-page, Run, make, after-calls, history, Event, remembered, noted-records, Store, Nothing, held}
+use Rattle.promises.specs.Demands.{Tells, One-for-each, Demand-3, Reads-well, Writes-well}
+use Rattle.promises.specs.Refusals.{check-by-grounds}
 use Rattle.promises.specs.Demand1.{demand-1}
 use Rattle.promises.specs.Sequences.{demand-2, demand-3, formats}
 use Rattle.contracts.specs.Faces.{Back, Face, Answered, Made, Trace, left-by, seen}
 use Rattle.contracts.specs.ContractDemands.{sum, Read-in-bounds, Write-in-bounds, Demand-2-of, Demand-3-of, Node-kept, Demands-after, Formats-of}
-use Rattle.contracts.specs.Faithful.{Faithful, fits-of}
+use Rattle.contracts.specs.Faithful.{Faithful, boundary-of}
 use Rattle.contracts.specs.AnyOutcome.{answer-is, counts-are, known}
 
 -- ---- counts
 
 -- Three words hold the counts, and their sum is what demand 3 bounds.
-module _ (counts counts′ : List ℕ) (c : Counts) (three : length counts ≡ counts-words) (is : counts′ ≡ put counts c) where
+module _ (counts counts′ : List ℕ) (c : Counts) (three : length counts ≡ counts-words) (is : counts′ ≡ put-counts counts c) where
   put-three : counts′ ≡ words-of-counts c
   put-three = is ∙ rw (eq-eqb (length counts) counts-words three) refl
 
@@ -119,25 +122,25 @@ module _ {F : Face} {g : Geometry} (faithful : Faithful F g) where
       is : {c : Call} → call ≡ c → Answered g c counts s b (make g call s .after)
       is e = known faithful x counts now b n′ contract e
 
-      counted-as : {c : Call} → call ≡ c → b .counts ≡ put counts (counted (make g c s .did))
+      counted-as : {c : Call} → call ≡ c → b .counts ≡ put-counts counts (counted (make g c s .did))
       counted-as {c} e = counts-are g counts s b (make g call s .after) c (is e)
 
-      costs : {c : Call} → call ≡ c → fits-of c ≡ true → sum (b .counts) ≡ total (counted (make g c s .did))
-      costs {c} e fits =
+      costs : {c : Call} → call ≡ c → boundary-of c ≡ true → sum (b .counts) ≡ total (counted (make g c s .did))
+      costs {c} e boundary =
           sum-three counts (b .counts) (counted (make g c s .did))
-          (faithful .three x counts now (subst (λ (c : Call). fits-of c ≡ true) (sym e) fits)) (counted-as e)
+          (faithful .three x counts now (subst (λ (c : Call). boundary-of c ≡ true) (sym e) boundary)) (counted-as e)
 
       tells : Demand-2-of F g now store x counts b
       tells =
           let d2 = demand-2 ok (F .state n) (kept .lengths) (kept .sound) calls in
           record {
-            read-tells = λ fits l buffer e.
+            read-tells = λ boundary l buffer e.
                 subst (Told (seen F n ms) l) (is e .value)
-                (carried (λ t events. Told events l (read g fits l buffer t .value)) (d2 .read-tells fits l buffer));
-            record-tells = λ fits requests words answers i e.
+                (carried (λ t events. Told events l (read g boundary l buffer t .value)) (d2 .read-tells boundary l buffer));
+            record-tells = λ boundary requests words answers i e.
                 subst (Record-told requests words i (seen F n ms)) (is e .value)
-                (carried (λ t events. Record-told requests words i events (run g fits requests words answers t .value))
-                (d2 .record-tells fits requests words answers i));
+                (carried (λ t events. Record-told requests words i events (run g boundary requests words answers t .value))
+                (d2 .record-tells boundary requests words answers i));
           }
 
       module _ (l : ℕ) (buffer : List ℕ) (below : l < g .L) (long : Right (buffer-sizes g buffer)) where
@@ -164,7 +167,7 @@ module _ {F : Face} {g : Geometry} (faithful : Faithful F g) where
       checks-well e =
           sym (is e .value)
           ∙ ap (λ (o : Outcome ℕ). o .value)
-          (check-tested g true s .serves (ok, ((node-kept .lengths, refl), (node-kept .sound, tt))))
+          (check-by-grounds g true s .serves (ok, ((node-kept .lengths, refl), (node-kept .sound, tt))))
 
       abbrev Record-well : List Request → List ℕ → List ℕ → ℕ → State → RunReplied → Type 0
       Record-well requests words answers i t r =
@@ -173,13 +176,13 @@ module _ {F : Face} {g : Geometry} (faithful : Faithful F g) where
           let did = own g requests words answers t i .did in
           q .page < g .L → (q .kind ≡ 0 → Reads-well g reply did) × (q .kind ≡ 1 → Writes-well g reply did)
 
-      run-counts : (fits : Bool) (requests : List Request) (words answers : List ℕ) → call ≡ Run fits requests words answers
+      run-counts : (boundary : Bool) (requests : List Request) (words answers : List ℕ) → call ≡ Run boundary requests words answers
           → b .reply ≡ DONE
-          → b .counts ≡ put counts (counted (own-operations g requests words answers s (length requests)))
-      run-counts fits requests words answers e done =
+          → b .counts ≡ put-counts counts (counted (own-operations g requests words answers s (length requests)))
+      run-counts boundary requests words answers e done =
           counted-as e
-          ∙ ap (λ (os : List Operation). put counts (counted os))
-          (demand-1 g s .run-operations fits requests words answers
+          ∙ ap (λ (os : List Operation). put-counts counts (counted os))
+          (demand-1 g s .run-operations boundary requests words answers
           (ap (λ (r : RunReplied). r .reply) (is e .value) ∙ done))
 
       serves : Demand-3-of F g now x counts b
@@ -221,7 +224,7 @@ module _ {F : Face} {g : Geometry} (faithful : Faithful F g) where
       let a = known faithful x counts n b n′ contract e in
       let says = faithful .says x counts n b n′ contract in
       let left = ap (λ (c : Call). make g c (F .state n) .after) (sym e) ∙ says .after formed in
-      let three = faithful .three x counts n (ap fits-of e) in
+      let three = faithful .three x counts n (ap boundary-of e) in
       record {
         done = sym (a .value) ∙ f .done;
         node =

@@ -1,3 +1,2 @@
 -- The modules of this crate.
-pub mod Served
 pub mod Outcomes

@@ -1,22 +1,14 @@
-// The public face of the library for Rattle: the five calls over a small record that is lent and changed in place, and a run over a lent
-// slice of requests. No call has a `requires`, and each contract cites the call's definition, so that it settles the reply, the record,
-// every lent list and the counts for every input. A body only copies the record, hands it on by value and stores what comes back: all that
-// is tested and done is in crate calls. The bodies have the shapes of tools/walks, which prints their proofs.
-mod served;
-
-use crate::served::serve_all;
-use calls::run::Request;
-use calls::run::begin;
-use calls::run::finish;
+// The public face of the library for Rattle: format, check, read and write over a small record that is lent and changed in place; crate
+// facerun has the fifth call, the run. No call has a `requires`, and each contract cites the call's definition, so that it settles the reply,
+// the record, every lent list and the counts for every input. A body only copies the record, hands it on by value and stores what comes
+// back: all that is tested and done is in crate calls. The bodies have the shapes of tools/walks, which prints their proofs.
 use lent::Geometry;
 use lent::Record;
 ghost use mathlib.Core.Bool.{true};
-ghost use mathlib.Core.List.{map};
 ghost use Rattle.lent.specs.Model.{geometry, state};
 ghost use Rattle.scope.specs.Requests.{replied};
-ghost use Rattle.scope.specs.Calls.{run-replied, format, check, read, write, run};
+ghost use Rattle.scope.specs.Calls.{format, check, read, write};
 ghost use Rattle.scope.specs.Contracts.{Answers, right-lengths};
-ghost use Rattle.calls.specs.Run.{request};
 
 // The old state isn't tested.
 pub fn format(
@@ -130,66 +122,6 @@ pub fn write(
         buffer,
         counts,
     );
-    *rec = out.rec;
-    out.answer
-}
-
-// Serves the requests in their order, once the state has been tested, each with its own answer.
-pub fn run(
-    rec: &mut Record,
-    g: Geometry,
-    requests: &[Request],
-    chip: &mut [u32],
-    spare: &mut [u32],
-    directory: &mut [u32],
-    cache: &mut [u32],
-    words: &mut [u32],
-    answers: &mut [u32],
-    counts: &mut [u32],
-) -> u32
-    ensures { λ r. ⌜ Answers
-        (run (geometry g) (right-lengths true (now (counts .entry))) (map request (now (requests .entry))) (now (words .entry)) (now (answers .entry))
-        (state (now (chip .entry)) (now (spare .entry)) (now (directory .entry)) (now (cache .entry)) (now (rec .entry))))
-        (now (counts .entry)) (run-replied (now (words .exit)) (now (answers .exit)) r)
-        (state (now (chip .exit)) (now (spare .exit)) (now (directory .exit)) (now (cache .exit)) (now (rec .exit)))
-        (now (counts .exit)) ⌝ }
-{
-    let r = *rec;
-    let n = requests.len();
-    let words_len = words.len();
-    let answers_len = answers.len();
-    let counts_len = counts.len();
-    let mut census = [0u32; 1024];
-    let mut filter = [0u64; 1024];
-    let first = begin(
-        r,
-        true,
-        n,
-        g,
-        words_len,
-        answers_len,
-        counts_len,
-        chip,
-        spare,
-        directory,
-        cache,
-        &mut census,
-        &mut filter,
-    );
-    let last = serve_all(
-        first,
-        requests,
-        g,
-        chip,
-        spare,
-        directory,
-        cache,
-        &mut census,
-        &mut filter,
-        words,
-        answers,
-    );
-    let out = finish(last, counts);
     *rec = out.rec;
     out.answer
 }

@@ -1,8 +1,11 @@
 -- The demands, and their proofs from the laws of the steps up.
+pub mod Grounds
+pub mod Refused
+pub mod Remembered
 pub mod Demands
 -- Demand 1.
 pub mod Tests
-pub mod Reasons
+pub mod GroundsDecided
 pub mod Refusals
 pub mod Records
 pub mod Demand1

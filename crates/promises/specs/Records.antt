@@ -17,12 +17,12 @@ use Rattle.scope.specs.Room.{read-page}
 use Rattle.scope.specs.Steps.{translate}
 use Rattle.scope.specs.Replies.{DONE, UNWRITTEN}
 use Rattle.scope.specs.Requests.{Replied, replied, read-place, read-steps}
-use Rattle.scope.specs.Calls.{RunReplied, part, no-request, serve, serve-record, serve-records}
+use Rattle.scope.specs.Calls.{RunReplied, part, no-request, serve, answer-record, serve-record, serve-records}
 use Rattle.flash.specs.Cases.{on, last, below?}
 use Rattle.flash.specs.Stores.{getD-sets-outside, slot-same}
 use Rattle.flash.specs.Words.{words-same}
-use Rattle.promises.specs.Demands.{before-record, own}
-use Rattle.promises.specs.Refusals.{read-reply, write-reply, answered, record-tested}
+use Rattle.promises.specs.Refused.{before-record, own}
+use Rattle.promises.specs.Refusals.{read-reply, write-reply, record-by-grounds}
 
 -- ---- one record
 
@@ -30,7 +30,7 @@ use Rattle.promises.specs.Refusals.{read-reply, write-reply, answered, r
 abbrev pub answer-of : Geometry → List Request → List ℕ → List ℕ → State → ℕ → Outcome Replied
 answer-of g requests words answers s i =
     let before = before-record g requests words answers s i in
-    answered g i (getD requests i no-request) (before .value .words) (before .after)
+    answer-record g (getD requests i no-request) (part g i (before .value .words)) (before .after)
 
 -- A record stores its answer and the words of its buffer, and adds its operations.
 pub record Stored (g : Geometry) (i : ℕ) (lent : RunReplied) (a : Outcome Replied) (o : Outcome RunReplied) : Type 0 where
@@ -40,8 +40,8 @@ pub record Stored (g : Geometry) (i : ℕ) (lent : RunReplied) (a : Outcome Repl
   pub operations : o .did ≡ a .did ++ []
 
 pub record-stores : (g : Geometry) (i : ℕ) (q : Request) (lent : RunReplied) (s : State)
-    → Stored g i lent (answered g i q (lent .words) s) (serve-record g i q lent s)
-unfolding serve-record answered give _>>=_
+    → Stored g i lent (answer-record g q (part g i (lent .words)) s) (serve-record g i q lent s)
+unfolding serve-record give _>>=_
 record-stores g i q lent s = record { words = refl; answers = refl; state = refl; operations = refl }
 
 -- Its buffer has at most W words, and so lies in its own part.
@@ -64,30 +64,27 @@ serve-at-most g q buffer s h =
     place-at-most g buffer (decode (physical-at (t .value) (t .after .cache))) (t .after) h))
     (λ e. rw (e, write-reply g (q .page) buffer s) h)
 
-answer-at-most : (g : Geometry) (i : ℕ) (q : Request) (words : List ℕ) (s : State)
-    → length (answered g i q words s .value .buffer) ≤ g .W
+answer-at-most : (g : Geometry) (q : Request) (buffer : List ℕ) (s : State) → length buffer ≤ g .W
+    → length (answer-record g q buffer s .value .buffer) ≤ g .W
 unfolding give
-answer-at-most g i q words s =
-    let t = record-tested g i q words s in
-    below? UNWRITTEN (answered g i q words s .value .reply)
-    (λ h. rw (t .refuses h) (part-at-most g i words))
-    (λ h. rw (t .served h .1) (serve-at-most g q (part g i words) s (part-at-most g i words)))
+answer-at-most g q buffer s k =
+    let t = record-by-grounds g q buffer s in
+    below? UNWRITTEN (answer-record g q buffer s .value .reply)
+    (λ h. rw (t .refuses h) k)
+    (λ h. rw (t .served h .1) (serve-at-most g q buffer s k))
 
 -- "The words of an UNWRITTEN or refused read stay", and so do a write's.
-answer-keeps : (g : Geometry) (i : ℕ) (q : Request) (words : List ℕ) (s : State)
-    → (answered g i q words s .value .reply ≢ DONE) ⊎ (q .kind ≢ 0) → answered g i q words s .value .buffer ≡ part g i words
+answer-keeps : (g : Geometry) (q : Request) (buffer : List ℕ) (s : State)
+    → (answer-record g q buffer s .value .reply ≢ DONE) ⊎ (q .kind ≢ 0) → answer-record g q buffer s .value .buffer ≡ buffer
 unfolding serve give
-answer-keeps g i q words s h =
-    let t = record-tested g i q words s in
-    below? UNWRITTEN (answered g i q words s .value .reply)
+answer-keeps g q buffer s h =
+    let t = record-by-grounds g q buffer s in
+    below? UNWRITTEN (o .value .reply)
     (λ k. ap (λ o. o .value .buffer) (t .refuses k))
     (λ k. on (eqb (q .kind) 0) (λ e. reads e (t .served k .1)) (λ e. writes e (t .served k .1)))
   where
     o : Outcome Replied
-    o = answered g i q words s
-
-    buffer : List ℕ
-    buffer = part g i words
+    o = answer-record g q buffer s
 
     writes : eqb (q .kind) 0 ≡ false → o ≡ serve g q buffer s → o .value .buffer ≡ buffer
     writes e is = rw (is, e) (ap (λ r. r .buffer) (write-reply g (q .page) buffer s))
@@ -156,7 +153,8 @@ module _ (g : Geometry) (requests : List Request) (words answers : List ℕ) (s 
   own-at-most : (n : ℕ) → length (answer-of g requests words answers s n .value .buffer) ≤ g .W
   own-at-most n =
       let before = before-record g requests words answers s n in
-      answer-at-most g n (getD requests n no-request) (before .value .words) (before .after)
+      answer-at-most g (getD requests n no-request) (part g n (before .value .words)) (before .after)
+      (part-at-most g n (before .value .words))
 
   length-answers : (n : ℕ) → length (before-record g requests words answers s n .value .answers) ≡ length answers
   unfolding serve-records give
@@ -221,7 +219,7 @@ module _ (g : Geometry) (requests : List Request) (words answers : List ℕ) (s 
       let before = before-record g requests words answers s i in
       own-stores i .words
       ∙ ap (λ (buffer : List ℕ). sets (before .value .words) (i * g .W) buffer)
-      (answer-keeps g i (getD requests i no-request) (before .value .words) (before .after) k)
+      (answer-keeps g (getD requests i no-request) (part g i (before .value .words)) (before .after) k)
       ∙ sets-same (g .W) (before .value .words) (i * g .W)
 
   pub kept-words : (n i : ℕ) → i < n

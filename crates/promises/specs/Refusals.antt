@@ -1,22 +1,25 @@
--- Demand 1 of the five calls and of a record of a run: the one law of Tests.antt at the reasons of each.
-use Prim.Native.Nat.{ℕ, zero, suc, _≤_}
+-- Demand 1 of the five calls and of a record of a run: the one law of Tests.antt at the grounds of each.
+use Prim.Native.Nat.{ℕ, zero, suc, _≤_, _<_}
 use mathlib.Core.Path.{_≡_, refl, ap}
 use mathlib.Core.Logic.{_⊎_, inl, inr}
-use mathlib.Core.Bool.{Bool}
-use mathlib.Core.List.{List}
+use mathlib.Core.Bool.{Bool, true}
+use mathlib.Core.List.{List, _++_}
 use native.Mathlib.Omega.{arith}
 use lib.Dec.{eqb}
 use lib.ListN.{length}
 use Rattle.flash.specs.Cases.{on}
-use Rattle.scope.specs.Geometry.{Geometry}
+use Rattle.scope.specs.Geometry.{Geometry, Accepted}
+use Rattle.scope.specs.SmallRecord.{SmallRecord}
 use Rattle.scope.specs.Lent.{Entry, Place, Nowhere, decode, State, Request, physical-at}
-use Rattle.scope.specs.Operations.{Step, give, look, _>>=_}
+use Rattle.scope.specs.Sound.{Sound}
+use Rattle.scope.specs.Operations.{give, look, _>>=_}
 use Rattle.scope.specs.Steps.{translate}
-use Rattle.scope.specs.Replies.{DONE, UNWRITTEN, admit}
+use Rattle.scope.specs.Replies.{DONE, UNWRITTEN}
 use Rattle.scope.specs.Requests.{Replied, replied, read-place, read-steps, write-steps, format-steps}
-use Rattle.scope.specs.Calls.{record-tests, run-replied, part, serve, serve-record, serve-records, format, check, read, write, run}
-use Rattle.promises.specs.Tests.{Tested, tested}
-use Rattle.promises.specs.Reasons.{record-reasons, format-reasons, check-reasons, page-reasons, run-reasons}
+use Rattle.scope.specs.Calls.{state-sizes, buffer-sizes, read-of, write-of, run-replied, serve, answer-record, serve-record, serve-records, format, check, read, write, run}
+use Rattle.promises.specs.Grounds.{Right, request-grounds, format-grounds, check-grounds, single-grounds, run-grounds}
+use Rattle.promises.specs.Tests.{All-passed, By-grounds, by-grounds}
+use Rattle.promises.specs.GroundsDecided.{request-decided, format-decided, check-decided, single-decided, run-decided}
 
 -- ---- what the steps reply
 
@@ -66,51 +69,73 @@ run-reply g requests (suc n) words answers s = refl
 
 -- ---- a record of a run
 
--- A record's own answer, before it is stored: its tests and its steps on its own words.
-unfoldable pub answered : Geometry → ℕ → Request → List ℕ → Step Replied
-answered g i q words = admit (record-tests g q) (replied (part g i words)) (serve g q (part g i words))
+pub record-by-grounds : (g : Geometry) (q : Request) (buffer : List ℕ) (s : State)
+    → By-grounds (request-grounds g (s .small) q) (λ r. r .reply) (replied buffer) (serve g q buffer) s (answer-record g q buffer s)
+unfolding answer-record look _>>=_
+record-by-grounds g q buffer s =
+    by-grounds (request-grounds g (s .small) q) (request-decided g (s .small) q) (omega arith) (λ r. r .reply) (replied buffer)
+    (serve g q buffer) s (λ n. refl) (serve-within g q buffer s)
 
-pub record-tested : (g : Geometry) (i : ℕ) (q : Request) (words : List ℕ) (s : State)
-    → Tested (record-reasons g q) (λ r. r .reply) (replied (part g i words)) (serve g q (part g i words)) s
-    (answered g i q words s)
-unfolding answered
-record-tested g i q words s =
-    tested (record-reasons g q) (omega arith) (λ r. r .reply) (replied (part g i words)) (serve g q (part g i words)) s
-    (λ n. refl) (serve-within g q (part g i words) s)
+-- ---- the calls
 
-pub format-tested : (g : Geometry) (boundary : Bool) (s : State)
-    → Tested (format-reasons g boundary s) (λ n. n) (λ n. n) (format-steps g) s (format g boundary s)
+pub format-by-grounds : (g : Geometry) (boundary : Bool) (s : State)
+    → By-grounds (format-grounds g boundary s) (λ n. n) (λ n. n) (format-steps g) s (format g boundary s)
 unfolding format look give _>>=_ format-steps
-format-tested g boundary s =
-    tested (format-reasons g boundary s) (omega arith) (λ n. n) (λ n. n) (format-steps g) s
+format-by-grounds g boundary s =
+    by-grounds (format-grounds g boundary s) (format-decided g boundary s) (omega arith) (λ n. n) (λ n. n) (format-steps g) s
     (λ n. refl) (omega arith)
 
-pub check-tested : (g : Geometry) (boundary : Bool) (s : State)
-    → Tested (check-reasons g boundary s) (λ n. n) (λ n. n) (give DONE) s (check g boundary s)
+pub check-by-grounds : (g : Geometry) (boundary : Bool) (s : State)
+    → By-grounds (check-grounds g boundary s) (λ n. n) (λ n. n) (give DONE) s (check g boundary s)
 unfolding check look give _>>=_
-check-tested g boundary s =
-    tested (check-reasons g boundary s) (omega arith) (λ n. n) (λ n. n) (give DONE) s (λ n. refl) (omega arith)
+check-by-grounds g boundary s =
+    by-grounds (check-grounds g boundary s) (check-decided g boundary s) (omega arith) (λ n. n) (λ n. n) (give DONE) s
+    (λ n. refl) (omega arith)
 
 module _ (g : Geometry) (boundary : Bool) (l : ℕ) (buffer : List ℕ) (s : State) where
-  pub read-tested : Tested (page-reasons g boundary l buffer s) (λ r. r .reply) (replied buffer) (read-steps g l buffer) s
-      (read g boundary l buffer s)
+  pub read-by-grounds : By-grounds (single-grounds g boundary (read-of l) buffer s) (λ r. r .reply) (replied buffer)
+      (read-steps g l buffer) s (read g boundary l buffer s)
   unfolding read look _>>=_
-  read-tested =
-      tested (page-reasons g boundary l buffer s) (omega arith) (λ r. r .reply) (replied buffer) (read-steps g l buffer) s
-      (λ n. refl) (read-within g l buffer s)
+  read-by-grounds =
+      by-grounds (single-grounds g boundary (read-of l) buffer s) (single-decided g boundary (read-of l) buffer s) (omega arith)
+      (λ r. r .reply) (replied buffer) (read-steps g l buffer) s (λ n. refl) (read-within g l buffer s)
 
-  pub write-tested : Tested (page-reasons g boundary l buffer s) (λ r. r .reply) (replied buffer) (write-steps g l buffer) s
-      (write g boundary l buffer s)
+  pub write-by-grounds : By-grounds (single-grounds g boundary (write-of l) buffer s) (λ r. r .reply) (replied buffer)
+      (write-steps g l buffer) s (write g boundary l buffer s)
   unfolding write look _>>=_
-  write-tested =
-      tested (page-reasons g boundary l buffer s) (omega arith) (λ r. r .reply) (replied buffer) (write-steps g l buffer) s
-      (λ n. refl) (write-within g l buffer s)
+  write-by-grounds =
+      by-grounds (single-grounds g boundary (write-of l) buffer s) (single-decided g boundary (write-of l) buffer s) (omega arith)
+      (λ r. r .reply) (replied buffer) (write-steps g l buffer) s (λ n. refl) (write-within g l buffer s)
 
-pub run-tested : (g : Geometry) (boundary : Bool) (requests : List Request) (words answers : List ℕ) (s : State)
-    → Tested (run-reasons g boundary requests words answers s) (λ r. r .reply) (run-replied words answers)
+pub run-by-grounds : (g : Geometry) (boundary : Bool) (requests : List Request) (words answers : List ℕ) (s : State)
+    → By-grounds (run-grounds g boundary requests words answers s) (λ r. r .reply) (run-replied words answers)
     (serve-records g requests (length requests) (run-replied words answers DONE)) s (run g boundary requests words answers s)
 unfolding run look _>>=_
-run-tested g boundary requests words answers s =
-    tested (run-reasons g boundary requests words answers s) (omega arith) (λ r. r .reply) (run-replied words answers)
-    (serve-records g requests (length requests) (run-replied words answers DONE)) s
+run-by-grounds g boundary requests words answers s =
+    by-grounds (run-grounds g boundary requests words answers s) (run-decided g boundary requests words answers s) (omega arith)
+    (λ r. r .reply) (run-replied words answers) (serve-records g requests (length requests) (run-replied words answers DONE)) s
     (λ n. refl) (omega (arith, run-reply g requests (length requests) words answers s))
+
+-- ---- what it is to pass a request's tests
+
+module _ (g : Geometry) (small : SmallRecord) (q : Request) where
+  pub request-passes : q .kind < 2 → q .page < g .L → All-passed (request-grounds g small q)
+  request-passes kind below = (kind, (below, tt))
+
+  pub kind-passed : All-passed (request-grounds g small q) → q .kind < 2
+  kind-passed h = h .0
+
+  pub page-passed : All-passed (request-grounds g small q) → q .page < g .L
+  page-passed h = h .1 .0
+
+module _ (g : Geometry) (q : Request) (buffer : List ℕ) (s : State) where
+  pub single-passes : Accepted g → Right (state-sizes g s ++ buffer-sizes g buffer) → Sound g s
+      → All-passed (request-grounds g (s .small) q) → All-passed (single-grounds g true q buffer s)
+  single-passes ok right sound h = (ok, ((right, refl), (sound, h)))
+
+  module _ {boundary : Bool} (h : All-passed (single-grounds g boundary q buffer s)) where
+    pub buffer-passed : length buffer ≡ g .W
+    buffer-passed = h .1 .0 .0 .1 .1 .1 .1 .0
+
+    pub own-passed : All-passed (request-grounds g (s .small) q)
+    own-passed = h .1 .1 .1

@@ -14,13 +14,17 @@ use Rattle.scope.specs.Lent.{none, State, Request}
 use Rattle.scope.specs.Operations.{Outcome, give, _>>=_}
 use Rattle.scope.specs.Replies.{DONE, UNWRITTEN}
 use Rattle.scope.specs.Requests.{Replied, read-steps, write-steps}
-use Rattle.scope.specs.Calls.{RunReplied, run-replied, part, no-request, serve, serve-records, run}
+use Rattle.scope.specs.Calls.{RunReplied, run-replied, part, no-request, serve, answer-record, serve-records, run}
 use Rattle.scope.specs.Laws.Applied.{flash-refl}
 use Rattle.flash.specs.Cases.{on, below?}
 use Rattle.flash.specs.Listed.{cost}
 use Rattle.region.specs.Done.{done-none, done-then}
-use Rattle.promises.specs.Demands.{Store, put, noted-record, noted-records, Tells, Writes-well, read-bound, before-record}
-use Rattle.promises.specs.Refusals.{write-reply, serve-within, run-reply, answered, record-tested, run-tested}
+use Rattle.promises.specs.Refused.{before-record}
+use Rattle.promises.specs.Grounds.{request-grounds}
+use Rattle.promises.specs.Remembered.{Store, with-words, noted-record, noted-records}
+use Rattle.promises.specs.Demands.{Tells, Writes-well, read-bound}
+use Rattle.promises.specs.Tests.{All-passed}
+use Rattle.promises.specs.Refusals.{write-reply, serve-within, run-reply, record-by-grounds, run-by-grounds, kind-passed, page-passed}
 use Rattle.promises.specs.Demand1.{run-is-records, run-fits, record-answer}
 use Rattle.promises.specs.Records.{answer-of, record-stores, words-before, length-words}
 use Rattle.promises.specs.Write.{write-law}
@@ -33,54 +37,50 @@ not-noted q words reply store (inl e) = on (eqb (q .kind) 1) (λ k. rw (k, ne-eq
 not-noted q words reply store (inr e) = rw (ne-eqb (q .kind) 1 e)
 
 is-noted : (q : Request) (words : List ℕ) (reply : ℕ) (store : Store) → q .kind ≡ 1 → reply ≡ DONE
-    → noted-record q words reply store ≡ put (q .page) words store
+    → noted-record q words reply store ≡ with-words (q .page) words store
 is-noted q words reply store k e = rw (eq-eqb (q .kind) 1 k, eq-eqb reply DONE e)
 
 -- What is said of a record's answer, whether it was refused, a read or a write.
-pub record Answers (g : Geometry) (i : ℕ) (q : Request) (words : List ℕ) (s : State) (store : Store) : Type 0 where
+pub record Record-stands (g : Geometry) (q : Request) (buffer : List ℕ) (s : State) (store : Store) : Type 0 where
   pub leaves :
-      let o = answered g i q words s in
-      Leaves g s o (noted-record q (part g i words) (o .value .reply) store)
-  pub tells : q .page < g .L → q .kind ≡ 0 →
-      let o = answered g i q words s in
+      let o = answer-record g q buffer s in
+      Leaves g s o (noted-record q buffer (o .value .reply) store)
+  pub tells : All-passed (request-grounds g (s .small) q) → q .kind ≡ 0 →
+      let o = answer-record g q buffer s in
       Tells (store (q .page)) (o .value .reply) (o .value .buffer) × (cost (o .did) ≤ read-bound g)
-  pub writes : q .page < g .L → q .kind ≡ 1 →
-      let o = answered g i q words s in
+  pub writes : All-passed (request-grounds g (s .small) q) → q .kind ≡ 1 →
+      let o = answer-record g q buffer s in
       Writes-well g (o .value .reply) (o .did)
 
 module _ {g : Geometry} (ok : Accepted g) where
   -- ---- one record
 
-  module _ (i : ℕ) (q : Request) (words : List ℕ) {s : State} {store : Store} (stands : Standing g s store)
-      (long : length (part g i words) ≡ g .W) where
-    abbrev buffer : List ℕ
-    buffer = part g i words
-
+  module _ (q : Request) (buffer : List ℕ) {s : State} {store : Store} (stands : Standing g s store)
+      (long : length buffer ≡ g .W) where
     abbrev o : Outcome Replied
-    o = answered g i q words s
+    o = answer-record g q buffer s
 
-    by-refusal : UNWRITTEN < o .value .reply → Answers g i q words s store
+    by-refusal : UNWRITTEN < o .value .reply → Record-stands g q buffer s store
     unfolding give
     by-refusal h =
-        let t = record-tested g i q words s in
+        let t = record-by-grounds g q buffer s in
         record {
           leaves = rw (not-noted q buffer (o .value .reply) store (inl (omega arith)), t .refuses h)
               (record { stands = stands; done = done-none g flash-refl });
-          tells = λ below kind. absurd (admitted below (omega arith));
-          writes = λ below kind. absurd (admitted below (omega arith));
+          tells = λ passed _. absurd (admitted passed);
+          writes = λ passed _. absurd (admitted passed);
         }
       where
-        admitted : q .page < g .L → q .kind < 2 → ⊥
-        admitted below kind =
+        admitted : All-passed (request-grounds g (s .small) q) → ⊥
+        admitted passed =
             omega (
               arith,
               h,
-              ap (λ (a : Outcome Replied). a .value .reply)
-                  (record-tested g i q words s .serves (kind, (below, tt))),
-              serve-within g q (part g i words) s,
+              ap (λ (a : Outcome Replied). a .value .reply) (record-by-grounds g q buffer s .serves passed),
+              serve-within g q buffer s,
             )
 
-    by-read : q .page < g .L → q .kind ≡ 0 → o ≡ read-steps g (q .page) buffer s → Answers g i q words s store
+    by-read : q .page < g .L → q .kind ≡ 0 → o ≡ read-steps g (q .page) buffer s → Record-stands g q buffer s store
     by-read below kind e =
         record {
           leaves = rw (not-noted q buffer (o .value .reply) store (inr (omega arith)), e)
@@ -92,7 +92,7 @@ module _ {g : Geometry} (ok : Accepted g) where
           writes = λ _ k. absurd (omega arith);
         }
 
-    by-write : q .page < g .L → q .kind ≡ 1 → o ≡ write-steps g (q .page) buffer s → Answers g i q words s store
+    by-write : q .page < g .L → q .kind ≡ 1 → o ≡ write-steps g (q .page) buffer s → Record-stands g q buffer s store
     by-write below kind e =
         let w = write-law ok (q .page) buffer s (stands .lengths) (stands .sound) below long in
         let is-done : o .value .reply ≡ DONE = ap (λ (a : Outcome Replied). a .value .reply) e
@@ -104,13 +104,14 @@ module _ {g : Geometry} (ok : Accepted g) where
           writes = λ _ _. (is-done, rw e (w .costs));
         }
 
-    record-answers : Answers g i q words s store
+    record-stands : Record-stands g q buffer s store
     unfolding serve
-    record-answers =
-        let t = record-tested g i q words s in
+    record-stands =
+        let t = record-by-grounds g q buffer s in
         below? UNWRITTEN (o .value .reply) by-refusal
         (λ h.
-        let (kind, (below, _)) = t .served h .0 in
+        let below = page-passed g (s .small) q (t .served h .0) in
+        let kind = kind-passed g (s .small) q (t .served h .0) in
         on (eqb (q .kind) 0)
         (λ e. by-read below (eqb-true (q .kind) 0 e) (rw e at t .served h .1))
         (λ e. by-write below (omega (arith, eqb-false (q .kind) 0 e)) (rw e at t .served h .1)))
@@ -118,7 +119,7 @@ module _ {g : Geometry} (ok : Accepted g) where
   -- ---- the records of a run
 
   module _ (requests : List Request) (words answers : List ℕ) {s : State} {store : Store} (stands : Standing g s store)
-      (fits : length words ≡ length requests * g .W) where
+      (words-fit : length words ≡ length requests * g .W) where
     part-long : (n : ℕ) → n < length requests
         → length (part g n (before-record g requests words answers s n .value .words)) ≡ g .W
     part-long n h =
@@ -132,7 +133,7 @@ module _ {g : Geometry} (ok : Accepted g) where
     next-leaves n store′ h before =
         let b = before-record g requests words answers s n in
         let q = getD requests n no-request in
-        let a = record-answers n q (b .value .words) (before .stands) (part-long n h) .leaves in
+        let a = record-stands q (part g n (b .value .words)) (before .stands) (part-long n h) .leaves in
         let stored = record-stores g n q (b .value) (b .after) in
         record {
           stands = rw (stored .state, ← (words-before g requests words answers s n n (omega arith))) (a .stands);
@@ -157,9 +158,9 @@ module _ {g : Geometry} (ok : Accepted g) where
     pub answers-at : (A : List ℕ) (i : ℕ) → i < length requests
         → ((j : ℕ) → j < i → getD A j none ≡ answer-of g requests words answers s j .value .reply)
         → let before = before-record g requests words answers s i in
-        Answers g i (getD requests i no-request) (before .value .words) (before .after) (noted-records g requests words A i store)
+        Record-stands g (getD requests i no-request) (part g i (before .value .words)) (before .after) (noted-records g requests words A i store)
     answers-at A i h e =
-        record-answers i (getD requests i no-request) (before-record g requests words answers s i .value .words)
+        record-stands (getD requests i no-request) (part g i (before-record g requests words answers s i .value .words))
         (records-leave A i (omega arith) e .stands) (part-long i h)
 
   -- A run, as a call.
@@ -171,7 +172,7 @@ module _ {g : Geometry} (ok : Accepted g) where
         (noted-records g requests words (o .value .answers) (length requests) store) store)
     run-leaves =
         let o = run g boundary requests words answers s in
-        let t = run-tested g boundary requests words answers s in
+        let t = run-by-grounds g boundary requests words answers s in
         below? UNWRITTEN (o .value .reply)
         (λ h. refusal-leaves ok (noted-records g requests words (o .value .answers) (length requests) store)
         (run-replied words answers (o .value .reply)) o (o .value .reply) stands (t .refuses h) (omega arith))

@@ -8,16 +8,21 @@ use native.Mathlib.Omega.{arith}
 use native.Mathlib.Nat.{mul-le-mul-right}
 use lib.ListN.{length, getD}
 use Rattle.scope.specs.Geometry.{Geometry, Accepted}
+use Rattle.scope.specs.SmallRecord.{SmallRecord}
 use Rattle.scope.specs.Lent.{none, State, Request, most-requests}
 use Rattle.scope.specs.Operations.{Outcome, give, _>>=_}
 use Rattle.scope.specs.Replies.{DONE, UNWRITTEN}
 use Rattle.scope.specs.Requests.{Replied, format-steps}
-use Rattle.scope.specs.Calls.{state-sizes, buffer-sizes, run-sizes, RunReplied, part, no-request, read, write, run}
+use Rattle.scope.specs.Calls.{state-sizes, run-sizes, read-of, write-of, RunReplied, part, no-request, read, write, run}
 use Rattle.scope.specs.Sound.{Sound}
 use Rattle.flash.specs.Cases.{below?}
 use Rattle.flash.specs.Clearing.{allowed-clears-each}
-use Rattle.promises.specs.Demands.{Right, Call, Format, Check, Read-page, Write-page, Run, make, after-calls, history, remembered, noted, noted-records, Words, Store, held, Tells, Refusal, own, before-record, Reads-well, Writes-well, Demand-2, Demand-3, Formats}
-use Rattle.promises.specs.Refusals.{format-tested, record-tested, read-tested, write-tested, run-tested, run-reply, write-reply}
+use Rattle.promises.specs.Grounds.{Right, Refusal, request-grounds, single-grounds}
+use Rattle.promises.specs.Refused.{own, before-record}
+use Rattle.promises.specs.Remembered.{Call, Format, Check, Read-page, Write-page, Run, make, after-calls, history, remembered, noted, noted-records, Holding, Store, held}
+use Rattle.promises.specs.Demands.{Tells, Reads-well, Writes-well, Demand-2, Demand-3, Formats}
+use Rattle.promises.specs.Tests.{All-passed}
+use Rattle.promises.specs.Refusals.{format-by-grounds, record-by-grounds, read-by-grounds, write-by-grounds, run-by-grounds, run-reply, write-reply, request-passes, page-passed, single-passes, own-passed}
 use Rattle.promises.specs.Records.{answer-of, record-stores, final-words, part-here, length-words}
 use Rattle.promises.specs.Demand1.{run-is-records, run-fits, record-answer}
 use Rattle.promises.specs.OneForEach.{one-for-each}
@@ -25,7 +30,7 @@ use Rattle.promises.specs.Standing.{format-stands, Standing, Leaves, len
 use Rattle.promises.specs.Formatted.{format-counts}
 use Rattle.promises.specs.HeldWords.{held-long}
 use Rattle.promises.specs.Write.{write-law}
-use Rattle.promises.specs.RunStands.{Answers, records-leave, answers-at, run-leaves}
+use Rattle.promises.specs.RunStands.{Record-stands, records-leave, answers-at, run-leaves}
 
 module _ {g : Geometry} (ok : Accepted g) where
   -- Each call keeps the store, and so do all.
@@ -51,21 +56,22 @@ module _ {g : Geometry} (ok : Accepted g) where
     read-call-tells : (boundary : Bool) (l : ℕ) (buffer : List ℕ) →
         let a = read g boundary l buffer s .value in ¬ (Refusal (a .reply)) → Tells (store l) (a .reply) (a .buffer)
     read-call-tells boundary l buffer n =
-        let t = read-tested g boundary l buffer s in
+        let t = read-by-grounds g boundary l buffer s in
         below? UNWRITTEN (read g boundary l buffer s .value .reply)
         (λ h. absurd (n h))
-        (λ h. rw (t .served h .1) (read-tells ok stands l buffer (t .served h .0 .1 .1 .1 .0)))
+        (λ h. rw (t .served h .1)
+        (read-tells ok stands l buffer (page-passed g (s .small) (read-of l) (own-passed g (read-of l) buffer s (t .served h .0)))))
 
     module _ (l : ℕ) (buffer : List ℕ) (below : l < g .L) (long : length buffer ≡ g .W) where
-      admits : Right (state-sizes g s ++ buffer-sizes g buffer)
-      admits = (
-        stands .lengths .chip-fits,
-        (stands .lengths .spare-fits, (stands .lengths .directory-fits, (stands .lengths .cache-fits, (long, tt)))),
-      )
+      admits : (q : Request) → q .kind < 2 → q .page < g .L → All-passed (single-grounds g true q buffer s)
+      admits q kind below =
+          let len = stands .lengths in
+          single-passes g q buffer s ok (len .chip-fits, (len .spare-fits, (len .directory-fits, (len .cache-fits, (long, tt)))))
+          (stands .sound) (request-passes g (s .small) q kind below)
 
       read-well : let o = read g true l buffer s in Reads-well g (o .value .reply) (o .did)
       read-well =
-          let e = read-tested g true l buffer s .serves (ok, ((admits, refl), (stands .sound, (below, tt)))) in
+          let e = read-by-grounds g true l buffer s .serves (admits (read-of l) (omega arith) below) in
           rw e (
             ⊎-elim (λ d. inl (d .0)) (λ d. inr (d .0)) (read-tells ok stands l buffer below),
             reads ok stands l buffer below .kept .costs,
@@ -73,7 +79,7 @@ module _ {g : Geometry} (ok : Accepted g) where
 
       write-well : let o = write g true l buffer s in Writes-well g (o .value .reply) (o .did)
       write-well =
-          let e = write-tested g true l buffer s .serves (ok, ((admits, refl), (stands .sound, (below, tt)))) in
+          let e = write-by-grounds g true l buffer s .serves (admits (write-of l) (omega arith) below) in
           rw (e, write-reply g l buffer s) (refl, write-law ok l buffer s (stands .lengths) (stands .sound) below long .costs)
 
     -- ---- a further run
@@ -90,31 +96,35 @@ module _ {g : Geometry} (ok : Accepted g) where
       abbrev a : Outcome Replied
       a = answer-of g requests words answers s i
 
-      fits : length words ≡ length requests * g .W
-      fits = run-fits g boundary requests words answers s done .0
+      words-fit : length words ≡ length requests * g .W
+      words-fit = run-fits g boundary requests words answers s done .0
 
       answers-here : let before = before-record g requests words answers s i in
-          Answers g i q (before .value .words) (before .after) (noted-records g requests words replies i store)
+          Record-stands g q (part g i (before .value .words)) (before .after) (noted-records g requests words replies i store)
       answers-here =
-          answers-at ok requests words answers stands fits replies i h
+          answers-at ok requests words answers stands words-fit replies i h
           (λ j k. record-answer g boundary requests words answers s done j (omega arith))
 
       stands-here : Standing g (before-record g requests words answers s i .after)
           (noted-records g requests words replies i store)
       stands-here =
-          records-leave ok requests words answers stands fits replies i (omega arith)
+          records-leave ok requests words answers stands words-fit replies i (omega arith)
           (λ j k. record-answer g boundary requests words answers s done j (omega arith)) .stands
 
       reply-is : getD replies i none ≡ a .value .reply
       reply-is = record-answer g boundary requests words answers s done i h
 
-      -- A record that is not refused is of a page below L.
-      not-refused : ¬ (Refusal (getD replies i none)) → q .page < g .L
+      -- The small record that it is tested with.
+      abbrev small : SmallRecord
+      small = before-record g requests words answers s i .after .small
+
+      -- A record that is not refused has passed its tests.
+      not-refused : ¬ (Refusal (getD replies i none)) → All-passed (request-grounds g small q)
       not-refused n =
           let before = before-record g requests words answers s i in
           below? UNWRITTEN (a .value .reply)
           (λ k. absurd (n (rw reply-is k)))
-          (λ k. record-tested g i q (before .value .words) (before .after) .served k .0 .1 .0)
+          (λ k. record-by-grounds g q (part g i (before .value .words)) (before .after) .served k .0)
 
       -- What the record read stands in its part of the data buffer.
       part-is : length (a .value .buffer) ≡ g .W
@@ -125,19 +135,20 @@ module _ {g : Geometry} (ok : Accepted g) where
           ∙ final-words g requests words answers s (length requests) i h
           ∙ ap (part g i) (record-stores g i q (before .value) (before .after) .words)
           ∙ part-here g i (before .value .words) (a .value .buffer) long
-          (omega (arith, fits, length-words g requests words answers s i, mul-le-mul-right (g .W) h))
+          (omega (arith, words-fit, length-words g requests words answers s i, mul-le-mul-right (g .W) h))
 
-      record-tells : q .page < g .L → q .kind ≡ 0
+      record-tells : All-passed (request-grounds g small q) → q .kind ≡ 0
           → Tells (noted-records g requests words replies i store (q .page)) (getD replies i none)
           (part g i (run g boundary requests words answers s .value .words))
-      record-tells below kind =
+      record-tells passed kind =
+          let below = page-passed g small q passed in
           ⊎-elim
           (λ d.
           let long = held-long ok (before-record g requests words answers s i .after) (stands-here .lengths) (stands-here .sound)
           (q .page) below (a .value .buffer) (sym (stands-here .holds (q .page) below) ∙ d .1) in
-          inl (reply-is ∙ d .0, d .1 ∙ ap Words (sym (part-is long))))
+          inl (reply-is ∙ d .0, d .1 ∙ ap Holding (sym (part-is long))))
           (λ d. inr (reply-is ∙ d .0, d .1))
-          (answers-here .tells below kind .0)
+          (answers-here .tells passed kind .0)
 
       -- A record's own operations are its answer's.
       own-did : own g requests words answers s i .did ≡ a .did
@@ -152,9 +163,9 @@ module _ {g : Geometry} (ok : Accepted g) where
       record-well below =
           rw (reply-is, own-did) (
             λ kind.
-                let (tells, costs) = answers-here .tells below kind in
+                let (tells, costs) = answers-here .tells (request-passes g small q (omega arith) below) kind in
                 (⊎-elim (λ d. inl (d .0)) (λ d. inr (d .0)) tells, costs),
-            answers-here .writes below,
+            λ kind. answers-here .writes (request-passes g small q (omega arith) below) kind,
           )
 
     run-well : (requests : List Request) (words answers : List ℕ) → Right (run-sizes g requests words answers)
@@ -166,7 +177,7 @@ module _ {g : Geometry} (ok : Accepted g) where
           (stands .lengths .spare-fits, (stands .lengths .directory-fits, (stands .lengths .cache-fits, right))),
         ) in
         ap (λ (o : Outcome RunReplied). o .value .reply)
-        (run-tested g true requests words answers s .serves (ok, (((sizes, few), refl), (stands .sound, tt))))
+        (run-by-grounds g true requests words answers s .serves (ok, (((sizes, few), refl), (stands .sound, tt))))
         ∙ run-reply g requests (length requests) words answers s
 
   -- ---- the demands
@@ -206,7 +217,7 @@ module _ {g : Geometry} (ok : Accepted g) where
   pub formats : (s : State) → Right (state-sizes g s) → Formats g s
   unfolding format-steps give _>>=_
   formats s right =
-      let is = format-tested g true s .serves (ok, ((right, refl), tt)) in
+      let is = format-by-grounds g true s .serves (ok, ((right, refl), tt)) in
       let stands = format-stands ok s (right-lengths g s right) in
       record {
         done = rw is refl;

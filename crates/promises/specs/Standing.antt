@@ -14,15 +14,17 @@ use Rattle.scope.specs.Lent.{decode, State}
 use Rattle.scope.specs.Operations.{Outcome, give, _>>=_}
 use Rattle.scope.specs.Replies.{DONE, UNWRITTEN}
 use Rattle.scope.specs.Requests.{replied, read-steps, write-steps, format-steps}
-use Rattle.scope.specs.Calls.{state-sizes, format, check, read, write}
+use Rattle.scope.specs.Calls.{state-sizes, read-of, write-of, format, check, read, write}
 use Rattle.scope.specs.Sound.{Sound}
 use Rattle.flash.specs.Cases.{same?, below?}
 use Rattle.flash.specs.Words.{Lengths}
 use Rattle.scope.specs.Laws.Applied.{flash-refl}
 use Rattle.scope.specs.Laws.AppliedSteps.{format-steps-applied}
 use Rattle.region.specs.Done.{Done, done-none}
-use Rattle.promises.specs.Demands.{Right, Nothing, Store, put, words-at, held, Tells}
-use Rattle.promises.specs.Refusals.{format-tested, check-tested, read-tested, write-tested, write-reply}
+use Rattle.promises.specs.Grounds.{Right}
+use Rattle.promises.specs.Remembered.{Nothing, Store, with-words, words-at, held}
+use Rattle.promises.specs.Demands.{Tells}
+use Rattle.promises.specs.Refusals.{format-by-grounds, check-by-grounds, read-by-grounds, write-by-grounds, write-reply, page-passed, buffer-passed, own-passed}
 use Rattle.promises.specs.Formatted.{format-sound, format-lengths, format-allowed, unwritten}
 use Rattle.promises.specs.Keeping.{kept-contents}
 use Rattle.promises.specs.HeldWords.{held-same}
@@ -74,7 +76,7 @@ module _ {g : Geometry} (ok : Accepted g) where
 
     module _ (long : length buffer ≡ g .W) where
       -- A write puts its buffer into the store.
-      pub write-stands : Standing g (write-steps g l buffer s .after) (put l buffer store)
+      pub write-stands : Standing g (write-steps g l buffer s .after) (with-words l buffer store)
       write-stands =
           let w = write-law ok l buffer s (stands .lengths) (stands .sound) below long in
           record {
@@ -109,7 +111,7 @@ module _ {g : Geometry} (ok : Accepted g) where
         → Leaves g s (format g boundary s) (cond (eqb (format g boundary s .value) DONE) (λ l. Nothing) store)
     unfolding format-steps give _>>=_
     format-leaves boundary =
-        let t = format-tested g boundary s in
+        let t = format-by-grounds g boundary s in
         below? UNWRITTEN (format g boundary s .value)
         (λ h. refusal-leaves (λ l. Nothing) (format g boundary s .value) (format g boundary s)
         (format g boundary s .value) stands (t .refuses h) (omega arith))
@@ -122,7 +124,7 @@ module _ {g : Geometry} (ok : Accepted g) where
     pub check-leaves : (boundary : Bool) → Leaves g s (check g boundary s) store
     unfolding give
     check-leaves boundary =
-        let t = check-tested g boundary s in
+        let t = check-by-grounds g boundary s in
         below? UNWRITTEN (check g boundary s .value)
         (λ h. rw (t .refuses h) (record { stands = stands; done = done-none g flash-refl }))
         (λ h. rw (t .served h .1) (record { stands = stands; done = done-none g flash-refl }))
@@ -131,24 +133,24 @@ module _ {g : Geometry} (ok : Accepted g) where
       pub read-leaves : Leaves g s (read g boundary l buffer s) store
       unfolding give
       read-leaves =
-          let t = read-tested g boundary l buffer s in
+          let t = read-by-grounds g boundary l buffer s in
           below? UNWRITTEN (read g boundary l buffer s .value .reply)
           (λ h. rw (t .refuses h) (record { stands = stands; done = done-none g flash-refl }))
           (λ h.
-          let below : l < g .L = t .served h .0 .1 .1 .1 .0 in
+          let below = page-passed g (s .small) (read-of l) (own-passed g (read-of l) buffer s (t .served h .0)) in
           rw (t .served h .1)
           (record { stands = read-stands stands l buffer below; done = reads stands l buffer below .kept .done }))
 
       pub write-leaves : Leaves g s (write g boundary l buffer s)
-          (cond (eqb (write g boundary l buffer s .value .reply) DONE) (put l buffer store) store)
+          (cond (eqb (write g boundary l buffer s .value .reply) DONE) (with-words l buffer store) store)
       write-leaves =
-          let t = write-tested g boundary l buffer s in
+          let t = write-by-grounds g boundary l buffer s in
           below? UNWRITTEN (write g boundary l buffer s .value .reply)
-          (λ h. refusal-leaves (put l buffer store) (replied buffer (write g boundary l buffer s .value .reply))
+          (λ h. refusal-leaves (with-words l buffer store) (replied buffer (write g boundary l buffer s .value .reply))
           (write g boundary l buffer s) (write g boundary l buffer s .value .reply) stands (t .refuses h) (omega arith))
           (λ h.
-          let below : l < g .L = t .served h .0 .1 .1 .1 .0 in
-          let long : length buffer ≡ g .W = t .served h .0 .1 .0 .0 .1 .1 .1 .1 .0 in
+          let below = page-passed g (s .small) (write-of l) (own-passed g (write-of l) buffer s (t .served h .0)) in
+          let long = buffer-passed g (write-of l) buffer s (t .served h .0) in
           rw (t .served h .1, write-reply g l buffer s) (record {
             stands = write-stands stands l buffer below long;
             done = write-law ok l buffer s (stands .lengths) (stands .sound) below long .done;

@@ -28,7 +28,8 @@ use Rattle.region.specs.NextPage.{next-page, Page-written, page-written}
 use Rattle.cache.specs.Holds.{Hit, updated}
 use Rattle.cache.specs.Steps.{Ranks-kept, set-entry-law}
 use Rattle.cache.specs.Current.{Place-set, set-entry-sets-place}
-use Rattle.promises.specs.Demands.{Words, held, write-bound}
+use Rattle.promises.specs.Remembered.{Holding, held}
+use Rattle.promises.specs.Demands.{write-bound}
 use Rattle.promises.specs.Parts.{index-of, data-of, cache-of, sound-from, cached, cache-holds}
 use Rattle.promises.specs.Update.{written-holds, update-bound}
 use Rattle.promises.specs.Follow.{place-while, Follows, none-waits, cache-follower}
@@ -132,7 +133,7 @@ module _ {g : Geometry} (ok : Accepted g) (l i : ℕ) (buffer : List ℕ) (s : S
 pub record Writes (g : Geometry) (l : ℕ) (buffer : List ℕ) (s : State) (o : Outcome Replied) : Type 0 where
   pub sound : Sound g (o .after)
   pub lengths : Lengths g (o .after)
-  pub written : held g (o .after) l ≡ Words buffer
+  pub written : held g (o .after) l ≡ Holding buffer
   pub keeps : (k : ℕ) → k < g .L → k ≢ l → held g (o .after) k ≡ held g s k
   pub done : Done g s (o .did) (o .after)
   pub costs : cost (o .did) ≤ write-bound g

@@ -28,8 +28,8 @@ abbrev pub words-of-counts : Counts → List ℕ
 words-of-counts c = c .reads ∷ c .programs ∷ c .erases ∷ []
 
 -- "Written whenever it has three": that slice after a call.
-abbrev pub put : List ℕ → Counts → List ℕ
-put counts c = cond (eqb (length counts) counts-words) (words-of-counts c) counts
+abbrev pub put-counts : List ℕ → Counts → List ℕ
+put-counts counts c = cond (eqb (length counts) counts-words) (words-of-counts c) counts
 
 -- What C lends to every call.
 pub record Words : Type 0 where
@@ -53,7 +53,7 @@ to-words w o =
       directory = o .after .directory;
       cache = o .after .cache;
       small = sets (w .small) 0 (words-from (o .after .small));
-      counts = put (w .counts) (counted (o .did));
+      counts = put-counts (w .counts) (counted (o .did));
     }
 
 abbrev pub right-words : Words → Bool

@@ -7,6 +7,7 @@ use lib.Dec.{eqb, leb}
 use lib.ListN.{length, getD, take, drop, set}
 use lib.Seq.{sets}
 use Rattle.scope.specs.Geometry.{Geometry, accepted}
+use Rattle.scope.specs.SmallRecord.{SmallRecord}
 use Rattle.scope.specs.Lent.{none, State, Request, most-requests, chip-size, spare-size, directory-size, cache-size}
 use Rattle.scope.specs.Decisions.{sound}
 use Rattle.scope.specs.Operations.{Step, give, look, _>>=_, _>>_}
@@ -41,13 +42,23 @@ size-tests g sizes = record { number = GEOMETRY; applies = not (accepted g) } �
 abbrev pub state-tests : Geometry → Bool → State → List Test
 state-tests g sizes s = size-tests g sizes ++ record { number = DAMAGED; applies = not (sound g s) } ∷ []
 
--- "PAGE: the logical page is L or more."
-abbrev pub page-tests : Geometry → ℕ → List Test
-page-tests g l = record { number = PAGE; applies = leb (g .L) l } ∷ []
+-- What is tested of a request, be it a single call's or a record's, with the small record as it is then. "Kind 0 read or 1 write." "PAGE:
+-- the logical page is L or more."
+abbrev pub request-tests : Geometry → SmallRecord → Request → List Test
+request-tests g small q =
+    record { number = KIND; applies = leb 2 (q .kind) } ∷ record { number = PAGE; applies = leb (g .L) (q .page) } ∷ []
 
--- "Kind 0 read or 1 write."
-abbrev pub record-tests : Geometry → Request → List Test
-record-tests g q = record { number = KIND; applies = leb 2 (q .kind) } ∷ page-tests g (q .page)
+-- The request that a read, and a write, of page l is.
+abbrev pub read-of : ℕ → Request
+read-of l = record { kind = 0; page = l }
+
+abbrev pub write-of : ℕ → Request
+write-of l = record { kind = 1; page = l }
+
+-- Those of a single request: the state's, and then its own.
+abbrev pub single-tests : Geometry → Bool → Request → List ℕ → State → List Test
+single-tests g boundary q buffer s =
+    state-tests g (right-sizes (state-sizes g s ++ buffer-sizes g buffer) && boundary) s ++ request-tests g (s .small) q
 
 unfoldable pub format : Geometry → Bool → Step ℕ
 format g boundary = do
@@ -62,12 +73,12 @@ check g boundary = do
 
 unfoldable pub read : Geometry → Bool → ℕ → List ℕ → Step Replied
 read g boundary l buffer = do
-  tests ← look (λ s. state-tests g (right-sizes (state-sizes g s ++ buffer-sizes g buffer) && boundary) s ++ page-tests g l)
+  tests ← look (λ s. single-tests g boundary (read-of l) buffer s)
   admit tests (replied buffer) (read-steps g l buffer)
 
 unfoldable pub write : Geometry → Bool → ℕ → List ℕ → Step Replied
 write g boundary l buffer = do
-  tests ← look (λ s. state-tests g (right-sizes (state-sizes g s ++ buffer-sizes g buffer) && boundary) s ++ page-tests g l)
+  tests ← look (λ s. single-tests g boundary (write-of l) buffer s)
   admit tests (replied buffer) (write-steps g l buffer)
 
 -- What a run has lent beside the state: its data buffer and its answers.
@@ -87,10 +98,16 @@ part g i words = take (g .W) (drop (i * g .W) words)
 unfoldable pub serve : Geometry → Request → List ℕ → Step Replied
 serve g q buffer = cond (eqb (q .kind) 0) (read-steps g (q .page) buffer) (write-steps g (q .page) buffer)
 
--- "Then each record gets its own number": record i, its tests first; its answer is stored, and its words where it gives any.
+-- A record with its own tests.
+unfoldable pub answer-record : Geometry → Request → List ℕ → Step Replied
+answer-record g q buffer = do
+  tests ← look (λ s. request-tests g (s .small) q)
+  admit tests (replied buffer) (serve g q buffer)
+
+-- "Then each record gets its own number": record i; its answer is stored, and its words where it gives any.
 unfoldable pub serve-record : Geometry → ℕ → Request → RunReplied → Step RunReplied
 serve-record g i q lent = do
-  r ← admit (record-tests g q) (replied (part g i (lent .words))) (serve g q (part g i (lent .words)))
+  r ← answer-record g q (part g i (lent .words))
   give (run-replied (sets (lent .words) (i * g .W) (r .buffer)) (set (lent .answers) i (r .reply)) DONE)
 
 abbrev pub no-request : Request

@@ -9,17 +9,17 @@ use lib.Dec.{eqb}
 use lib.ListN.{length}
 use Rattle.scope.specs.Lent.{State}
 use Rattle.scope.specs.Operations.{Outcome, counted}
-use Rattle.scope.specs.Boundary.{counts-words, put, Words, InWords}
+use Rattle.scope.specs.Boundary.{counts-words, put-counts, Words, InWords}
 
 -- Whether the lengths are right that no state has: the caller's own, and that of the counts.
 abbrev pub right-lengths : Bool → List ℕ → Bool
-right-lengths fits counts = fits && eqb (length counts) counts-words
+right-lengths boundary counts = boundary && eqb (length counts) counts-words
 
 -- A call whose definition gives the outcome o answered x and left the state s′; the slice `counts` holds counts′ after it.
 pub record Answers {A : Type 0} (o : Outcome A) (counts : List ℕ) (x : A) (s′ : State) (counts′ : List ℕ) : Type 0 where
   pub value : o .value ≡ x
   pub after : o .after ≡ s′
-  pub counted : counts′ ≡ put counts (counted (o .did))
+  pub counted : counts′ ≡ put-counts counts (counted (o .did))
 
 pub answers-one-outcome : {A : Type 0} {o : Outcome A} {counts : List ℕ} {x y : A} {s′ s″ : State} {counts′ counts″ : List ℕ}
     → Answers o counts x s′ counts′ → Answers o counts y s″ counts″ → (x ≡ y) × (s′ ≡ s″) × (counts′ ≡ counts″)

@@ -13,7 +13,7 @@ use Rattle.scope.specs.Operations.{Step, Outcome, counted}
 use Rattle.scope.specs.Requests.{Replied}
 use Rattle.scope.specs.Replies.{DONE}
 use Rattle.scope.specs.Calls.{read, write}
-use Rattle.scope.specs.Boundary.{counts-words, words-of-counts, put, Words, InWords, from-words, to-words, right-words}
+use Rattle.scope.specs.Boundary.{counts-words, words-of-counts, put-counts, Words, InWords, from-words, to-words, right-words}
 use Rattle.scope.specs.Boundary.{in-words, tf-read, tf-write}
 use Rattle.scope.specs.Contracts.{Answers, Gives}
 use Rattle.scope.specs.Laws.SmallRecord.{record-stored}
@@ -54,7 +54,7 @@ unfolding printed
 as-printed l o {counts = counts} three a =
     ap₂ (λ (x : Replied) (k : List ℕ). numbers (x .reply) k (first-word l x)) (sym (a .value)) (a .counted ∙ written)
   where
-    written : put counts (counted (o .did)) ≡ words-of-counts (counted (o .did))
+    written : put-counts counts (counted (o .did)) ≡ words-of-counts (counted (o .did))
     written = rw (eq-eqb _ _ three)
 
 -- The call in words that a line asks for.

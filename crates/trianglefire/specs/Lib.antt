@@ -1,5 +1,3 @@
 -- The modules of this crate.
-pub mod Words
-pub mod Asked
-pub mod Run
+pub mod Numbers
 pub mod Outcomes

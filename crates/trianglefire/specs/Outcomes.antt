@@ -7,7 +7,8 @@ use Rattle.scope.specs.Requests.{Replied, replied}
 use Rattle.scope.specs.Calls.{RunReplied, run-replied}
 use Rattle.scope.specs.Boundary.{Words, tf-format, tf-check, tf-read, tf-write, tf-run}
 use Rattle.scope.specs.Contracts.{Gives, gives-one-outcome}
-use Rattle.trianglefire.specs.Words.{geometry-of, words}
+use Rattle.wording.specs.Words.{words}
+use Rattle.trianglefire.specs.Numbers.{geometry-of}
 
 -- What every call but check has at exit: its reply, and the lent words.
 pub record Exit : Type 0 where

@@ -1,19 +1,13 @@
 // The five calls for C. Numbers come first, then slices, each a pointer and a count of words; the reply number is returned. No call has a
 // `requires`, for nothing checks one from C: each contract gives, for every input, the reply and every lent word by the call's definition in
-// words. What is done here is no more than to load the small record from its words, make the call by value and store the record.
-mod record;
-mod run;
-
-use crate::record::five_words;
-use crate::record::load;
-use crate::record::store;
-use crate::run::run_words;
+// words. All that an export does is to hand on: the numbers of the geometry as one, and every slice as it is.
 use lent::Geometry;
 ghost use Rattle.scope.specs.Requests.{replied};
 ghost use Rattle.scope.specs.Calls.{run-replied};
 ghost use Rattle.scope.specs.Boundary.{tf-format, tf-check, tf-read, tf-write, tf-run};
 ghost use Rattle.scope.specs.Contracts.{Gives};
-ghost use Rattle.trianglefire.specs.Words.{geometry-of, words};
+ghost use Rattle.wording.specs.Words.{words};
+ghost use Rattle.trianglefire.specs.Numbers.{geometry-of};
 
 #[no_mangle]
 pub extern "C" fn tf_format(
@@ -37,12 +31,15 @@ pub extern "C" fn tf_format(
         (words (now (chip .exit)) (now (spare .exit)) (now (directory .exit))
         (now (cache .exit)) (now («record» .exit)) (now (counts .exit))) ⌝ }
 {
-    let g = Geometry { p, w, d, t, l, c };
-    let fits = five_words(record);
-    let rec = load(record);
-    let formatted = calls::format(rec, fits, g, chip, spare, directory, cache, counts);
-    store(record, formatted.rec);
-    formatted.answer
+    wordcalls::format(
+        Geometry { p, w, d, t, l, c },
+        chip,
+        spare,
+        directory,
+        cache,
+        record,
+        counts,
+    )
 }
 
 #[no_mangle]
@@ -67,10 +64,15 @@ pub extern "C" fn tf_check(
         (words (now (chip .entry)) (now (spare .entry)) (now (directory .entry))
         (now (cache .entry)) (now («record» .entry)) (now (counts .exit))) ⌝ }
 {
-    let g = Geometry { p, w, d, t, l, c };
-    let fits = five_words(record);
-    let rec = load(record);
-    calls::check(rec, fits, g, chip, spare, directory, cache, counts)
+    wordcalls::check(
+        Geometry { p, w, d, t, l, c },
+        chip,
+        spare,
+        directory,
+        cache,
+        record,
+        counts,
+    )
 }
 
 #[no_mangle]
@@ -97,23 +99,17 @@ pub extern "C" fn tf_read(
         (words (now (chip .exit)) (now (spare .exit)) (now (directory .exit))
         (now (cache .exit)) (now («record» .exit)) (now (counts .exit))) ⌝ }
 {
-    let g = Geometry { p, w, d, t, l, c };
-    let fits = five_words(record);
-    let rec = load(record);
-    let read = calls::read(
-        rec,
-        fits,
-        g,
+    wordcalls::read(
+        Geometry { p, w, d, t, l, c },
         page,
         chip,
         spare,
         directory,
         cache,
+        record,
         buffer,
         counts,
-    );
-    store(record, read.rec);
-    read.answer
+    )
 }
 
 #[no_mangle]
@@ -140,23 +136,17 @@ pub extern "C" fn tf_write(
         (words (now (chip .exit)) (now (spare .exit)) (now (directory .exit))
         (now (cache .exit)) (now («record» .exit)) (now (counts .exit))) ⌝ }
 {
-    let g = Geometry { p, w, d, t, l, c };
-    let fits = five_words(record);
-    let rec = load(record);
-    let written = calls::write(
-        rec,
-        fits,
-        g,
+    wordcalls::write(
+        Geometry { p, w, d, t, l, c },
         page,
         chip,
         spare,
         directory,
         cache,
+        record,
         buffer,
         counts,
-    );
-    store(record, written.rec);
-    written.answer
+    )
 }
 
 #[no_mangle]
@@ -185,22 +175,16 @@ pub extern "C" fn tf_run(
         (words (now (chip .exit)) (now (spare .exit)) (now (directory .exit))
         (now (cache .exit)) (now («record» .exit)) (now (counts .exit))) ⌝ }
 {
-    let g = Geometry { p, w, d, t, l, c };
-    let five = five_words(record);
-    let rec = load(record);
-    let ran = run_words(
-        rec,
-        five,
-        g,
-        requests,
+    wordrun::run(
+        Geometry { p, w, d, t, l, c },
         chip,
         spare,
         directory,
         cache,
+        record,
+        requests,
         data,
         answers,
         counts,
-    );
-    store(record, ran.rec);
-    ran.answer
+    )
 }

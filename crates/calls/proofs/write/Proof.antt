@@ -5,16 +5,16 @@ use Rattle.lent.specs.Model.{geometry, counts}
 use Rattle.promises.specs.Demands.{write-bound}
 use Rattle.scope.specs.Requests.{write-steps}
 use Rattle.scope.specs.Calls.{write}
-use Rattle.calls.specs.Room.{write-few}
-use Rattle.calls.specs.Paged.{page-ready, page-refused, page-served}
+use Rattle.admission.specs.Room.{write-few}
+use Rattle.calls.specs.Single.{single-ready, single-refused, single-served}
 use Rattle.calls.proofs.write.Statement.{statement}
 use Rattle.calls.proofs.write.Tie as tie
 
-slice-aggregate-page-answer : tie.Need-slice-aggregate-page-answer
-slice-aggregate-page-answer c = search needs
+slice-aggregate-single-answer : tie.Need-slice-aggregate-single-answer
+slice-aggregate-single-answer c = search needs
 
-page-answer-requires : tie.Need-page-answer-requires
-page-answer-requires c κs = search needs
+single-answer-requires : tie.Need-single-answer-requires
+single-answer-requires c κs = search needs
 
 put-counts-requires : tie.Need-put-counts-requires
 put-counts-requires c κs = search needs
@@ -39,7 +39,7 @@ unfolding write
 returns c =
     let tested = c .before .before .before .before .before .before in
     let a = tested .before .before .before .before .before .before .before .before .before .before .before .before .before .args in
-    page-refused (now (a .buffer)) (tested .page-answer .ensures) (write-steps (geometry (a .g)) (a .page) (now (a .buffer)))
+    single-refused (now (a .buffer)) (tested .single-answer .ensures) (write-steps (geometry (a .g)) (a .page) (now (a .buffer)))
     (c .before .before .before .before .if1 .taken) (c .before .before .put-counts .ensures)
 
 slice-aggregate-write : tie.Need-slice-aggregate-write
@@ -49,7 +49,7 @@ write-requires : tie.Need-write-requires
 write-requires c κs =
     let tested = c .before .before .before .before .before .before .before .before in
     let a = tested .before .before .before .before .before .before .before .before .before .before .before .before .before .args in
-    page-ready (now (a .buffer)) (tested .page-answer .ensures) (write-bound (geometry (a .g))) write-few (c .before .before .before .before .before .before .if1 .left)
+    single-ready (now (a .buffer)) (tested .single-answer .ensures) (write-bound (geometry (a .g))) write-few (c .before .before .before .before .before .before .if1 .left)
 
 put-counts-requires-2 : tie.Need-put-counts-requires-2
 put-counts-requires-2 c κs = search needs
@@ -76,15 +76,15 @@ returns-2 c =
     let admitted = done .before .before .before .before .before .before .before in
     let tested = admitted .before .before in
     let a = tested .before .before .before .before .before .before .before .before .before .before .before .before .before .args in
-    page-served (now (a .buffer)) (tested .page-answer .ensures) (write-steps (geometry (a .g)) (a .page) (now (a .buffer)))
+    single-served (now (a .buffer)) (tested .single-answer .ensures) (write-steps (geometry (a .g)) (a .page) (now (a .buffer)))
     (counts (done .write .result .work .counts)) (admitted .if1 .left) (done .write .ensures .0) (c .before .before .before .put-counts2 .ensures)
 
 pub write-spec : {M : Type 1} → statement M
 write-spec =
     tie.close
     (tie.spec
-    slice-aggregate-page-answer
-    page-answer-requires
+    slice-aggregate-single-answer
+    single-answer-requires
     put-counts-requires
     same-length
     same-length-2

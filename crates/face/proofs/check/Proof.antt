@@ -54,7 +54,7 @@ use Rattle.face.proofs.check.Key.{name as #walked}
 use Rattle.face.proofs.check.Statement as stated
 use Rattle.face.proofs.check.Code as code
 use Rattle.face.proofs.check.Code.Mir as piece
-use Rattle.face.proofs.Rules.{slice, holds, bare, frees-all}
+use Rattle.walks.specs.Rules.{slice, holds, bare, frees-all}
 use Rattle.lent.specs.Model.{geometry, state}
 use Rattle.scope.specs.Calls.{check}
 use Rattle.scope.specs.Contracts.{Answers, right-lengths}

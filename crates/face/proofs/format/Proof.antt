@@ -40,9 +40,9 @@ use denote.Triple.Table.{entered, cited}
 use denote.Triple.Walked.{says, Stays, stay-ref, gave-slice, stay-none, walkOf, AllGo, goes-none, goes-ref, goes-gave-slice, Walks, ends-at, walked, walk-meets}
 use denote.Exit.{yes}
 use denote.Struct.Laws as LL
-use Rattle.calls.specs.declared.Out.{Out as D·Out}
-use Rattle.calls.proofs.Out as T·Out
-use Rattle.calls.proofs.Out.Laws as L·Out
+use Rattle.admission.specs.declared.Out.{Out as D·Out}
+use Rattle.admission.proofs.Out as T·Out
+use Rattle.admission.proofs.Out.Laws as L·Out
 use Rattle.lent.specs.declared.Record.{Record as D·Record}
 use Rattle.lent.proofs.Record as T·Record
 use Rattle.lent.proofs.Record.Laws as L·Record
@@ -58,7 +58,7 @@ use Rattle.face.proofs.format.Key.{name as #walked}
 use Rattle.face.proofs.format.Statement as stated
 use Rattle.face.proofs.format.Code as code
 use Rattle.face.proofs.format.Code.Mir as piece
-use Rattle.face.proofs.Rules.{slice, holds, bare, frees-all}
+use Rattle.walks.specs.Rules.{slice, holds, bare, frees-all}
 use Rattle.lent.specs.Model.{geometry, state}
 use Rattle.scope.specs.Calls.{format}
 use Rattle.scope.specs.Contracts.{Answers, right-lengths}

@@ -13,7 +13,7 @@ use Rattle.scope.specs.Cache.{touch, enter, forget, set-entry}
 use Rattle.scope.specs.Steps.{directory-names-it, directory-follows, begun, mark-old, update, of-page, update-touched, cache-or-wait, update-all, cache-follows, write-back, drop-entry, drop-if-full, word-for, fetch, translate}
 use Rattle.scope.specs.Replies.{DONE, Test, first-applying, admit}
 use Rattle.scope.specs.Requests.{read-place, read-steps, write-steps, format-steps}
-use Rattle.scope.specs.Calls.{RunReplied, format, check, read, write, serve, serve-record, serve-records, run}
+use Rattle.scope.specs.Calls.{RunReplied, format, check, read, write, serve, answer-record, serve-record, serve-records, run}
 use Rattle.scope.specs.Laws.Applied.{Applied, Applied-following, applied-bind, applied-give, applied-look, applied-perform, applied-set-directory, applied-set-cache, applied-set-small, applied-cond, applied-for}
 
 module _ {g : Geometry} where
@@ -219,12 +219,16 @@ module _ {g : Geometry} where
   unfolding serve
   serve-applied q buffer = applied-cond (eqb (q .kind) 0) (read-steps-applied _ buffer) (write-steps-applied _ buffer)
 
+  answer-record-applied : (q : Request) (buffer : List ℕ) → Applied g (answer-record g q buffer)
+  unfolding answer-record
+  answer-record-applied q buffer = applied-bind (applied-look _) (λ tests. admit-applied _ _ (serve-applied q buffer))
+
   serve-records-applied : (requests : List Request) (n : ℕ) (lent : RunReplied) → Applied g (serve-records g requests n lent)
   unfolding serve-records serve-record
   serve-records-applied requests zero lent = applied-give lent
   serve-records-applied requests (suc n) lent =
       applied-bind (serve-records-applied requests n lent) (λ lent′.
-      applied-bind (admit-applied _ _ (serve-applied _ _)) (λ r. applied-give _))
+      applied-bind (answer-record-applied _ _) (λ r. applied-give _))
 
   pub run-applied : (boundary : Bool) (requests : List Request) (words answers : List ℕ)
       → Applied g (run g boundary requests words answers)

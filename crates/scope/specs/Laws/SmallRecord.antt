@@ -15,10 +15,10 @@ record-stored (a ∷ b ∷ d ∷ []) r e = absurd (omega arith)
 record-stored (a ∷ b ∷ d ∷ f ∷ []) r e = absurd (omega arith)
 record-stored (a ∷ b ∷ d ∷ f ∷ h ∷ more) r e = refl
 
-pub record-kept : (small : List ℕ) → sets small 0 (words-from (record-of small)) ≡ small
-record-kept [] = refl
-record-kept (a ∷ []) = refl
-record-kept (a ∷ b ∷ []) = refl
-record-kept (a ∷ b ∷ d ∷ []) = refl
-record-kept (a ∷ b ∷ d ∷ f ∷ []) = refl
-record-kept (a ∷ b ∷ d ∷ f ∷ h ∷ more) = refl
+pub record-words-kept : (small : List ℕ) → sets small 0 (words-from (record-of small)) ≡ small
+record-words-kept [] = refl
+record-words-kept (a ∷ []) = refl
+record-words-kept (a ∷ b ∷ []) = refl
+record-words-kept (a ∷ b ∷ d ∷ []) = refl
+record-words-kept (a ∷ b ∷ d ∷ f ∷ []) = refl
+record-words-kept (a ∷ b ∷ d ∷ f ∷ h ∷ more) = refl

@@ -1,0 +1,65 @@
+-- `tests::state_answer` meets its contract.
+use mathlib.Core.Path.{sym, _∙_}
+use native.Mathlib.Omega.{arith}
+use borrow.Author.Needs.{needs}
+use borrow.Author.Tests.{not-false}
+use denote.Ref.{now}
+use Rattle.lent.specs.Model.{geometry, state}
+use Rattle.scope.specs.Lent.{State}
+use Rattle.soundness.specs.Bools.{refused, passed}
+use Rattle.admission.specs.Tested.{Sizes-pass, size-applies, sizes-pass, geometry-passes, lengths-pass, damaged, undamaged}
+use Rattle.admission.proofs.tests.state_answer.Statement.{statement}
+use Rattle.admission.proofs.tests.state_answer.Tie as tie
+
+-- The state that is tested.
+abbrev s : tie.Start → State
+s c = let a = c .args in state (now (a .chip)) (now (a .spare)) (now (a .directory)) (now (a .cache)) (a .rec)
+
+passes : (c : tie.Else1) → let start = c .before .before .before .before .before .before .before in Sizes-pass (geometry (start .args .g)) (s start) (start .args .others)
+passes c =
+    let start = c .before .before .before .before .before .before .before in
+    sizes-pass (geometry (start .args .g)) (s start) (start .args .others) (sym (c .if1 .left) ∙ c .before .size-answer .ensures)
+
+size-answer-requires : tie.Need-size-answer-requires
+size-answer-requires c κs = search needs
+
+returns : tie.Need-returns
+returns c =
+    let start = c .before .before .before .before .before .before .before in
+    (size-applies (geometry (start .args .g)) (s start) (start .args .others) (c .before .size-answer .ensures) (c .if1 .taken), λ e. absurd (c .if1 .taken e))
+
+is-sound-requires : tie.Need-is-sound-requires
+is-sound-requires c κs =
+    let start = c .before .before .before .before .before .before .before .before .before in
+    let pass = passes (c .before .before) in
+    let ok = geometry-passes (geometry (start .args .g)) (s start) (start .args .others) pass in
+    (ok, (lengths-pass (geometry (start .args .g)) (s start) (start .args .others) pass, omega (arith, ok .D+T-to, start .pre)))
+
+same-length : tie.Need-same-length
+same-length c = search needs
+
+returns-2 : tie.Need-returns-2
+returns-2 c =
+    let start = c .before .before .before .before .before .before .before .before .before .before .before .before .before in (
+      damaged (geometry (start .args .g)) (s start) (start .args .others) (passes (c .before .before .before .before .before .before))
+          (refused (c .before .before .before .is-sound .ensures .0) (c .if2 .taken)),
+      λ e. absurd (omega arith),
+    )
+
+same-length-2 : tie.Need-same-length-2
+same-length-2 c = search needs
+
+returns-3 : tie.Need-returns-3
+returns-3 c =
+    let start = c .before .before .before .before .before .before .before .before .before .before .before .before .before in
+    let checked = c .before .before .before .is-sound in
+    let is = not-false _ (c .if2 .left) in (
+      undamaged (geometry (start .args .g)) (s start) (start .args .others) (passes (c .before .before .before .before .before .before))
+          (passed (checked .ensures .0) (c .if2 .left)),
+      λ _. record { counted = checked .ensures .1 .0 is; filtered = checked .ensures .1 .1 is },
+    )
+
+pub state-answer-spec : {M : Type 1} → statement M
+state-answer-spec =
+    tie.close
+    (tie.spec size-answer-requires returns is-sound-requires same-length returns-2 same-length-2 returns-3)

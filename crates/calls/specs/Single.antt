@@ -1,0 +1,72 @@
+-- A single request, be it a read or a write, refused and served.
+use Prim.Native.Nat.{ℕ, _≤_}
+use mathlib.Core.Path.{_≡_, ap, sym, _∙_}
+use mathlib.Core.Logic.{_≢_}
+use mathlib.Core.Bool.{Bool}
+use mathlib.Core.List.{List, _++_}
+use native.Mathlib.Omega.{arith}
+use lib.Dec.{eqb}
+use lib.ListN.{length}
+use borrow.Author.Tests.{eqb-true}
+use Rattle.flash.specs.Cases.{and-true}
+use Rattle.lent.specs.Does.{Does}
+use Rattle.scope.specs.Geometry.{Geometry, Accepted}
+use Rattle.scope.specs.Lent.{State, Request}
+use Rattle.scope.specs.Operations.{Counts, no-counts, Step, look, _>>=_}
+use Rattle.scope.specs.Replies.{DONE, first-applying, right-sizes, admit}
+use Rattle.scope.specs.Requests.{Replied, replied}
+use Rattle.scope.specs.Calls.{state-sizes, state-tests, request-tests, single-tests}
+use Rattle.scope.specs.Boundary.{put-counts}
+use Rattle.scope.specs.Contracts.{Answers}
+use Rattle.words.specs.Census.{Census}
+use Rattle.words.specs.Filter.{Filter}
+use Rattle.requests.specs.Ready.{Ready-for}
+use Rattle.admission.specs.Answers.{does-answers, refuses, admits}
+use Rattle.admission.specs.Sizes.{buffer-right, with-buffer}
+use Rattle.admission.specs.Tested.{request-below, single-passes, geometry-passes, lengths-pass, soundness-passes}
+use Rattle.admission.specs.Room.{most-cost}
+use Rattle.admission.specs.SingleTested.{Single-tested}
+
+-- The definition of either, by its steps.
+abbrev pub single : Geometry → Bool → Request → List ℕ → Step Replied → Step Replied
+single g others q buffer steps = look (λ s. single-tests g others q buffer s) >>= (λ tests. admit tests (replied buffer) steps)
+
+module _ {g : Geometry} {others : Bool} {q : Request} (buffer : List ℕ) {s : State} {n : ℕ} {census filter : List ℕ}
+    (t : Single-tested g others q (length buffer) s n census filter) where
+  answered : n ≡ first-applying (single-tests g others q buffer s)
+  answered =
+      t .tested ∙ ap (λ (b : Bool). first-applying (state-tests g b s ++ request-tests g (s .small) q)) (sym (with-buffer g s buffer others))
+
+  -- What the steps begin with.
+  pub single-ready : (bound : ℕ) → (Accepted g → bound ≤ most-cost) → n ≡ DONE
+      → (Ready-for (q .page) g s bound (record { reads = 0; programs = 0; erases = 0 }) × (length buffer ≡ g .W))
+      × (Census g (s .spare) census × Filter (s .cache) (s .small .used) filter)
+  single-ready bound few e =
+      let right = buffer-right g (length buffer) others in
+      let pass = single-passes g s right q (sym e ∙ t .tested) in
+      let sizes = pass .state-passed .sizes-passed in
+      let ok = geometry-passes g s right sizes in
+      let room : bound ≤ most-cost = few ok in
+      let noted = t .noted e in (
+        (
+          record {
+            ready = record {
+              accepted = ok;
+              lengths = lengths-pass g s right sizes;
+              sound = soundness-passes g s right (pass .state-passed);
+              countable = record { reads = omega arith; programs = omega arith; erases = omega arith };
+            };
+            below = request-below g (s .small) q (pass .request-passed);
+          },
+          eqb-true (length buffer) (g .W) (and-true (eqb (length buffer) (g .W)) others (and-true (right-sizes (state-sizes g s)) right (sizes .sized) .1) .0),
+        ),
+        (noted .counted, noted .filtered),
+      )
+
+  module _ (steps : Step Replied) {counts counts′ : List ℕ} where
+    pub single-refused : n ≢ DONE → counts′ ≡ put-counts counts no-counts → Answers (single g others q buffer steps s) counts (replied buffer n) s counts′
+    single-refused h e = does-answers no-counts (refuses _ (λ t. t) (replied buffer) steps answered h) e
+
+    pub single-served : {x : Replied} {s′ : State} (c : Counts) → n ≡ DONE → Does steps s no-counts x s′ c → counts′ ≡ put-counts counts c
+        → Answers (single g others q buffer steps s) counts x s′ counts′
+    single-served c e d p = does-answers c (admits _ (λ t. t) (replied buffer) steps (sym e ∙ answered) d) p

@@ -1,0 +1,66 @@
+-- `wordcalls::write` meets its contract: the call by value, between the record loaded and the record stored.
+use mathlib.Core.Bool.{Bool}
+use borrow.Author.Needs.{needs}
+use denote.Ref.{now}
+use Rattle.lent.specs.Model.{geometry}
+use Rattle.scope.specs.Calls.{write}
+use Rattle.scope.specs.Boundary.{tf-write}
+use Rattle.wording.specs.Words.{tested-in-words}
+use Rattle.wordcalls.proofs.write.Statement.{statement}
+use Rattle.wordcalls.proofs.write.Tie as tie
+
+five-words-requires : tie.Need-five-words-requires
+five-words-requires c κs = search needs
+
+load-requires : tie.Need-load-requires
+load-requires c κs = search needs
+
+write-requires : tie.Need-write-requires
+write-requires c κs = search needs
+
+store-requires : tie.Need-store-requires
+store-requires c κs = search needs
+
+same-length : tie.Need-same-length
+same-length c = search needs
+
+same-length-2 : tie.Need-same-length-2
+same-length-2 c = search needs
+
+same-length-3 : tie.Need-same-length-3
+same-length-3 c = search needs
+
+same-length-4 : tie.Need-same-length-4
+same-length-4 c = search needs
+
+same-length-5 : tie.Need-same-length-5
+same-length-5 c = search needs
+
+same-length-6 : tie.Need-same-length-6
+same-length-6 c = search needs
+
+returns : tie.Need-returns
+unfolding tf-write
+returns c =
+    let done = c .before .before .before .before .before .before .before .before .before .before .before .before .before .before in
+    let loaded = done .before .before .before .before .before .before in
+    let tested = loaded .before .before in
+    let a = tested .before .before .before .before .before .before .before .before .before .args in
+    tested-in-words (now (a .«record»)) (λ (b : Bool). write (geometry (a .g)) b (a .page) (now (a .buffer)))
+    (tested .five-words .ensures) (loaded .load .ensures) (done .write .ensures) (c .before .before .store .ensures)
+
+pub write-spec : {M : Type 1} → statement M
+write-spec =
+    tie.close
+    (tie.spec
+    five-words-requires
+    load-requires
+    write-requires
+    store-requires
+    same-length
+    same-length-2
+    same-length-3
+    same-length-4
+    same-length-5
+    same-length-6
+    returns)
