@@ -15,6 +15,12 @@ pub const VALID: u32 = 65535;
 
 pub const INVALID: u32 = 0;
 
+// Words a page has in the spare: its state and its owner.
+pub const SPARE_WORDS: usize = 2;
+
+// Words an entry has in the cache: its logical page, its physical page, and whether it is changed.
+pub const ENTRY_WORDS: usize = 3;
+
 // The six numbers of a geometry.
 pub struct Geometry {
     pub p: u32,
