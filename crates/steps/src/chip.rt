@@ -20,12 +20,16 @@ use words::runs::copy_in;
 use words::runs::copy_out;
 use words::runs::copy_within;
 use words::runs::fill_erased;
-use words::runs::store_two;
+use words::spare::claim;
+use words::spare::erase_pages;
+use words::spare::owner_at;
+use words::spare::set_state;
+use words::spare::state_at;
 ghost use mathlib.Core.Path.{_≡_};
-ghost use Prim.Native.Nat.{ℕ, _+_, _*_, _<_};
+ghost use Prim.Native.Nat.{ℕ, _+_, _*_, _≤_, _<_};
 ghost use lib.ListN.{length, set};
 ghost use Rattle.scope.specs.Geometry.{Accepted, blocks, pages};
-ghost use Rattle.scope.specs.Lent.{invalid, Place, is-valid, translation-word};
+ghost use Rattle.scope.specs.Lent.{invalid, Place, spare-words, is-valid, with-state, translation-word};
 ghost use Rattle.scope.specs.Operations.{Erase, perform};
 ghost use Rattle.scope.specs.Room.{read-page, program-next};
 ghost use Rattle.scope.specs.Steps.{word-for};
@@ -55,29 +59,29 @@ pub fn erase(
     let w = g.w as usize;
     let at = b as usize * p;
     fill_erased(chip, at * w, p * w);
-    fill_erased(spare, at * 2, p * 2);
+    erase_pages(spare, at, p);
     census[b as usize] = ERASED_PAGE * g.p;
     count_erase(work)
 }
 
 // Whether page p is valid.
 pub fn is_valid(p: u32, spare: &[u32]) -> bool
-    requires { ⌜ p * 2 < length (now spare) ⌝ }
+    requires { ⌜ (p + 1) * spare-words ≤ length (now spare) ⌝ }
     ensures { λ r. ⌜ r ≡ is-valid p (now (spare .entry)) ⌝ }
 {
-    spare[p as usize * 2] == VALID
+    state_at(spare, p as usize) == VALID
 }
 
 // Page p is marked invalid.
 pub fn mark(g: Geometry, p: u32, spare: &mut [u32], census: &mut [u32])
     requires { ⌜ Spare-lent (geometry g) (now spare) × (p < pages (geometry g)) ⌝ }
     requires { ⌜ Census (geometry g) (now spare) (now census) ⌝ }
-    ensures { λ _. ⌜ now (spare .exit) ≡ set (now (spare .entry)) (p * 2) invalid ⌝ }
+    ensures { λ _. ⌜ now (spare .exit) ≡ with-state p invalid (now (spare .entry)) ⌝ }
     ensures { λ _. ⌜ Census (geometry g) (now (spare .exit)) (now (census .exit)) ⌝ }
 {
-    let at = p as usize * 2;
-    restate(census, (p / g.p) as usize, spare[at], INVALID);
-    spare[at] = INVALID;
+    let at = p as usize;
+    restate(census, (p / g.p) as usize, state_at(spare, at), INVALID);
+    set_state(spare, at, INVALID);
 }
 
 // The former page is, if there is one.
@@ -121,9 +125,9 @@ pub fn claim_next(
     let b = open_block(rec, r);
     let i = next_offset(rec, r);
     let q = next_page(g, r, rec);
-    let at = q as usize * 2;
-    restate(census, b as usize, spare[at], VALID);
-    store_two(spare, at, VALID, owner);
+    let at = q as usize;
+    restate(census, b as usize, state_at(spare, at), VALID);
+    claim(spare, at, owner);
     let next = Work {
         rec: with_open(rec, r, b, i + 1),
         counts,
@@ -188,7 +192,7 @@ pub fn relocate(
     let rec = work.rec;
     let q = next_page(g, r, rec) as usize;
     copy_within(chip, from * w, q * w, w);
-    let owner = spare[from * 2 + 1];
+    let owner = owner_at(spare, from);
     let read = count_read(work);
     let claimed = claim_next(g, r, owner, spare, census, read);
     mark(g, p, spare, census);

@@ -31,14 +31,8 @@ mul-fill-erased-2 c = omega (arith, in-place (c .before .before .before .before 
 fill-erased-requires : tie.Need-fill-erased-requires
 fill-erased-requires c κs = omega (arith, in-place (c .before .before .before .before .before .before))
 
-mul-fill-erased-3 : tie.Need-mul-fill-erased-3
-mul-fill-erased-3 c = omega (arith, in-place (c .before .before .before .before .before .before .before .before .before .before))
-
-mul-fill-erased-4 : tie.Need-mul-fill-erased-4
-mul-fill-erased-4 c = omega (arith, in-place (c .before .before .before .before .before .before .before .before .before .before))
-
-fill-erased-requires-2 : tie.Need-fill-erased-requires-2
-fill-erased-requires-2 c κs = omega (arith, in-place (c .before .before .before .before .before .before .before .before .before .before))
+erase-pages-requires : tie.Need-erase-pages-requires
+erase-pages-requires c κs = in-place (c .before .before .before .before .before .before .before .before .before .before) .spares
 
 mul-census : tie.Need-mul-census
 mul-census c = omega (arith, in-place (c .before .before .before .before .before .before .before .before .before .before .before .before .before .before))
@@ -66,7 +60,7 @@ same-length-3 c = search needs
 returns : tie.Need-returns
 returns c =
     let start = c .before .before .before .before .before .before .before .before .before .before .before .before .before .before .before in
-    let spares = c .before .before .before .before .fill-erased2 .ensures in (
+    let spares = c .before .before .before .before .erase-pages .ensures in (
       erase-does (geometry (start .args .g)) (start .args .b) (c .before .before .before .before .before .before .before .before .fill-erased .ensures) spares
           (c .count-erase .ensures .0) (c .count-erase .ensures .1),
       census-erased (start .pre .1) (start .args .b) (start .pre .0 .2) (in-place start .spares) spares,
@@ -82,9 +76,7 @@ erase-spec =
     mul-fill-erased
     mul-fill-erased-2
     fill-erased-requires
-    mul-fill-erased-3
-    mul-fill-erased-4
-    fill-erased-requires-2
+    erase-pages-requires
     mul-census
     mul-census-2
     slice-write-census

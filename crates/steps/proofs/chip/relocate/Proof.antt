@@ -1,12 +1,10 @@
 -- `steps::chip::relocate` meets its contract: a copy, a claim with the page's own owner, and a mark.
-use Prim.Native.Nat.{_+_, _*_}
 use native.Mathlib.Omega.{arith}
 use borrow.Author.Needs.{needs}
 use Rattle.steps.specs.Lies.{Words-lie, spare-still, next-same, next-words-lie, words-lie, spare-lies, pages-apart}
 use Rattle.steps.specs.Chip.{relocate-does}
 use Rattle.lent.specs.Model.{geometry}
 use Rattle.lent.specs.Shapes.{room-after-read}
-use Rattle.words.specs.Runs.{getD-any}
 use Rattle.steps.proofs.chip.relocate.Statement.{statement}
 use Rattle.steps.proofs.chip.relocate.Tie as tie
 
@@ -43,17 +41,10 @@ copy-within-requires c κs =
       pages-apart (start .args .g .w) (start .args .p) (c .before .next-page .result),
     )
 
-mul-owner : tie.Need-mul-owner
-mul-owner c = search needs
-
-add-owner : tie.Need-add-owner
-add-owner c = search needs
-
-mul-owner-2 : tie.Need-mul-owner-2
-mul-owner-2 c = search needs
-
-slice-read-owner : tie.Need-slice-read-owner
-slice-read-owner c = search needs
+owner-at-requires : tie.Need-owner-at-requires
+owner-at-requires c κs =
+    let start = c .before .before .before .before .before .before .before .before .before .before .before in
+    spare-lies (start .pre .0 .1) (start .args .p) (start .pre .0 .2) .words
 
 count-read-requires : tie.Need-count-read-requires
 count-read-requires c κs = search needs
@@ -61,7 +52,7 @@ count-read-requires c κs = search needs
 claim-next-requires : tie.Need-claim-next-requires
 claim-next-requires c κs =
     let read = c .before .before .count-read .ensures in
-    let start = c .before .before .before .before .before .before .before .before .before .before .before .before .before .before in (
+    let start = c .before .before .before .before .before .before .before .before .before .before .before .before .before .before .before in (
       (start .pre .0 .1, next-same (read .0) (start .pre .1 .0 .0), room-after-read 1 _ _ (start .pre .1 .0 .1) (read .1)),
       start .pre .1 .1,
     )
@@ -69,7 +60,7 @@ claim-next-requires c κs =
 mark-requires : tie.Need-mark-requires
 mark-requires c κs =
     let claimed = c .before .before .before .before .before .before in
-    let start = claimed .before .before .before .before .before .before .before .before .before .before .before .before .before .before .before in
+    let start = claimed .before .before .before .before .before .before .before .before .before .before .before .before .before .before .before .before in
     ((spare-still (start .pre .0 .1) (claimed .claim-next .kept .1 .1 .1 .0), start .pre .0 .2), claimed .claim-next .ensures .1)
 
 same-length : tie.Need-same-length
@@ -86,12 +77,10 @@ returns c =
     let marked = c .before .before .before .before .before in
     let claimed = marked .before .before .before .before .before .before .before in
     let read = claimed .before .before .before in
-    let copied = read .before .before .before .before in
+    let copied = read .before .before .before .before .before in
     let found = copied .before .before in
-    let start = found .before .before .before .before .before .before in
-    let a = start .args in
-    let in-spare = spare-lies (start .pre .0 .1) (a .p) (start .pre .0 .2) in (
-      relocate-does (a .p) (getD-any (a .spare .now) (a .p * 2 + 1) 0 4294967295 (omega (arith, in-spare))) (found .next-page .ensures)
+    let start = found .before .before .before .before .before .before in (
+      relocate-does (start .args .p) (read .before .owner-at .ensures) (found .next-page .ensures)
           (copied .copy-within .ensures) (read .count-read .ensures .0) (read .count-read .ensures .1)
           (claimed .claim-next .ensures .0) (marked .mark .ensures .0),
       marked .mark .ensures .1,
@@ -107,10 +96,7 @@ relocate-spec =
     mul-copy-within
     mul-copy-within-2
     copy-within-requires
-    mul-owner
-    add-owner
-    mul-owner-2
-    slice-read-owner
+    owner-at-requires
     count-read-requires
     claim-next-requires
     mark-requires
