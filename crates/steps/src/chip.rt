@@ -12,6 +12,7 @@ use lent::Record;
 use lent::Region;
 use lent::VALID;
 use lent::Work;
+use lent::as_it_is;
 use lent::count_erase;
 use lent::count_program;
 use lent::count_read;
@@ -55,13 +56,18 @@ pub fn erase(
         (now (chip .exit)) (now (spare .exit)) r ⌝ }
     ensures { λ _. ⌜ Census (geometry g) (now (spare .exit)) (now (census .exit)) ⌝ }
 {
+    let rec = work.rec;
+    let counts = work.counts;
     let p = g.p as usize;
     let w = g.w as usize;
     let at = b as usize * p;
     fill_erased(chip, at * w, p * w);
     erase_pages(spare, at, p);
     census[b as usize] = ERASED_PAGE * g.p;
-    count_erase(work)
+    Work {
+        rec: as_it_is(rec),
+        counts: count_erase(counts),
+    }
 }
 
 // Whether page p is valid.
@@ -130,11 +136,11 @@ pub fn claim_next(
     claim(spare, at, owner);
     let next = Work {
         rec: with_open(rec, r, b, i + 1),
-        counts,
+        counts: count_program(counts),
     };
     Handed {
         value: q,
-        work: count_program(next),
+        work: next,
     }
 }
 
@@ -190,10 +196,14 @@ pub fn relocate(
     let w = g.w as usize;
     let from = p as usize;
     let rec = work.rec;
+    let counts = work.counts;
     let q = next_page(g, r, rec) as usize;
     copy_within(chip, from * w, q * w, w);
     let owner = owner_at(spare, from);
-    let read = count_read(work);
+    let read = Work {
+        rec: as_it_is(rec),
+        counts: count_read(counts),
+    };
     let claimed = claim_next(g, r, owner, spare, census, read);
     mark(g, p, spare, census);
     let done = claimed.work;
@@ -210,9 +220,14 @@ pub fn read_page(g: Geometry, p: u32, chip: &[u32], buffer: &mut [u32], work: Wo
         × Room-to-count 1 (work .counts) ⌝ }
     ensures { λ r. ⌜ Does-by-chip (read-page (geometry g) p) (now (chip .entry)) work (now (buffer .exit)) r ⌝ }
 {
+    let rec = work.rec;
+    let counts = work.counts;
     let w = g.w as usize;
     copy_out(buffer, chip, p as usize * w);
-    count_read(work)
+    Work {
+        rec: as_it_is(rec),
+        counts: count_read(counts),
+    }
 }
 
 // The word for logical page l, of the translation page that an entry names; none, with no read, where it names none.
@@ -224,11 +239,17 @@ pub fn word_for(g: Geometry, l: u32, page: Entry, chip: &[u32], work: Work) -> H
     let Entry::Place(q) = page else {
         return Handed { value: NONE, work };
     };
+    let rec = work.rec;
+    let counts = work.counts;
     let w = g.w as usize;
     let word = chip[q as usize * w + l as usize % w];
+    let read = Work {
+        rec: as_it_is(rec),
+        counts: count_read(counts),
+    };
     Handed {
         value: word,
-        work: count_read(work),
+        work: read,
     }
 }
 
@@ -241,13 +262,17 @@ pub fn begin_next(g: Geometry, r: Region, former: Entry, chip: &mut [u32], work:
 {
     let w = g.w as usize;
     let rec = work.rec;
+    let counts = work.counts;
     let q = next_page(g, r, rec) as usize;
     let Entry::Place(p) = former else {
         fill_erased(chip, q * w, w);
         return work;
     };
     copy_within(chip, p as usize * w, q * w, w);
-    count_read(work)
+    Work {
+        rec: as_it_is(rec),
+        counts: count_read(counts),
+    }
 }
 
 // In the translation page at q, the word of logical page l.

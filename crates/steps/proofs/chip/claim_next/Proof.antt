@@ -74,7 +74,8 @@ restate-requires : tie.Need-restate-requires
 restate-requires c κs =
     let found = c .before .before .before in
     let start = given found in
-    let r = restatable (start .pre .0 .0) (start .pre .1) (opened found) (offset found) (on-chip found) (has-room found) (at-offset found) (c .state-at .ensures) in
+    let r = restatable (start .pre .0 .0) (start .pre .1) (opened found) (offset found) (on-chip found) (has-room found) (at-offset found)
+    (c .state-at .ensures) in
     (r .inside, r .has, r .little)
 
 claim-requires : tie.Need-claim-requires
@@ -107,9 +108,9 @@ returns c =
       record {
         is-next = found .next-page .ensures;
         owned = stores;
-        moves-on = ap small (c .count-program .ensures .0) ∙ c .before .with-open .ensures
+        moves-on = c .before .with-open .ensures
             ∙ advanced-is (region (a .r)) (small (a .work .rec)) (found .before .before .open-block .ensures) (found .before .next-offset .ensures);
-        counting = c .count-program .ensures .1;
+        counting = c .count-program .ensures;
       },
       claim-kept (start .pre .0 .0) (start .pre .1) (opened found) (offset found) (on-chip found) (has-room found) (at-offset found)
           (restated .before .state-at .ensures) (a .owner) stores (restated .restate .ensures),
