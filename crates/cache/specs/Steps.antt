@@ -4,11 +4,13 @@ use native.Mathlib.Omega.{arith}
 use mathlib.Core.Path.{_≡_, refl}
 use mathlib.Core.List.{List, []}
 use Rattle.scope.specs.Geometry.{Geometry}
+use Rattle.scope.specs.Regions.{Region}
 use Rattle.scope.specs.SmallRecord.{with-used}
 use Rattle.scope.specs.Lent.{State, logical-at, with-cache, with-small}
 use Rattle.scope.specs.Operations.{Operation, Outcome, give, set-cache, set-small, _>>=_}
 use Rattle.scope.specs.Cache.{touch, enter, dropped, forget, set-entry}
 use Rattle.scope.specs.Laws.Applied.{Same-flash}
+use Rattle.flash.specs.Heads.{Same-head, with-used-head}
 use Rattle.cache.specs.Ranks.{Has-rank}
 use Rattle.cache.specs.Holds.{Found, Hit, Miss, updated, Cache-holds}
 use Rattle.cache.specs.Changes.{Holds-at, touched-holds, entered-holds, forgotten-holds, placed-holds, placed-ranks}
@@ -16,14 +18,15 @@ use Rattle.cache.specs.Changes.{Holds-at, touched-holds, entered-holds, 
 abbrev pub Holds-in : Geometry → State → (ℕ → Found) → Type 0
 Holds-in g s m = Cache-holds g (s .cache) (s .small .used) m
 
--- A step that changes the cache alone: chip, spare and directory stay, and the small record but for the number of used entries. The
--- operations are listed, if any: reads.
-pub record Cache-step (g : Geometry) {A : Type 0} (s : State) (o : Outcome A) (ops : List Operation) (used : ℕ) (m : ℕ → Found)
+-- A step that changes the cache alone: chip, spare, directory and both regions' heads stay, and n entries are used. The operations are
+-- listed, if any: reads.
+pub record Cache-step (g : Geometry) {A : Type 0} (s : State) (o : Outcome A) (ops : List Operation) (n : ℕ) (m : ℕ → Found)
     : Type 0 where
   pub did : o .did ≡ ops
   pub flash : Same-flash (o .after) s
   pub directory : o .after .directory ≡ s .directory
-  pub small : o .after .small ≡ with-used used (s .small)
+  pub heads : (r : Region) → Same-head r (s .small) (o .after .small)
+  pub used : o .after .small .used ≡ n
   pub holds : Holds-in g (o .after) m
 
 -- One that hands back the rank of logical page l.
@@ -46,7 +49,14 @@ outcome x cache used s = record { value = x; after = with-entries cache used s; 
 cache-alone : {A : Type 0} {x : A} {g : Geometry} (s : State) {cache : List ℕ} {used : ℕ} {m : ℕ → Found}
     → Cache-holds g cache used m → Cache-step g s (outcome x cache used s) [] used m
 cache-alone s h =
-    record { did = refl; flash = record { chip = refl; spare = refl }; directory = refl; small = refl; holds = h }
+    record {
+      did = refl;
+      flash = record { chip = refl; spare = refl };
+      directory = refl;
+      heads = λ r. with-used-head r _ (s .small);
+      used = refl;
+      holds = h;
+    }
 
 rank-handed : {g : Geometry} (s : State) {cache : List ℕ} {used : ℕ} {m : ℕ → Found} {l : ℕ}
     → Holds-at g cache used m l 0 → Rank-handed g s (outcome 0 cache used s) [] used m l

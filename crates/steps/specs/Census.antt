@@ -8,8 +8,8 @@ use mathlib.Core.List.{List, [], _∷_}
 use native.Mathlib.Nat.{div-add-mod', mod-lt, div-lt-iff-lt-mul}
 use native.Mathlib.Omega.{arith}
 use lib.Dec.{eqb, ltb}
-use lib.ListN.{length, getD, set, replicate, length-set}
-use lib.Seq.{sets, getD-set-same, getD-set-other}
+use lib.ListN.{length, getD, set, length-set}
+use lib.Seq.{getD-set-same, getD-set-other}
 use Rattle.scope.specs.Counting.{count, lowest, fewest}
 use Rattle.scope.specs.Geometry.{Geometry, Accepted, most-pages-in-block, most-blocks, blocks, pages}
 use Rattle.scope.specs.Regions.{Region, Data, Translation, first-block, region-blocks, page-in}
