@@ -1,7 +1,7 @@
 -- A region's head: its open block and next page offset in the small record. What a step leaves of the record is said by the heads and by
 -- the number of used entries, and not of the record as a whole, so that nothing is promised of what else it may hold.
 use Prim.Native.Nat.{ℕ, suc}
-use mathlib.Core.Path.{_≡_, refl, ap, _∙_}
+use mathlib.Core.Path.{_≡_, refl, sym, ap, _∙_}
 use Rattle.scope.specs.Regions.{Region, Data, Translation}
 use Rattle.scope.specs.SmallRecord.{SmallRecord, open-block, next-offset, opened, advanced, with-used}
 use Rattle.flash.specs.Places.{other}
@@ -23,6 +23,9 @@ pub record Same-rest (r : Region) (x x′ : SmallRecord) : Type 0 where
 
 pub rest-same : (r : Region) {x x′ : SmallRecord} → x′ ≡ x → Same-rest r x x′
 rest-same r e = record { head = head-same (other r) e; used = ap (λ (y : SmallRecord). y .used) e }
+
+pub rest-sym : {r : Region} {x x′ : SmallRecord} → Same-rest r x x′ → Same-rest r x′ x
+rest-sym a = record { head = record { opened = sym (a .head .opened); offset = sym (a .head .offset) }; used = sym (a .used) }
 
 pub rest-trans : {r : Region} {x x′ x″ : SmallRecord} → Same-rest r x x′ → Same-rest r x′ x″ → Same-rest r x x″
 rest-trans a b = record { head = head-trans (a .head) (b .head); used = b .used ∙ a .used }
