@@ -1,5 +1,5 @@
 -- Update: the law of the one step that writes translation pages. It keeps the index, sets what flash stores for its mappings, leaves
--- the data region, the cache and the rest of the small record, and costs at most 2P+1.
+-- the data region, the cache and the used entries, and costs at most 2P+1.
 use Prim.Native.Nat.{ℕ, _+_, _*_, _≤_, _<_}
 use mathlib.Core.Path.{_≡_, refl, sym, _∙_, ap, subst}
 use mathlib.Core.Logic.{_≢_}
