@@ -42,12 +42,12 @@ ghost use Rattle.steps.specs.Chip.{Claimed, Begun, marked, relocate};
 
 // Block b is erased.
 pub fn erase(
+    work: Work,
     g: Geometry,
     b: u32,
     chip: &mut [u32],
     spare: &mut [u32],
     census: &mut [u32],
-    work: Work,
 ) -> Work
     requires { ⌜ Chip-lent (geometry g) (now chip) × Spare-lent (geometry g) (now spare) × (b < blocks (geometry g))
         × Room-to-count 1 (work .counts) ⌝ }
@@ -104,7 +104,7 @@ pub fn mark_old(g: Geometry, old: Entry, spare: &mut [u32], census: &mut [u32])
 }
 
 // The open block's next page.
-pub fn next_page(g: Geometry, r: Region, rec: Record) -> u32
+pub fn next_page(rec: Record, g: Geometry, r: Region) -> u32
     requires { ⌜ Accepted (geometry g) × Has-next (geometry g) (region r) (small rec) ⌝ }
     ensures { λ q. ⌜ q ≡ next-page (geometry g) (region r) (small rec) ⌝ }
 {
@@ -113,12 +113,12 @@ pub fn next_page(g: Geometry, r: Region, rec: Record) -> u32
 
 // It is claimed for an owner; its words are the caller's to store.
 pub fn claim_next(
+    work: Work,
     g: Geometry,
     r: Region,
     owner: u32,
     spare: &mut [u32],
     census: &mut [u32],
-    work: Work,
 ) -> Handed
     requires { ⌜ Spare-lent (geometry g) (now spare) × Has-next (geometry g) (region r) (small (work .rec))
         × Room-to-count 1 (work .counts) ⌝ }
@@ -130,7 +130,7 @@ pub fn claim_next(
     let counts = work.counts;
     let b = open_block(rec, r);
     let i = next_offset(rec, r);
-    let q = next_page(g, r, rec);
+    let q = next_page(rec, g, r);
     let at = q as usize;
     restate(census, b as usize, state_at(spare, at), VALID);
     claim(spare, at, owner);
@@ -146,14 +146,14 @@ pub fn claim_next(
 
 // It is programmed with an owner and a page's words.
 pub fn program_next(
+    work: Work,
     g: Geometry,
     r: Region,
     owner: u32,
-    words: &[u32],
     chip: &mut [u32],
     spare: &mut [u32],
     census: &mut [u32],
-    work: Work,
+    words: &[u32],
 ) -> Handed
     requires { ⌜ Chip-lent (geometry g) (now chip) × Spare-lent (geometry g) (now spare) × (length (now words) ≡ geometry g .W) ⌝ }
     requires { ⌜ Has-next (geometry g) (region r) (small (work .rec)) × Room-to-count 1 (work .counts) ⌝ }
@@ -164,9 +164,9 @@ pub fn program_next(
 {
     let w = g.w as usize;
     let rec = work.rec;
-    let q = next_page(g, r, rec) as usize;
+    let q = next_page(rec, g, r) as usize;
     copy_in(chip, q * w, words);
-    claim_next(g, r, owner, spare, census, work)
+    claim_next(work, g, r, owner, spare, census)
 }
 
 // Where a page has gone, and its owner.
@@ -178,13 +178,13 @@ pub struct Moved {
 
 // Page p moves to the open block's next page, with its owner, and is marked invalid.
 pub fn relocate(
+    work: Work,
     g: Geometry,
     r: Region,
     p: u32,
     chip: &mut [u32],
     spare: &mut [u32],
     census: &mut [u32],
-    work: Work,
 ) -> Moved
     requires { ⌜ Chip-lent (geometry g) (now chip) × Spare-lent (geometry g) (now spare) × (p < pages (geometry g)) ⌝ }
     requires { ⌜ Has-next (geometry g) (region r) (small (work .rec)) × Room-to-count 2 (work .counts) ⌝ }
@@ -197,14 +197,14 @@ pub fn relocate(
     let from = p as usize;
     let rec = work.rec;
     let counts = work.counts;
-    let q = next_page(g, r, rec) as usize;
+    let q = next_page(rec, g, r) as usize;
     copy_within(chip, from * w, q * w, w);
     let owner = owner_at(spare, from);
     let read = Work {
         rec: as_it_is(rec),
         counts: count_read(counts),
     };
-    let claimed = claim_next(g, r, owner, spare, census, read);
+    let claimed = claim_next(read, g, r, owner, spare, census);
     mark(g, p, spare, census);
     let done = claimed.work;
     Moved {
@@ -215,7 +215,7 @@ pub fn relocate(
 }
 
 // Page p is read into a buffer.
-pub fn read_page(g: Geometry, p: u32, chip: &[u32], buffer: &mut [u32], work: Work) -> Work
+pub fn read_page(work: Work, g: Geometry, p: u32, chip: &[u32], buffer: &mut [u32]) -> Work
     requires { ⌜ Chip-lent (geometry g) (now chip) × (p < pages (geometry g)) × (length (now buffer) ≡ geometry g .W)
         × Room-to-count 1 (work .counts) ⌝ }
     ensures { λ r. ⌜ Does-by-chip (read-page (geometry g) p) (now (chip .entry)) work (now (buffer .exit)) r ⌝ }
@@ -231,7 +231,7 @@ pub fn read_page(g: Geometry, p: u32, chip: &[u32], buffer: &mut [u32], work: Wo
 }
 
 // The word for logical page l, of the translation page that an entry names; none, with no read, where it names none.
-pub fn word_for(g: Geometry, l: u32, page: Entry, chip: &[u32], work: Work) -> Handed
+pub fn word_for(work: Work, g: Geometry, l: u32, page: Entry, chip: &[u32]) -> Handed
     requires { ⌜ Chip-lent (geometry g) (now chip) × ((q : ℕ) → entry page ≡ Place q → q < pages (geometry g))
         × Room-to-count 1 (work .counts) ⌝ }
     ensures { λ x. ⌜ Does-by-chip (word-for (geometry g) l (entry page)) (now (chip .entry)) work (x .value) (x .work) ⌝ }
@@ -255,7 +255,7 @@ pub fn word_for(g: Geometry, l: u32, page: Entry, chip: &[u32], work: Work) -> H
 
 // The words that an update of a translation page begins with are put into the open block's next page: those of the former page, which
 // are read, or none throughout.
-pub fn begin_next(g: Geometry, r: Region, former: Entry, chip: &mut [u32], work: Work) -> Work
+pub fn begin_next(work: Work, g: Geometry, r: Region, former: Entry, chip: &mut [u32]) -> Work
     requires { ⌜ Chip-lent (geometry g) (now chip) × ((p : ℕ) → entry former ≡ Place p → p < pages (geometry g)) ⌝ }
     requires { ⌜ Has-next (geometry g) (region r) (small (work .rec)) × Room-to-count 1 (work .counts) ⌝ }
     ensures { λ x. ⌜ Begun (geometry g) (region r) (entry former) (now (chip .entry)) work (now (chip .exit)) x ⌝ }
@@ -263,7 +263,7 @@ pub fn begin_next(g: Geometry, r: Region, former: Entry, chip: &mut [u32], work:
     let w = g.w as usize;
     let rec = work.rec;
     let counts = work.counts;
-    let q = next_page(g, r, rec) as usize;
+    let q = next_page(rec, g, r) as usize;
     let Entry::Place(p) = former else {
         fill_erased(chip, q * w, w);
         return work;

@@ -30,7 +30,7 @@ fn bit_of(l: u32) -> usize
 }
 
 // The rank of logical page l; C where it isn't cached, which the filter mostly tells.
-pub fn rank_of(g: Geometry, rec: Record, l: u32, cache: &[u32], filter: &[u64; 1024]) -> usize
+pub fn rank_of(rec: Record, g: Geometry, l: u32, cache: &[u32], filter: &[u64; 1024]) -> usize
     requires { ⌜ Cache-lent (geometry g) (now cache) (rec .used) ⌝ }
     requires { ⌜ Filter (now cache) (rec .used) (now filter) ⌝ }
     ensures { λ i. ⌜ (i ≤ geometry g .C) × (rank-of (geometry g) (now (cache .entry)) (rec .used) l ≡ i) ⌝ }
@@ -74,7 +74,7 @@ pub fn touch(i: usize, cache: &mut [u32])
 }
 
 // An entry for logical page l, in front and unchanged, in the place of the first unused one.
-pub fn enter(l: u32, place: u32, cache: &mut [u32], filter: &mut [u64; 1024], work: Work) -> Work
+pub fn enter(work: Work, l: u32, place: u32, cache: &mut [u32], filter: &mut [u64; 1024]) -> Work
     requires { ⌜ (work .rec .used * entry-words + entry-words ≤ length (now cache)) × (work .rec .used < 4294967295) ⌝ }
     requires { ⌜ Filter (now cache) (work .rec .used) (now filter) ⌝ }
     ensures { λ r. ⌜ Does-cache (enter l place) (now (cache .entry)) work 0 (now (cache .exit)) r ⌝ }

@@ -73,7 +73,7 @@ mark-requires : tie.Need-mark-requires
 mark-requires c κs =
     let claimed = c .before .before .before .before .before .before in
     let start = given (its-next (claimed .before .before .before)) in
-    ((spare-still (start .pre .0 .1) (claimed .claim-next .kept .1 .1 .1 .0), start .pre .0 .2), claimed .claim-next .ensures .1)
+    ((spare-still (start .pre .0 .1) (claimed .claim-next .kept .1 .1 .1 .1 .0), start .pre .0 .2), claimed .claim-next .ensures .1)
 
 same-length : tie.Need-same-length
 same-length c = search needs
