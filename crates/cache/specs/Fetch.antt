@@ -49,7 +49,8 @@ fetch-law g s m h wide l room miss below =
             did = refl;
             flash = e .step .flash;
             directory = e .step .directory;
-            small = e .step .small;
+            heads = e .step .heads;
+            used = e .step .used;
             holds = e .step .holds;
           };
       rank = e .rank;

@@ -8,7 +8,9 @@ use mathlib.Core.List.{List, [], _∷_, _++_, append-nil}
 use lib.ListN.{length}
 use borrow.Author.Tests.{lt-ltb, le-ltb}
 use Rattle.flash.specs.Cases.{below?}
+use Rattle.flash.specs.Heads.{Same-head, head-same}
 use Rattle.scope.specs.Geometry.{Geometry}
+use Rattle.scope.specs.Regions.{Region}
 use Rattle.scope.specs.Lent.{State, Mapping, cache-size, logical-at}
 use Rattle.scope.specs.Operations.{Outcome, give, look, _>>=_}
 use Rattle.scope.specs.Steps.{cache-or-wait}
@@ -31,7 +33,8 @@ pub record Followed (g : Geometry) (w : List Mapping) (l place : ℕ) (s : State
   pub did : o .did ≡ []
   pub flash : Same-flash (o .after) s
   pub directory : o .after .directory ≡ s .directory
-  pub small : o .after .small ≡ s .small
+  pub heads : (r : Region) → Same-head r (s .small) (o .after .small)
+  pub used : o .after .small .used ≡ s .small .used
   pub long : length (o .after .cache) ≡ cache-size g
   pub fits : Entries-fit g (o .after .cache) (o .after .small .used)
   pub ranks : (i : ℕ) → logical-at i (o .after .cache) ≡ logical-at i (s .cache)
@@ -52,7 +55,8 @@ module _ (g : Geometry) (w : List Mapping) (s : State) (long : length (s .cache)
         did = ap (λ x. x ++ []) (set .step .did);
         flash = set .step .flash;
         directory = set .step .directory;
-        small = set .step .small;
+        heads = set .step .heads;
+        used = set .step .used;
         long = set .step .holds .long;
         fits = set .step .holds .fits;
         ranks = set .ranks;
@@ -62,7 +66,7 @@ module _ (g : Geometry) (w : List Mapping) (s : State) (long : length (s .cache)
             (record {
               below-L = waiting .below-L;
               not-cached = λ k q j u e.
-                  waiting .not-cached k q j (omega (arith, ap (λ x. x .used) (set .step .small))) (sym (set .ranks j) ∙ e);
+                  waiting .not-cached k q j (omega (arith, set .step .used)) (sym (set .ranks j) ∙ e);
             });
         here = rw append-nil
             (latest-none w l (current g after l) (λ q. waiting .not-cached l q i (r .in-use) (r .is-l)) ∙ places .here);
@@ -92,7 +96,8 @@ module _ (g : Geometry) (w : List Mapping) (s : State) (long : length (s .cache)
         did = refl;
         flash = flash-refl;
         directory = refl;
-        small = refl;
+        heads = λ r. head-same r refl;
+        used = refl;
         long = long;
         fits = fits;
         ranks = λ i. refl;

@@ -4,11 +4,13 @@ use native.Mathlib.Omega.{arith}
 use mathlib.Core.Path.{_≡_, refl}
 use mathlib.Core.List.{List, []}
 use Rattle.scope.specs.Geometry.{Geometry}
-use Rattle.scope.specs.SmallRecord.{with-used}
+use Rattle.scope.specs.Regions.{Region}
+use Rattle.scope.specs.SmallRecord.{SmallRecord, with-used}
 use Rattle.scope.specs.Lent.{State, logical-at, with-cache, with-small}
 use Rattle.scope.specs.Operations.{Operation, Outcome, give, set-cache, set-small, _>>=_}
 use Rattle.scope.specs.Cache.{touch, enter, dropped, forget, set-entry}
 use Rattle.scope.specs.Laws.Applied.{Same-flash}
+use Rattle.flash.specs.Heads.{Same-head, head-same, with-used-head}
 use Rattle.cache.specs.Ranks.{Has-rank}
 use Rattle.cache.specs.Holds.{Found, Hit, Miss, updated, Cache-holds}
 use Rattle.cache.specs.Changes.{Holds-at, touched-holds, entered-holds, forgotten-holds, placed-holds, placed-ranks}
@@ -16,14 +18,15 @@ use Rattle.cache.specs.Changes.{Holds-at, touched-holds, entered-holds, 
 abbrev pub Holds-in : Geometry → State → (ℕ → Found) → Type 0
 Holds-in g s m = Cache-holds g (s .cache) (s .small .used) m
 
--- A step that changes the cache alone: chip, spare and directory stay, and the small record but for the number of used entries. The
--- operations are listed, if any: reads.
-pub record Cache-step (g : Geometry) {A : Type 0} (s : State) (o : Outcome A) (ops : List Operation) (used : ℕ) (m : ℕ → Found)
+-- A step that changes the cache alone: chip, spare, directory and both regions' heads stay, and n entries are used. The operations are
+-- listed, if any: reads.
+pub record Cache-step (g : Geometry) {A : Type 0} (s : State) (o : Outcome A) (ops : List Operation) (n : ℕ) (m : ℕ → Found)
     : Type 0 where
   pub did : o .did ≡ ops
   pub flash : Same-flash (o .after) s
   pub directory : o .after .directory ≡ s .directory
-  pub small : o .after .small ≡ with-used used (s .small)
+  pub heads : (r : Region) → Same-head r (s .small) (o .after .small)
+  pub used : o .after .small .used ≡ n
   pub holds : Holds-in g (o .after) m
 
 -- One that hands back the rank of logical page l.
@@ -37,20 +40,18 @@ pub record Ranks-kept (g : Geometry) {A : Type 0} (s : State) (o : Outcome A) (m
   pub step : Cache-step g s o [] (s .small .used) m
   pub ranks : (i : ℕ) → logical-at i (o .after .cache) ≡ logical-at i (s .cache)
 
-abbrev with-entries : List ℕ → ℕ → State → State
-with-entries cache used s = with-small (with-used used (s .small)) (with-cache cache s)
+-- Another cache and another record, with the same heads.
+abbrev outcome : {A : Type 0} → A → List ℕ → SmallRecord → State → Outcome A
+outcome x cache small s = record { value = x; after = with-small small (with-cache cache s); did = [] }
 
-abbrev outcome : {A : Type 0} → A → List ℕ → ℕ → State → Outcome A
-outcome x cache used s = record { value = x; after = with-entries cache used s; did = [] }
+module _ {g : Geometry} (s : State) (small : SmallRecord) (heads : (r : Region) → Same-head r (s .small) small) {cache : List ℕ}
+    {m : ℕ → Found} where
+  cache-alone : {A : Type 0} {x : A} → Cache-holds g cache (small .used) m → Cache-step g s (outcome x cache small s) [] (small .used) m
+  cache-alone h =
+      record { did = refl; flash = record { chip = refl; spare = refl }; directory = refl; heads = heads; used = refl; holds = h }
 
-cache-alone : {A : Type 0} {x : A} {g : Geometry} (s : State) {cache : List ℕ} {used : ℕ} {m : ℕ → Found}
-    → Cache-holds g cache used m → Cache-step g s (outcome x cache used s) [] used m
-cache-alone s h =
-    record { did = refl; flash = record { chip = refl; spare = refl }; directory = refl; small = refl; holds = h }
-
-rank-handed : {g : Geometry} (s : State) {cache : List ℕ} {used : ℕ} {m : ℕ → Found} {l : ℕ}
-    → Holds-at g cache used m l 0 → Rank-handed g s (outcome 0 cache used s) [] used m l
-rank-handed s h = record { step = cache-alone s (h .holds); rank = h .rank }
+  rank-handed : {l : ℕ} → Holds-at g cache (small .used) m l 0 → Rank-handed g s (outcome 0 cache small s) [] (small .used) m l
+  rank-handed h = record { step = cache-alone (h .holds); rank = h .rank }
 
 pub dropped-is-last : (s : State) → 1 ≤ s .small .used → suc (dropped s) ≡ s .small .used
 unfolding dropped
@@ -59,25 +60,28 @@ dropped-is-last s some = omega arith
 module _ (g : Geometry) (s : State) (m : ℕ → Found) (h : Holds-in g s m) where
   pub touch-law : (l i : ℕ) → Has-rank (s .cache) (s .small .used) l i → Rank-handed g s (touch i s) [] (s .small .used) m l
   unfolding touch _>>=_ set-cache give
-  touch-law l i r = rank-handed s (touched-holds g (s .cache) (s .small .used) m h l i r)
+  touch-law l i r = rank-handed s (s .small) (λ k. head-same k refl) (touched-holds g (s .cache) (s .small .used) m h l i r)
 
   pub enter-law : (l place : ℕ) → s .small .used < g .C → m l ≡ Miss → l < g .L
       → Rank-handed g s (enter l place s) [] (suc (s .small .used)) (updated m l (Hit place 0)) l
   unfolding enter _>>=_ set-cache set-small give
-  enter-law l place room miss below = rank-handed s (entered-holds g (s .cache) (s .small .used) m h l place room miss below)
+  enter-law l place room miss below =
+      rank-handed s (with-used (suc (s .small .used)) (s .small)) (λ k. with-used-head k (suc (s .small .used)) (s .small))
+      (entered-holds g (s .cache) (s .small .used) m h l place room miss below)
 
   -- The last entry is dropped.
   pub forget-law : (i : ℕ) → suc i ≡ s .small .used → Cache-step g s (forget i s) [] i (updated m (logical-at i (s .cache)) Miss)
   unfolding forget _>>=_ set-cache set-small
   forget-law i last =
       let q : s .small .used - 1 ≡ i = omega arith in
-      rw q (cache-alone s (forgotten-holds g (s .cache) (s .small .used) m h i last))
+      rw q (cache-alone s (with-used i (s .small)) (λ k. with-used-head k i (s .small))
+      (forgotten-holds g (s .cache) (s .small .used) m h i last))
 
   pub set-entry-law : (l i place : ℕ) → Has-rank (s .cache) (s .small .used) l i
       → Ranks-kept g s (set-entry i place s) (updated m l (Hit place 1))
   unfolding set-entry set-cache
   set-entry-law l i place r =
       record {
-        step = cache-alone s (placed-holds g (s .cache) (s .small .used) m h l i place r);
+        step = cache-alone s (s .small) (λ k. head-same k refl) (placed-holds g (s .cache) (s .small .used) m h l i place r);
         ranks = placed-ranks g (s .cache) (s .small .used) m h l i place r;
       }

@@ -7,6 +7,7 @@ pub mod Words
 pub mod Pages
 pub mod Kept
 pub mod Places
+pub mod Heads
 pub mod SamePages
 pub mod Listed
 pub mod Clearing

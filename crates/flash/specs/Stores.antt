@@ -1,5 +1,5 @@
 -- Stores into a list that holds records of w words each, one after the other: word j of record p is at p * w + j.
--- Chip and spare are such lists, with w = W and w = 2; an operation stores a whole record, or all P of a block.
+-- Chip and spare are such lists, with w = W and w = spare-words; an operation stores a whole record, or all P of a block.
 use Prim.Native.Nat.{ℕ, zero, suc, _+_, _*_, _/_, _%_, _<_}
 use mathlib.Core.Path.{_≡_, refl, ap, _∙_}
 use mathlib.Core.Logic.{_≢_}

@@ -15,6 +15,12 @@ pub const VALID: u32 = 65535;
 
 pub const INVALID: u32 = 0;
 
+// Words a page has in the spare: its state and its owner.
+pub const SPARE_WORDS: usize = 2;
+
+// Words an entry has in the cache: its logical page, its physical page, and whether it is changed.
+pub const ENTRY_WORDS: usize = 3;
+
 // The six numbers of a geometry.
 pub struct Geometry {
     pub p: u32,
@@ -76,47 +82,51 @@ pub fn decode(x: u32) -> Entry
     }
 }
 
-// One more read. What it hands back is made field by field: a record that is copied whole is read in words wider than those just
-// written, which the processor lets wait until all earlier words are in memory, the page just read among them.
-pub fn count_read(work: Work) -> Work
-    requires { ⌜ Room-to-count 1 (work .counts) ⌝ }
-    ensures { λ r. ⌜ (r .rec ≡ work .rec) × (counts (r .counts) ≡ one-read (counts (work .counts))) ⌝ }
+// The record as it is, made field by field, for a step that copies a page before it hands the record on: the compiler then keeps the
+// fields in registers. A record that is copied whole goes through memory, and is read there in words wider than those just written,
+// which the processor lets wait until all earlier words are in memory, the page just copied among them.
+pub fn as_it_is(rec: Record) -> Record
+    ensures { λ r. ⌜ r ≡ rec ⌝ }
 {
-    let rec = work.rec;
-    let counts = work.counts;
-    Work {
-        rec: Record {
-            open_data: rec.open_data,
-            data_offset: rec.data_offset,
-            open_translation: rec.open_translation,
-            translation_offset: rec.translation_offset,
-            used: rec.used,
-        },
-        counts: Counts {
-            reads: counts.reads + 1,
-            programs: counts.programs,
-            erases: counts.erases,
-        },
+    Record {
+        open_data: rec.open_data,
+        data_offset: rec.data_offset,
+        open_translation: rec.open_translation,
+        translation_offset: rec.translation_offset,
+        used: rec.used,
     }
 }
 
-// One more program; one more erase.
-pub fn count_program(work: Work) -> Work
-    requires { ⌜ Room-to-count 1 (work .counts) ⌝ }
-    ensures { λ r. ⌜ (r .rec ≡ work .rec) × (counts (r .counts) ≡ one-program (counts (work .counts))) ⌝ }
+// One more read; one more program; one more erase.
+pub fn count_read(c: Counts) -> Counts
+    requires { ⌜ Room-to-count 1 c ⌝ }
+    ensures { λ r. ⌜ counts r ≡ one-read (counts c) ⌝ }
 {
-    let mut next = work;
-    let n = work.counts.programs + 1;
-    next.counts.programs = n;
-    next
+    Counts {
+        reads: c.reads + 1,
+        programs: c.programs,
+        erases: c.erases,
+    }
 }
 
-pub fn count_erase(work: Work) -> Work
-    requires { ⌜ Room-to-count 1 (work .counts) ⌝ }
-    ensures { λ r. ⌜ (r .rec ≡ work .rec) × (counts (r .counts) ≡ one-erase (counts (work .counts))) ⌝ }
+pub fn count_program(c: Counts) -> Counts
+    requires { ⌜ Room-to-count 1 c ⌝ }
+    ensures { λ r. ⌜ counts r ≡ one-program (counts c) ⌝ }
 {
-    let mut next = work;
-    let n = work.counts.erases + 1;
-    next.counts.erases = n;
-    next
+    Counts {
+        reads: c.reads,
+        programs: c.programs + 1,
+        erases: c.erases,
+    }
+}
+
+pub fn count_erase(c: Counts) -> Counts
+    requires { ⌜ Room-to-count 1 c ⌝ }
+    ensures { λ r. ⌜ counts r ≡ one-erase (counts c) ⌝ }
+{
+    Counts {
+        reads: c.reads,
+        programs: c.programs,
+        erases: c.erases + 1,
+    }
 }

@@ -8,7 +8,6 @@ use lib.ListN.{getD}
 use Rattle.scope.specs.Geometry.{Geometry, Accepted, M}
 use Rattle.scope.specs.Lent.{none, State, Mapping, named}
 use Rattle.scope.specs.Regions.{Data, Translation, Has-page}
-use Rattle.scope.specs.SmallRecord.{open-block, next-offset}
 use Rattle.scope.specs.Operations.{Outcome}
 use Rattle.scope.specs.Steps.{cache-or-wait, update-all, cache-follows}
 use Rattle.scope.specs.Sound.{current}
@@ -50,7 +49,7 @@ module _ {g : Geometry} (ok : Accepted g) (l i : ℕ) where
       record {
         no-operation = f .did;
         flash = f .flash;
-        small = f .small;
+        head = f .heads Data;
         lengths =
             record {
               chip-fits = rw (f .flash .chip) (len .chip-fits);
@@ -61,11 +60,10 @@ module _ {g : Geometry} (ok : Accepted g) (l i : ℕ) where
         at-most-one = f .at-most-one;
         inv =
             record {
-              index = index-same (f .flash) (f .directory) (ap (open-block Translation) (f .small))
-                  (ap (next-offset Translation) (f .small)) (inv .index);
+              index = index-same (f .flash) (f .directory) (f .heads Translation) (inv .index);
               cache = record { entries = f .fits; agree = f .agree };
               waiting = f .waiting;
-              rank = record { in-use = rw (f .small) (inv .rank .in-use); is-l = f .ranks i ∙ inv .rank .is-l };
+              rank = record { in-use = rw (f .used) (inv .rank .in-use); is-l = f .ranks i ∙ inv .rank .is-l };
             };
         renames = record { there = f .here; elsewhere = f .elsewhere };
       }
@@ -77,8 +75,8 @@ module _ {g : Geometry} (ok : Accepted g) (l i : ℕ) where
     after-settled =
         record {
           pages = did .only .data-pages;
-          opened = ap (open-block Data) (did .only .small);
-          offset = ap (next-offset Data) (did .only .small);
+          opened = did .only .rest .head .opened;
+          offset = did .only .rest .head .offset;
           lengths = did .lengths;
           inv = record {
             index = did .index;
@@ -92,7 +90,7 @@ module _ {g : Geometry} (ok : Accepted g) (l i : ℕ) where
         }
       where
         used : o .after .small .used ≡ s .small .used
-        used = ap (λ r. r .used) (did .only .small)
+        used = did .only .rest .used
 
         settled : Settled g w s (o .after)
         settled =
@@ -109,7 +107,7 @@ module _ {g : Geometry} (ok : Accepted g) (l i : ℕ) where
         ∙ contents-same (same .pages) t (named t (s .directory)) (inv .index .pages .maps .names t h)
 
     same-used : s′ .small .used ≡ s .small .used
-    same-used = ap (λ r. r .used) (same .small)
+    same-used = same .rest .used
 
     same-places : Places-kept g s s′
     same-places =
@@ -121,7 +119,7 @@ module _ {g : Geometry} (ok : Accepted g) (l i : ℕ) where
     follows-kept =
         record {
           index = record {
-            pages = rw (same .directory, ap (open-block Translation) (same .small), ap (next-offset Translation) (same .small))
+            pages = rw (same .directory, same .rest .head .opened, same .rest .head .offset)
                 (holds-same (same .pages) (inv .index .pages));
             past-L = λ t n h k m. ap (λ (words : List ℕ). getD words n none) (same-table t h) ∙ inv .index .past-L t n h k m;
           };

@@ -6,11 +6,11 @@ use native.Mathlib.Omega.{arith}
 use Rattle.scope.specs.Geometry.{Geometry}
 use Rattle.scope.specs.Lent.{Entry, Place, Nowhere, decode, State}
 use Rattle.scope.specs.Regions.{Data, Translation}
-use Rattle.scope.specs.SmallRecord.{open-block, next-offset}
 use Rattle.scope.specs.Operations.{Operation, Outcome, apply, apply-all}
 use Rattle.scope.specs.Laws.Applied.{Same-flash}
 use Rattle.scope.specs.Sound.{current, Sound}
 use Rattle.flash.specs.Words.{Lengths}
+use Rattle.flash.specs.Heads.{Same-head}
 use Rattle.flash.specs.SamePages.{Same-pages, same-refl, same-trans}
 use Rattle.flash.specs.Listed.{cost, cost-++, cost-none}
 use Rattle.region.specs.Holds.{Region-holds, contents}
@@ -92,11 +92,11 @@ same-map same holds =
 
 -- The parts that make a kept state sound.
 pub kept-sound : {g : Geometry} {s s′ : State} → Sound g s → Index-fits g s′ → Cache-fits g s′ → Same-pages g Data s s′
-    → open-block Data (s′ .small) ≡ open-block Data (s .small) → next-offset Data (s′ .small) ≡ next-offset Data (s .small)
+    → Same-head Data (s .small) (s′ .small)
     → ((l : ℕ) → l < g .L → current g s′ l ≡ current g s l) → Sound g s′
-kept-sound {g} {s} {s′} sound index cache pages opened offset places =
+kept-sound {g} {s} {s′} sound index cache pages head places =
     sound-from index
-    (same-map places (rw (opened, offset) (holds-same pages (data-of sound))))
+    (same-map places (rw (head .opened, head .offset) (holds-same pages (data-of sound))))
     cache
 
 -- ---- steps of the cache alone
@@ -116,8 +116,7 @@ module _ {A : Type 0} {g : Geometry} {s : State} {o : Outcome A} {ops : List Ope
   step-pages = rw (step .flash .chip, step .flash .spare) same-refl
 
   pub step-index : Index-fits g s → Index-fits g (o .after)
-  step-index = index-same (step .flash) (step .directory) (ap (open-block Translation) (step .small))
-      (ap (next-offset Translation) (step .small))
+  step-index = index-same (step .flash) (step .directory) (step .heads Translation)
 
 reads-done : (g : Geometry) (s s′ : State) (e : Entry) → Same-flash s′ s → Done g s (page-read e) s′
 unfolding apply apply-all
@@ -131,8 +130,7 @@ pub cache-kept : {A : Type 0} {g : Geometry} {s : State} {o : Outcome A} {used b
 cache-kept {g = g} {s} {o} e sound len step places few =
     record {
       sound = kept-sound sound (step-index step (index-of sound)) (record { entries = step .holds .fits; agree = places .agree })
-          (step-pages step)
-          (ap (open-block Data) (step .small)) (ap (next-offset Data) (step .small)) (places .places);
+          (step-pages step) (step .heads Data) (places .places);
       lengths = step-lengths step len;
       places = places .places;
       pages = step-pages step;

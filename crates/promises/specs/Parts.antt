@@ -10,6 +10,7 @@ use Rattle.scope.specs.SmallRecord.{open-block, next-offset}
 use Rattle.scope.specs.Sound.{Pages-fit, Owners-differ, Blocks-fit, Entries-fit, Unchanged-agree, current, Sound}
 use Rattle.region.specs.Holds.{Region-fits, Region-holds, Holds, rules-fit, fits-blocks}
 use Rattle.flash.specs.Words.{Lengths}
+use Rattle.flash.specs.Heads.{Same-head}
 use Rattle.scope.specs.Laws.Applied.{Same-flash}
 use Rattle.cache.specs.Holds.{Found, lookup, holds-lookup}
 use Rattle.cache.specs.Steps.{Holds-in}
@@ -89,9 +90,7 @@ cached g s = lookup g (s .cache) (s .small .used)
 pub cache-holds : (g : Geometry) (s : State) → Lengths g s → Cache-fits g s → Holds-in g s (cached g s)
 cache-holds g s len fits = holds-lookup g (s .cache) (s .small .used) (len .cache-fits) (fits .entries)
 
--- The index holds of any state with the same flash, directory and open translation block.
+-- The index holds of any state with the same flash, directory and head of the translation region.
 pub index-same : {g : Geometry} {s s′ : State} → Same-flash s′ s → s′ .directory ≡ s .directory
-    → open-block Translation (s′ .small) ≡ open-block Translation (s .small)
-    → next-offset Translation (s′ .small) ≡ next-offset Translation (s .small)
-    → Index-fits g s → Index-fits g s′
-index-same flash directory opened offset index = rw (flash .chip, flash .spare, directory, opened, offset) index
+    → Same-head Translation (s .small) (s′ .small) → Index-fits g s → Index-fits g s′
+index-same flash directory head index = rw (flash .chip, flash .spare, directory, head .opened, head .offset) index

@@ -10,13 +10,13 @@ use borrow.Author.Tests.{eq-eqb, ne-eqb, lt-ltb, le-ltb}
 use Rattle.scope.specs.Geometry.{Geometry, Accepted}
 use Rattle.scope.specs.Lent.{Mapping, Entry, Place, Nowhere, State, named, logical-at, physical-at, translation-page}
 use Rattle.scope.specs.Regions.{Data}
-use Rattle.scope.specs.SmallRecord.{open-block, next-offset}
 use Rattle.scope.specs.Operations.{Outcome, give, look, nothing, counted, _>>=_}
 use Rattle.scope.specs.Cache.{touch, forget, dropped, is-changed, written-back}
 use Rattle.scope.specs.Steps.{write-back, drop-entry, drop-if-full, fetch, translate, update}
 use Rattle.scope.specs.Sound.{rank-of, Sound}
 use Rattle.flash.specs.Cases.{on, same?, below?}
 use Rattle.flash.specs.Words.{Lengths}
+use Rattle.flash.specs.Heads.{head-trans}
 use Rattle.scope.specs.Laws.Applied.{flash-refl}
 use Rattle.flash.specs.SamePages.{same-trans}
 use Rattle.region.specs.Done.{Done, done-none, done-then}
@@ -87,7 +87,7 @@ module _ {g : Geometry} (s : State) (len : Lengths g s) (sound : Sound g s) (i :
       record {
         back = record {
           cache = u .only .cache;
-          used = ap (λ r. r .used) (u .only .small);
+          used = u .only .rest .used;
           here = u .here l below refl ∙ rw (eq-eqb l l refl);
           elsewhere = λ k h apart.
               same? (translation-page g k) (translation-page g l)
@@ -135,8 +135,7 @@ module _ {g : Geometry} (s : State) (len : Lengths g s) (sound : Sound g s) (i :
         kept = record {
           sound = kept-sound sound (step-index step (go .index))
               (record { entries = step .holds .fits; agree = d .places .agree }) pages
-              (ap (open-block Data) (step .small) ∙ ap (open-block Data) (go .only .small))
-              (ap (next-offset Data) (step .small) ∙ ap (next-offset Data) (go .only .small))
+              (head-trans (go .only .rest .head) (step .heads Data))
               (d .places .places);
           lengths = step-lengths step (go .lengths);
           places = d .places .places;
@@ -144,7 +143,7 @@ module _ {g : Geometry} (s : State) (len : Lengths g s) (sound : Sound g s) (i :
           done = done-then (go .done) (rw (step .did) (done-none g (step .flash)));
           costs = omega (arith, cost-++ (o .did) (f .did), ap cost (step .did), cost-none, go .costs);
         };
-        room = omega (arith, ap (λ r. r .used) (step .small), sound .rule-5 .at-most);
+        room = omega (arith, step .used, sound .rule-5 .at-most);
         missing = λ k e.
             holds-found g (f .after .cache) (f .after .small .used) (updated m l Miss) (step .holds) k
             ∙ same? k l (λ q. rw q (updated-here m l Miss)) (λ q. updated-elsewhere m l Miss k q ∙ e);

@@ -1,6 +1,6 @@
 -- Update: the law of the one step that writes translation pages. It keeps the index, sets what flash stores for its mappings, leaves
--- the data region, the cache and the rest of the small record, and costs at most 2P+1.
-use Prim.Native.Nat.{ℕ, suc, _+_, _*_, _≤_, _<_}
+-- the data region, the cache and the used entries, and costs at most 2P+1.
+use Prim.Native.Nat.{ℕ, _+_, _*_, _≤_, _<_}
 use mathlib.Core.Path.{_≡_, refl, sym, _∙_, ap, subst}
 use mathlib.Core.Logic.{_≢_}
 use mathlib.Core.List.{List, [], _++_}
@@ -10,7 +10,7 @@ use lib.Seq.{getD-set-same, getD-set-other}
 use Rattle.scope.specs.Geometry.{Geometry, Accepted, M}
 use Rattle.scope.specs.Lent.{none, Entry, Place, Nowhere, State, Mapping, named, with-directory, translation-page, translation-word}
 use Rattle.scope.specs.Regions.{Region, owners, Translation}
-use Rattle.scope.specs.SmallRecord.{open-block, next-offset, with-open}
+use Rattle.scope.specs.SmallRecord.{open-block, next-offset}
 use Rattle.scope.specs.Sound.{Names}
 use Rattle.scope.specs.Operations.{Read, Outcome, Step, apply, give, look, perform, set-directory, counted, _>>=_}
 use Rattle.scope.specs.Room.{read-page, program-next, make-room}
@@ -18,10 +18,10 @@ use Rattle.scope.specs.Steps.{directory-names-it, directory-follows, begun, set
 use Rattle.flash.specs.Cases.{same?}
 use Rattle.flash.specs.Words.{Lengths, length-words-of}
 use Rattle.flash.specs.Places.{page-on-chip}
+use Rattle.flash.specs.Heads.{rest-same, rest-trans}
 use Rattle.flash.specs.SamePages.{same-refl, same-trans}
 use Rattle.flash.specs.Listed.{cost, cost-++, cost-none}
 use Rattle.region.specs.Holds.{Holds, Besides, Renames, contents}
-use Rattle.region.specs.Elsewhere.{open-with, offset-with}
 use Rattle.region.specs.Done.{Done, done-none, done-one, done-then}
 use Rattle.region.specs.NextPage.{next-page, Page-written, page-written}
 use Rattle.region.specs.DirectoryFollows.{in-directory, Translation-only, Translation-room, translation-room-law}
@@ -33,14 +33,14 @@ use Rattle.promises.specs.Parts.{Index-fits}
 
 -- What no step on the index changes: one such step after another.
 pub only-refl : {g : Geometry} {s : State} → Translation-only g s s
-only-refl = record { data-pages = same-refl; cache = refl; small = refl }
+only-refl = record { data-pages = same-refl; cache = refl; rest = rest-same Translation refl }
 
 pub only-trans : {g : Geometry} {s s′ s″ : State} → Translation-only g s s′ → Translation-only g s′ s″ → Translation-only g s s″
 only-trans a b =
     record {
       data-pages = same-trans (a .data-pages) (b .data-pages);
       cache = b .cache ∙ a .cache;
-      small = b .small ∙ ap (with-open Translation _ _) (a .small);
+      rest = rest-trans (a .rest) (b .rest);
     }
 
 -- A page has been written, and the region holds under the map that names it.
@@ -48,12 +48,8 @@ pub written-holds : {g : Geometry} {r : Region} {k : ℕ} {words : List ℕ} {vi
     {o : Outcome (Unit {0})}
     → Page-written g r k words view s q o → Besides g r (s .spare) (open-block r (s .small))
     → (view′ : ℕ → ℕ) → Renames (owners g r) k (next-page g r s) view view′ → Holds g r (o .after) view′
-written-holds {r = r} {s = s} {o = o} w besides view′ renames =
-    let opened = ap (open-block r) (w .small)
-    ∙ open-with r (open-block r (s .small)) (suc (next-offset r (s .small))) (s .small) in
-    let offset = ap (next-offset r) (w .small)
-    ∙ offset-with r (open-block r (s .small)) (suc (next-offset r (s .small))) (s .small) in
-    rw (opened, offset) (record {
+written-holds w besides view′ renames =
+    rw (w .opened, w .offset) (record {
       fits = w .replacement .fits;
       besides = w .replacement .besides besides;
       maps = w .replacement .maps view′ renames;
@@ -123,8 +119,7 @@ module _ (g : Geometry) (t : ℕ) (words : List ℕ) (s : State) (len : Lengths 
             record {
               data-pages = w .replacement .elsewhere;
               cache = w .cache;
-              small = w .small ∙ ap (λ x. with-open Translation (x .open-translation) (x .translation-offset) (s .small))
-                  (sym (w .small));
+              rest = w .rest;
             };
         lengths =
             record {

@@ -9,7 +9,7 @@ use lib.ListN.{length}
 use Rattle.scope.specs.Geometry.{Geometry, Accepted}
 use Rattle.scope.specs.Lent.{decode, State, physical-at}
 use Rattle.scope.specs.Regions.{Data}
-use Rattle.scope.specs.SmallRecord.{open-block, next-offset}
+use Rattle.scope.specs.SmallRecord.{next-offset}
 use Rattle.scope.specs.Operations.{Outcome, Step, apply, give, look, perform, set-small, set-cache, _>>=_}
 use Rattle.scope.specs.Room.{program-next, make-room}
 use Rattle.scope.specs.Cache.{set-entry}
@@ -20,11 +20,11 @@ use Rattle.scope.specs.Sound.{current, Sound}
 use Rattle.flash.specs.Words.{Lengths}
 use Rattle.flash.specs.Listed.{cost, cost-++, cost-none}
 use Rattle.region.specs.Holds.{Holds, Renames, contents}
-use Rattle.region.specs.Elsewhere.{Same-elsewhere, elsewhere-with}
+use Rattle.region.specs.Elsewhere.{Same-elsewhere}
 use Rattle.region.specs.Done.{Done, done-none, done-then}
 use Rattle.region.specs.Follower.{Room-made}
 use Rattle.region.specs.MakeRoom.{make-room-law}
-use Rattle.region.specs.NextPage.{next-page, Page-written, page-written}
+use Rattle.region.specs.NextPage.{next-page, Page-written, written-elsewhere, page-written}
 use Rattle.cache.specs.Holds.{Hit, updated}
 use Rattle.cache.specs.Steps.{Ranks-kept, set-entry-law}
 use Rattle.cache.specs.Current.{Place-set, set-entry-sets-place}
@@ -86,8 +86,7 @@ module _ {g : Geometry} (ok : Accepted g) (l i : ℕ) (buffer : List ℕ) (s : S
       s₄ = set-entry i (q .value) (o .after) .after
 
       elsewhere : Same-elsewhere g Data s (o .after)
-      elsewhere = elsewhere-with (open-block Data (s .small)) (suc (next-offset Data (s .small))) (w .replacement .elsewhere)
-          (w .directory) (w .cache) (w .small)
+      elsewhere = written-elsewhere w
 
       follows : Follows g l i [] (o .after)
       follows = cache-follower ok l i .kept [] s (o .after) len (w .lengths) elsewhere inv

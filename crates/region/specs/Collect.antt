@@ -20,13 +20,14 @@ use Rattle.flash.specs.Words.{Lengths}
 use Rattle.flash.specs.Pages.{erase-block}
 use Rattle.flash.specs.Kept.{apply-keeps-lengths, apply-keeps-beside}
 use Rattle.flash.specs.Places.{block-on-chip, page-in-region}
+use Rattle.flash.specs.Heads.{opened-rest, rest-same}
 use Rattle.flash.specs.SamePages.{same-refl, erase-elsewhere}
 use Rattle.flash.specs.Listed.{cost, cost-first, cost-++, cost-none}
 use Rattle.region.specs.Holds.{Region-fits, Besides, Maps, Holds, contents}
 use Rattle.region.specs.Carried.{region-fits-same, maps-same, maps-viewed, contents-same}
 use Rattle.region.specs.Room.{Victim-law, Crowded, is-crowded, victim-of-crowded}
 use Rattle.region.specs.Blocks.{open-law, erase-law}
-use Rattle.region.specs.Elsewhere.{Same-elsewhere, elsewhere-with, open-with, offset-with, with-own}
+use Rattle.region.specs.Elsewhere.{Same-elsewhere, open-with, offset-with}
 use Rattle.region.specs.Done.{done-none, done-one, done-then}
 use Rattle.region.specs.Follower.{View, Invariant, After-settled, Follower, Room-made}
 use Rattle.region.specs.Moving.{Copying, Keeps}
@@ -85,7 +86,8 @@ module _ {g : Geometry} {r : Region} {follow : Following} {settling : ℕ} {view
       → Has-block g r (lowest-erased g r s) → Wholly-erased g (s .spare) (lowest-erased g r s)
       → Copying g r view Inv [] (opened-lowest g r s) × Keeps g r view [] s [] (opened-lowest g r s)
   open-lowest-keeps s copying full here empty =
-      within-region [] s (opened-lowest g r s) copying (elsewhere-with (lowest-erased g r s) 0 same-refl refl refl refl) (copying .lengths)
+      within-region [] s (opened-lowest g r s) copying
+      (record { pages = same-refl; directory = refl; cache = refl; rest = opened-rest r (lowest-erased g r s) (s .small) }) (copying .lengths)
       (subst₂ (Region-fits g r _ _) (sym (open-with r _ _ (s .small))) (sym (offset-with r _ _ (s .small)))
       (open-law (lowest-erased g r s) (copying .fits) full here empty))
       (copying .maps) (λ k h. refl)
@@ -101,7 +103,12 @@ module _ {g : Geometry} {r : Region} {follow : Following} {settling : ℕ} {view
       let beside = apply-keeps-beside g (Erase v) s in
       let same-open = ap (open-block r) (beside .small) in
       let (copying′, keeps) = within-region [] s (apply g (Erase v) s) copying
-      (elsewhere-with _ _ (erase-elsewhere r here did) (beside .directory) (beside .cache) (beside .small ∙ sym (with-own r (s .small))))
+      (record {
+        pages = erase-elsewhere r here did;
+        directory = beside .directory;
+        cache = beside .cache;
+        rest = rest-same r (beside .small);
+      })
       (apply-keeps-lengths g (Erase v) s (copying .lengths))
       (subst₂ (Region-fits g r _ _) (sym same-open) (sym (ap (next-offset r) (beside .small))) (erasure .fits))
       (erasure .maps _ (copying .maps)) (erasure .keeps _ (copying .maps)) in

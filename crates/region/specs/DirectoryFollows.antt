@@ -1,5 +1,5 @@
 -- Make room in the translation region: "the directory follows at once", so nothing waits, and the view is the directory itself.
--- What flash holds for each logical page, the data region, the cache and the rest of the small record are as they were.
+-- What flash holds for each logical page, the data region, the cache and the used entries are as they were.
 use Prim.Native.Nat.{ℕ, _+_, _*_, _-_, _≤_, _<_}
 use mathlib.Core.Path.{_≡_, refl, ap, _∙_}
 use mathlib.Core.List.{List}
@@ -8,7 +8,6 @@ use lib.ListN.{getD, length-set}
 use lib.Seq.{getD-set-same, getD-set-other}
 use Rattle.scope.specs.Geometry.{Geometry, M, Accepted}
 use Rattle.scope.specs.Regions.{Data, Translation}
-use Rattle.scope.specs.SmallRecord.{with-open}
 use Rattle.scope.specs.Lent.{none, State, named}
 use Rattle.scope.specs.Sound.{stored}
 use Rattle.scope.specs.Operations.{Outcome, give, set-directory, _>>=_}
@@ -16,6 +15,7 @@ use Rattle.scope.specs.Room.{make-room}
 use Rattle.scope.specs.Steps.{directory-names-it, directory-follows}
 use Rattle.scope.specs.Laws.Applied.{flash-refl}
 use Rattle.flash.specs.Words.{Lengths}
+use Rattle.flash.specs.Heads.{head-same, Same-rest, rest-same, rest-trans}
 use Rattle.flash.specs.SamePages.{Same-pages, same-refl, same-trans}
 use Rattle.flash.specs.Listed.{cost, cost-none}
 use Rattle.region.specs.Holds.{Holds, contents}
@@ -35,7 +35,7 @@ directory-view w s = in-directory (s .directory)
 pub record Translation-only (g : Geometry) (s s′ : State) : Type 0 where
   pub data-pages : Same-pages g Data s s′
   pub cache : s′ .cache ≡ s .cache
-  pub small : s′ .small ≡ with-open Translation (s′ .small .open-translation) (s′ .small .translation-offset) (s .small)
+  pub rest : Same-rest Translation (s .small) (s′ .small)
 
 -- The follower's invariant: only the translation region and the directory have changed since the start.
 abbrev pub since : Geometry → State → Invariant
@@ -48,7 +48,7 @@ directory-follower g s₀ =
       moved = λ w k q s lengths inv owned here. record {
         no-operation = refl;
         flash = record { chip = refl; spare = refl };
-        small = refl;
+        head = head-same Translation refl;
         lengths = record {
           chip-fits = lengths .chip-fits;
           spare-fits = lengths .spare-fits;
@@ -56,7 +56,7 @@ directory-follower g s₀ =
           cache-fits = lengths .cache-fits;
         };
         at-most-one = omega arith;
-        inv = record { data-pages = inv .data-pages; cache = inv .cache; small = inv .small };
+        inv = record { data-pages = inv .data-pages; cache = inv .cache; rest = inv .rest };
         renames = record {
           there = getD-set-same (s .directory) k q none (omega (arith, lengths .directory-fits));
           elsewhere = λ j h apart. getD-set-other (s .directory) k j q none apart;
@@ -75,7 +75,7 @@ directory-follower g s₀ =
       kept = λ w s s′ lengths lengths′ same inv. record {
         data-pages = same-trans (inv .data-pages) (same .pages);
         cache = same .cache ∙ inv .cache;
-        small = same .small ∙ ap (with-open Translation _ _) (inv .small);
+        rest = rest-trans (inv .rest) (same .rest);
       };
       seen = λ w s s′ lengths lengths′ same inv k h. ap (λ d. in-directory d k) (same .directory);
     }
@@ -109,4 +109,4 @@ translation-room-law g s accepted lengths holds =
     }
   where
     start : Translation-only g s s
-    start = record { data-pages = same-refl; cache = refl; small = refl }
+    start = record { data-pages = same-refl; cache = refl; rest = rest-same Translation refl }

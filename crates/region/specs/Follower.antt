@@ -14,6 +14,7 @@ use Rattle.scope.specs.Operations.{Outcome}
 use Rattle.scope.specs.Room.{Following}
 use Rattle.scope.specs.Laws.Applied.{Same-flash}
 use Rattle.flash.specs.Words.{Lengths}
+use Rattle.flash.specs.Heads.{Same-head}
 use Rattle.flash.specs.SamePages.{Same-pages}
 use Rattle.flash.specs.Listed.{cost}
 use Rattle.region.specs.Elsewhere.{Same-elsewhere}
@@ -27,12 +28,12 @@ View = List Mapping → State → ℕ → ℕ
 abbrev pub Invariant : Type 1
 Invariant = List Mapping → State → Type 0
 
--- After page q has become that of owner k, while w waits: flash and small record as before, and at most one entry more that waits.
+-- After page q has become that of owner k, while w waits: flash and the region's head as before, and at most one entry more that waits.
 pub record After-moved (g : Geometry) (r : Region) (view : View) (Inv : Invariant) (w : List Mapping) (k q : ℕ) (s : State)
     (o : Outcome (List Mapping)) : Type 0 where
   pub no-operation : o .did ≡ []
   pub flash : Same-flash (o .after) s
-  pub small : o .after .small ≡ s .small
+  pub head : Same-head r (s .small) (o .after .small)
   pub lengths : Lengths g (o .after)
   pub at-most-one : length (o .value) ≤ 1
   pub inv : Inv (w ++ o .value) (o .after)

@@ -21,9 +21,9 @@ use Rattle.flash.specs.Places.{page-on-chip, page-in-region}
 use Rattle.flash.specs.Listed.{cost, cost-none, cost-first, cost-++}
 use Rattle.region.specs.Holds.{Region-fits, Maps, Renames, contents, valid-page-named}
 use Rattle.region.specs.Carried.{flash-pages, region-fits-same, maps-same}
-use Rattle.region.specs.Elsewhere.{Same-elsewhere, elsewhere-with, open-with, offset-with}
+use Rattle.region.specs.Elsewhere.{Same-elsewhere}
 use Rattle.region.specs.Done.{Done, done-none, done-read, done-then}
-use Rattle.region.specs.NextPage.{next-page, Page-written, page-written}
+use Rattle.region.specs.NextPage.{next-page, Page-written, written-elsewhere, page-written}
 use Rattle.region.specs.Follower.{View, Invariant, After-moved, Follower}
 
 -- While a collection copies, with w waiting: the region but for the erased block besides, its map, and the follower's invariant.
@@ -129,10 +129,10 @@ module _ {g : Geometry} {r : Region} {follow : Following} {settling : ℕ} {view
           }
 
       opened′ : open-block r (m .after .small) ≡ open-block r (s .small)
-      opened′ = ap (open-block r) (moved .small ∙ wrote .small) ∙ open-with r _ _ (s .small)
+      opened′ = moved .head .opened ∙ wrote .opened
 
       offset′ : next-offset r (m .after .small) ≡ suc (next-offset r (s .small))
-      offset′ = ap (next-offset r) (moved .small ∙ wrote .small) ∙ offset-with r _ _ (s .small)
+      offset′ = moved .head .offset ∙ wrote .offset
 
   -- "Each valid page is read, programmed with the same owner, and the old one marked invalid."
   move-page-law : (p : ℕ) (w : List Mapping) (s : State) → Copying g r view Inv w s → next-offset r (s .small) < g .P
@@ -165,7 +165,7 @@ module _ {g : Geometry} {r : Region} {follow : Following} {settling : ℕ} {view
           (copying .fits) room (copying .maps) owned (Place p) is-place
 
       beside : Same-elsewhere g r s (o′ .after)
-      beside = elsewhere-with _ _ (wrote .replacement .elsewhere) (wrote .directory) (wrote .cache) (wrote .small)
+      beside = written-elsewhere wrote
 
       after-moved : After-moved g r view Inv w k (next-page g r s) (o′ .after) (follow .moved k (o .value) (o′ .after))
       after-moved = rw (wrote .value) (F .moved w k (next-page g r s) (o′ .after) (wrote .lengths)

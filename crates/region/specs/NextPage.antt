@@ -1,6 +1,6 @@
 -- The steps that replace an owner's page: `program-next` and then the mark of the page that was the owner's, as update, write and
 -- collect make them, under the replace law.
-use Prim.Native.Nat.{ℕ, _<_}
+use Prim.Native.Nat.{ℕ, suc, _<_}
 use mathlib.Core.Path.{_≡_, refl, sym, ap, subst, _∙_}
 use mathlib.Core.Logic.{_≢_}
 use mathlib.Core.List.{List, [], _∷_}
@@ -18,9 +18,11 @@ use Rattle.scope.specs.Laws.Applied.{flash-refl}
 use Rattle.flash.specs.Words.{Lengths}
 use Rattle.flash.specs.Pages.{page-trans, Programmed, Marked, program-page, mark-page}
 use Rattle.flash.specs.Places.{page-on-chip, page-in-region}
+use Rattle.flash.specs.Heads.{Same-rest, advanced-block, advanced-offset, advanced-rest}
 use Rattle.flash.specs.Kept.{apply-keeps-lengths}
 use Rattle.flash.specs.Listed.{cost}
 use Rattle.region.specs.Holds.{Region-fits, Maps}
+use Rattle.region.specs.Elsewhere.{Same-elsewhere}
 use Rattle.region.specs.Replace.{Replaced, Replacement, replace-law}
 use Rattle.region.specs.Done.{Done, done-none, done-one}
 
@@ -78,12 +80,18 @@ pub record Page-written (g : Geometry) (r : Region) (k : ℕ) (words : List ℕ)
       (open-block r (s .small)) (next-offset r (s .small)) view
   pub directory : o′ .after .directory ≡ s .directory
   pub cache : o′ .after .cache ≡ s .cache
-  pub small : o′ .after .small ≡ advanced r (s .small)
+  pub opened : open-block r (o′ .after .small) ≡ open-block r (s .small)
+  pub offset : next-offset r (o′ .after .small) ≡ suc (next-offset r (s .small))
+  pub rest : Same-rest r (s .small) (o′ .after .small)
   pub lengths : Lengths g (o′ .after)
   pub programmed : Done g s (o .did) (o .after)
   pub marked : Done g (o .after) (o′ .did) (o′ .after)
   pub costs-program : cost (o .did) ≡ 1
   pub costs-mark : cost (o′ .did) ≡ 0
+
+pub written-elsewhere : {g : Geometry} {r : Region} {k : ℕ} {words : List ℕ} {view : ℕ → ℕ} {s : State} {o : Outcome ℕ} {o′ : Outcome (Unit {0})}
+    → Page-written g r k words view s o o′ → Same-elsewhere g r s (o′ .after)
+written-elsewhere w = record { pages = w .replacement .elsewhere; directory = w .directory; cache = w .cache; rest = w .rest }
 
 module _ (g : Geometry) (r : Region) (k : ℕ) (words : List ℕ) (view : ℕ → ℕ) (s : State)
     (accepted : Accepted g) (lengths : Lengths g s) (full-page : length words ≡ g .W)
@@ -135,7 +143,9 @@ module _ (g : Geometry) (r : Region) (k : ℕ) (words : List ℕ) (view : ℕ �
         replacement = replaced (Place p) e (program-and-mark g q k p words s _ _ apart programmed marked);
         directory = refl;
         cache = refl;
-        small = refl;
+        opened = advanced-block r (s .small);
+        offset = advanced-offset r (s .small);
+        rest = advanced-rest r (s .small);
         lengths = apply-keeps-lengths g (Mark p) s₁ lengths₁;
         programmed = programs;
         marked = done-one g (Mark p) tt;
@@ -149,7 +159,9 @@ module _ (g : Geometry) (r : Region) (k : ℕ) (words : List ℕ) (view : ℕ �
         replacement = replaced Nowhere e (program-alone g q k words s s₁ programmed);
         directory = refl;
         cache = refl;
-        small = refl;
+        opened = advanced-block r (s .small);
+        offset = advanced-offset r (s .small);
+        rest = advanced-rest r (s .small);
         lengths = lengths₁;
         programmed = programs;
         marked = done-none g flash-refl;

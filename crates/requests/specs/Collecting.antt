@@ -7,7 +7,7 @@ use native.Mathlib.Omega.{arith}
 use lib.ListN.{length}
 use Rattle.scope.specs.Geometry.{Geometry, blocks}
 use Rattle.scope.specs.Regions.{Data}
-use Rattle.scope.specs.SmallRecord.{SmallRecord, next-offset}
+use Rattle.scope.specs.SmallRecord.{next-offset}
 use Rattle.scope.specs.Lent.{State, Mapping, logical-at}
 use Rattle.scope.specs.Sound.{Sound}
 use Rattle.scope.specs.Room.{erased-blocks, victim, open-lowest, move-pages}
@@ -110,7 +110,7 @@ module _ {g : Geometry} {chip spare directory cache : List ℕ} {w w₁ : Work}
 
       pub settled-keeps-used : w₃ .rec .used ≡ w₂ .rec .used
       settled-keeps-used =
-          sym (ap (λ (s : State). s .small .used) (settles .after)) ∙ ap (λ (r : SmallRecord). r .used) (settled .only .small)
+          sym (ap (λ (s : State). s .small .used) (settles .after)) ∙ settled .only .rest .used
 
       pub erase-ready : Chip-lent g chip₃ × Spare-lent g spare₃ × (v < blocks g) × Room-to-count 1 (w₃ .counts)
       erase-ready =

@@ -42,7 +42,7 @@ fn read_place(work: Work, g: Geometry, place: Entry, chip: &[u32], buffer: &mut 
             work,
         };
     };
-    let read = read_page(g, p, chip, buffer, work);
+    let read = read_page(work, g, p, chip, buffer);
     Handed {
         value: DONE,
         work: read,
@@ -101,7 +101,7 @@ fn place(
     ensures { λ r. ⌜ ((filter : List ℕ) → Filter (now (cache .entry)) (work .rec .used) filter
         → Filter (now (cache .exit)) (r .rec .used) filter) ⌝ }
 {
-    let programmed = program_next(g, Region::Data, l, buffer, chip, spare, census, work);
+    let programmed = program_next(work, g, Region::Data, l, chip, spare, census, buffer);
     let old = decode(physical(i, cache));
     mark_old(g, old, spare, census);
     set_entry(i, programmed.value, cache);

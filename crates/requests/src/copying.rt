@@ -61,7 +61,7 @@ fn follow(
     ensures { λ r. ⌜ Waits-in (geometry g) r (now (waiting .exit)) ⌝ }
 {
     let rec = work.rec;
-    let i = rank_of(g, rec, l, cache, filter);
+    let i = rank_of(rec, g, l, cache, filter);
     if i < g.c as usize {
         set_entry(i, page, cache);
         return n;
@@ -101,7 +101,7 @@ fn move_page(
     ensures { λ r. ⌜ Waits-in (geometry g) (r .n) (now (waiting .exit)) ⌝ }
 {
     let work = copied.work;
-    let moved = relocate(g, Region::Data, page, chip, spare, census, work);
+    let moved = relocate(work, g, Region::Data, page, chip, spare, census);
     let after = moved.work;
     let n = follow(
         copied.n,

@@ -40,7 +40,7 @@ fn collect(
     ensures { λ r. ⌜ Filter (now (cache .exit)) (r .rec .used) (now (filter .entry)) ⌝ }
 {
     let v = victim(g, Region::Data, spare, census);
-    let opened = open_lowest(g, Region::Data, spare, census, work);
+    let opened = open_lowest(work, g, Region::Data, spare, census);
     let mut waiting = [0u32; 192];
     let copied = move_pages(
         opened,
@@ -56,7 +56,7 @@ fn collect(
     let moved = copied.work;
     let n = copied.n;
     let settled = settle(moved, g, n, &waiting, chip, spare, census, directory);
-    erase(g, v, chip, spare, census, settled)
+    erase(settled, g, v, chip, spare, census)
 }
 
 // The open block is full.
@@ -81,7 +81,7 @@ fn open_or_collect(
     ensures { λ r. ⌜ Filter (now (cache .exit)) (r .rec .used) (now (filter .entry)) ⌝ }
 {
     if 2 <= erased_blocks(g, Region::Data, spare, census) {
-        return open_lowest(g, Region::Data, spare, census, work);
+        return open_lowest(work, g, Region::Data, spare, census);
     }
     collect(work, g, chip, spare, census, directory, cache, filter)
 }

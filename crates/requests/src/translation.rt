@@ -121,9 +121,9 @@ fn fetch(
     ensures { λ r. ⌜ Filter (now (cache .exit)) (r .rec .used) (now (filter .exit)) ⌝ }
 {
     let page = named(l / g.w, directory);
-    let got = word_for(g, l, page, chip, work);
+    let got = word_for(work, g, l, page, chip);
     let read = got.work;
-    enter(l, got.value, cache, filter, read)
+    enter(read, l, got.value, cache, filter)
 }
 
 // The rank that l's entry then has is handed back.
@@ -148,7 +148,7 @@ pub fn translate(
     ensures { λ r. ⌜ Filter (now (cache .exit)) (r .work .rec .used) (now (filter .exit)) ⌝ }
 {
     let rec = work.rec;
-    let i = rank_of(g, rec, l, cache, filter);
+    let i = rank_of(rec, g, l, cache, filter);
     if i < g.c as usize {
         touch(i, cache);
         return Handed { value: 0, work };

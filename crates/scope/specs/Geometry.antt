@@ -25,7 +25,7 @@ abbrev pub most-blocks : ℕ
 most-blocks = 1024
 
 abbrev pub most-pages : ℕ
-most-pages = 65536
+most-pages = most-blocks * most-pages-in-block
 
 -- "Accepted exactly when": the table, a row a pair of fields.
 pub record Accepted (g : Geometry) : Type 0 where

@@ -2,9 +2,10 @@
 -- Every list may have any length and any words: a place past its end reads as *none*, and a word stored there is lost.
 use Prim.Native.Nat.{ℕ, _+_, _*_, _/_, _%_}
 use mathlib.Core.Bool.{Bool, cond}
-use mathlib.Core.List.{List}
+use mathlib.Core.List.{List, [], _∷_}
 use lib.Dec.{eqb}
-use lib.ListN.{getD, take, drop}
+use lib.ListN.{getD, set, take, drop, replicate}
+use lib.Seq.{sets}
 use Rattle.scope.specs.Geometry.{Geometry, M, pages}
 use Rattle.scope.specs.SmallRecord.{SmallRecord}
 
@@ -113,6 +114,17 @@ is-erased p spare = eqb (state-of p spare) erased
 
 abbrev pub is-valid : ℕ → List ℕ → Bool
 is-valid p spare = eqb (state-of p spare) valid
+
+-- The spare with page p in another state; with page p claimed, which makes it valid and names its owner; with the n pages from
+-- `first` on erased, which makes every word of theirs the erased word.
+abbrev pub with-state : ℕ → ℕ → List ℕ → List ℕ
+with-state p state spare = set spare (p * spare-words) state
+
+abbrev pub with-claim : ℕ → ℕ → List ℕ → List ℕ
+with-claim p owner spare = sets spare (p * spare-words) (valid ∷ owner ∷ [])
+
+abbrev pub with-erased : ℕ → ℕ → List ℕ → List ℕ
+with-erased first n spare = sets spare (first * spare-words) (replicate (n * spare-words) erased)
 
 -- "Directory: the physical page of each translation page, or *none*."
 abbrev pub named : ℕ → List ℕ → Entry

@@ -2,11 +2,11 @@
 -- with the operations it made. The steps of 01 are written with what stands here and change chip and spare in no other way.
 use Prim.Native.Nat.{ℕ, zero, suc, _+_, _*_}
 use mathlib.Core.List.{List, [], _∷_, _++_}
-use lib.ListN.{set, replicate}
+use lib.ListN.{replicate}
 use lib.Seq.{sets}
 use Rattle.scope.specs.Geometry.{Geometry}
 use Rattle.scope.specs.SmallRecord.{SmallRecord}
-use Rattle.scope.specs.Lent.{erased, valid, invalid, State, spare-words, with-flash, with-directory, with-cache, with-small}
+use Rattle.scope.specs.Lent.{erased, invalid, State, with-flash, with-directory, with-cache, with-small, with-state, with-claim, with-erased}
 
 -- A read of a page, a program of a page with its owner and words, a mark of a page as invalid, an erase of a block.
 pub data Operation : Type 0 where
@@ -20,13 +20,10 @@ pub data Operation : Type 0 where
 unfoldable pub apply : Geometry → Operation → State → State
 apply g (Read p) s = s
 apply g (Program p owner words) s =
-    with-flash (sets (s .chip) (p * g .W) words) (sets (s .spare) (p * spare-words) (valid ∷ owner ∷ [])) s
-apply g (Mark p) s = with-flash (s .chip) (set (s .spare) (p * spare-words) invalid) s
+    with-flash (sets (s .chip) (p * g .W) words) (with-claim p owner (s .spare)) s
+apply g (Mark p) s = with-flash (s .chip) (with-state p invalid (s .spare)) s
 apply g (Erase b) s =
-    with-flash
-    (sets (s .chip) (b * g .P * g .W) (replicate (g .P * g .W) erased))
-    (sets (s .spare) (b * g .P * spare-words) (replicate (g .P * spare-words) erased))
-    s
+    with-flash (sets (s .chip) (b * g .P * g .W) (replicate (g .P * g .W) erased)) (with-erased (b * g .P) (g .P) (s .spare)) s
 
 -- A list of operations, the first one first.
 unfoldable pub apply-all : Geometry → List Operation → State → State

@@ -8,19 +8,18 @@ use mathlib.Core.List.{List, [], _∷_}
 use native.Mathlib.Nat.{div-add-mod', mod-lt, div-lt-iff-lt-mul}
 use native.Mathlib.Omega.{arith}
 use lib.Dec.{eqb, ltb}
-use lib.ListN.{length, getD, set, replicate, length-set}
-use lib.Seq.{sets, getD-set-same, getD-set-other}
+use lib.ListN.{length, getD, set, length-set}
+use lib.Seq.{getD-set-same, getD-set-other}
 use Rattle.scope.specs.Counting.{count, lowest, fewest}
-use Rattle.scope.specs.Geometry.{Geometry, Accepted, blocks, pages}
+use Rattle.scope.specs.Geometry.{Geometry, Accepted, most-pages-in-block, most-blocks, blocks, pages}
 use Rattle.scope.specs.Regions.{Region, Data, Translation, first-block, region-blocks, page-in}
-use Rattle.scope.specs.Lent.{State, none, erased, valid, invalid, state-of}
+use Rattle.scope.specs.Lent.{State, none, erased, valid, invalid, spare-words, state-of, with-state, with-claim, with-erased}
 use Rattle.scope.specs.Blocks.{wholly-erased}
 use Rattle.scope.specs.Room.{erased-blocks, lowest-erased, victim}
 use Rattle.flash.specs.Cases.{same?, last, clash}
 use Rattle.flash.specs.Counting.{sum, sum-same, count-same}
 use Rattle.flash.specs.Searching.{Is-fewest, fewest-cases}
 use Rattle.flash.specs.Stores.{slot-below, slot-same, getD-sets-inside, record-kept, block-filled, block-kept}
-use Rattle.words.specs.Runs.{getD-any}
 use Rattle.words.specs.Searches.{fewest-unique}
 use Rattle.words.specs.Census.{weight, weigh, Census, weighs-little, erased-told, full-told, valid-told}
 use Rattle.steps.specs.Lies.{Spare-lent, spare-lies}
@@ -74,10 +73,10 @@ module _ {g : Geometry} (ok : Accepted g) {spare census : List ℕ} (kept : Cens
       lie Data e f = omega (arith, kept .long)
       lie Translation e f = omega (arith, kept .long)
 
-  pub blocks-few : {first n : ℕ} → first ≡ first-block g r → n ≡ region-blocks g r → first + n ≤ 1024
+  pub blocks-few : {first n : ℕ} → first ≡ first-block g r → n ≡ region-blocks g r → first + n ≤ most-blocks
   blocks-few e f = few r e f
     where
-      few : {first n : ℕ} (r : Region) → first ≡ first-block g r → n ≡ region-blocks g r → first + n ≤ 1024
+      few : {first n : ℕ} (r : Region) → first ≡ first-block g r → n ≡ region-blocks g r → first + n ≤ most-blocks
       few Data e f = omega (arith, ok .D+T-to)
       few Translation e f = omega (arith, ok .D+T-to)
 
@@ -127,26 +126,26 @@ pub record Restated (p x : ℕ) (spare spare′ : List ℕ) : Type 0 where
   pub there : state-of p spare′ ≡ x
   pub others : (q : ℕ) → q ≢ p → state-of q spare′ ≡ state-of q spare
 
-pub marked-restates : (p : ℕ) {spare spare′ : List ℕ} → p * 2 + 2 ≤ length spare → spare′ ≡ set spare (p * 2) invalid
+pub marked-restates : (p : ℕ) {spare spare′ : List ℕ} → (p + 1) * spare-words ≤ length spare → spare′ ≡ with-state p invalid spare
     → Restated p invalid spare spare′
 marked-restates p {spare} h e =
     rw e
     (record {
-      there = getD-set-same spare (p * 2) invalid none (omega arith);
-      others = λ q other. getD-set-other spare (p * 2) (q * 2) invalid none (λ f. other (omega arith));
+      there = getD-set-same spare (p * spare-words) invalid none (omega arith);
+      others = λ q other. getD-set-other spare (p * spare-words) (q * spare-words) invalid none (λ f. other (omega arith));
     })
 
-pub claimed-restates : (p owner : ℕ) {spare spare′ : List ℕ} → p * 2 + 2 ≤ length spare → spare′ ≡ sets spare (p * 2) (valid ∷ owner ∷ [])
+pub claimed-restates : (p owner : ℕ) {spare spare′ : List ℕ} → (p + 1) * spare-words ≤ length spare → spare′ ≡ with-claim p owner spare
     → Restated p valid spare spare′
 claimed-restates p owner {spare} h e =
     rw e
     (record {
       there =
-          ap (λ (k : ℕ). getD (sets spare (p * 2) (valid ∷ owner ∷ [])) k none) (omega arith)
-          ∙ getD-sets-inside spare (p * 2) (valid ∷ owner ∷ []) 0 none (omega arith) (omega arith);
+          ap (λ (k : ℕ). getD (with-claim p owner spare) k none) (omega arith)
+          ∙ getD-sets-inside spare (p * spare-words) (valid ∷ owner ∷ []) 0 none (omega arith) (omega arith);
       others = λ q other.
-          ap (λ (k : ℕ). getD (sets spare (p * 2) (valid ∷ owner ∷ [])) k none) (omega arith)
-          ∙ record-kept spare 2 p q 0 none (valid ∷ owner ∷ []) refl (omega arith) other
+          ap (λ (k : ℕ). getD (with-claim p owner spare) k none) (omega arith)
+          ∙ record-kept spare spare-words p q 0 none (valid ∷ owner ∷ []) refl (omega arith) other
           ∙ ap (λ (k : ℕ). getD spare k none) (omega arith);
     })
 
@@ -155,7 +154,7 @@ module _ {g : Geometry} {spare census : List ℕ} (kept : Census g spare census)
   pub number-has : weight (state-of (page-in g b i) spare) ≤ getD census b 0
   number-has = omega (arith, kept .each b h, sum-has (g .P) i (λ j. weight (state-of (page-in g b j) spare)) k)
 
-  pub number-little : g .P ≤ 64 → getD census b 0 ≤ 16640
+  pub number-little : g .P ≤ most-pages-in-block → getD census b 0 ≤ 16640
   number-little few = omega (arith, kept .each b h, weighs-little g few spare b)
 
   pub census-restated : (y : ℕ) {x : ℕ} {spare′ : List ℕ} → Restated (page-in g b i) x spare spare′
@@ -183,21 +182,21 @@ module _ {g : Geometry} {spare census : List ℕ} (kept : Census g spare census)
       of-other c other =
           sum-same (g .P) _ _ (λ j l. ap weight (new .others (page-in g c j) (λ q. other (slot-same (g .P) c b j i l k q))))
 
--- What `restate` asks for, and what it leaves: page q is page i of block b.
-pub record Restatable (spare census : List ℕ) (b q : ℕ) : Type 0 where
+-- What `restate` asks for, and what it leaves: page q is page i of block b, and in the state `old`.
+pub record Restatable (census : List ℕ) (b old : ℕ) : Type 0 where
   pub inside : b < length census
-  pub has : weight (getD spare (q * 2) 0) ≤ getD census b 0
+  pub has : weight old ≤ getD census b 0
   pub little : getD census b 0 ≤ 16640
 
-module _ {g : Geometry} {spare census : List ℕ} (lent : Spare-lent g spare) (kept : Census g spare census) (b i : ℕ) {q : ℕ}
-    (h : b < blocks g) (k : i < g .P) (is : q ≡ page-in g b i) where
-  lies : q * 2 + 2 ≤ length spare
+module _ {g : Geometry} {spare census : List ℕ} (lent : Spare-lent g spare) (kept : Census g spare census) (b i : ℕ) {q old : ℕ}
+    (h : b < blocks g) (k : i < g .P) (is : q ≡ page-in g b i) (is-old : old ≡ state-of q spare) where
+  lies : (q + 1) * spare-words ≤ length spare
   lies = spare-lies lent q (rw is (slot-below (g .P) (blocks g) b i h k)) .words
 
-  its-state : state-of (page-in g b i) spare ≡ getD spare (q * 2) 0
-  its-state = ap (λ (p : ℕ). state-of p spare) (sym is) ∙ getD-any spare (q * 2) none 0 (omega (arith, lies))
+  its-state : state-of (page-in g b i) spare ≡ old
+  its-state = ap (λ (p : ℕ). state-of p spare) (sym is) ∙ sym is-old
 
-  pub restatable : Restatable spare census b q
+  pub restatable : Restatable census b old
   restatable =
       record {
         inside = omega (arith, kept .long);
@@ -206,18 +205,18 @@ module _ {g : Geometry} {spare census : List ℕ} (lent : Spare-lent g spare) (k
       }
 
   restated : {x : ℕ} {spare′ census′ : List ℕ} → Restated q x spare spare′
-      → census′ ≡ set census b (getD census b 0 + weight x - weight (getD spare (q * 2) 0)) → Census g spare′ census′
+      → census′ ≡ set census b (getD census b 0 + weight x - weight old) → Census g spare′ census′
   restated {x} new e =
       rw e
-      (census-restated kept b i h k (getD census b 0 + weight x - weight (getD spare (q * 2) 0)) (rw is at new)
+      (census-restated kept b i h k (getD census b 0 + weight x - weight old) (rw is at new)
       (omega (arith, ap weight its-state, restatable .has)))
 
-  pub claim-kept : (owner : ℕ) {spare′ census′ : List ℕ} → spare′ ≡ sets spare (q * 2) (valid ∷ owner ∷ [])
-      → census′ ≡ set census b (getD census b 0 + weight valid - weight (getD spare (q * 2) 0)) → Census g spare′ census′
+  pub claim-kept : (owner : ℕ) {spare′ census′ : List ℕ} → spare′ ≡ with-claim q owner spare
+      → census′ ≡ set census b (getD census b 0 + weight valid - weight old) → Census g spare′ census′
   claim-kept owner e f = restated (claimed-restates q owner lies e) f
 
-  pub mark-kept : {spare′ census′ : List ℕ} → spare′ ≡ set spare (q * 2) invalid
-      → census′ ≡ set census b (getD census b 0 + weight invalid - weight (getD spare (q * 2) 0)) → Census g spare′ census′
+  pub mark-kept : {spare′ census′ : List ℕ} → spare′ ≡ with-state q invalid spare
+      → census′ ≡ set census b (getD census b 0 + weight invalid - weight old) → Census g spare′ census′
   mark-kept e f = restated (marked-restates q lies e) f
 
 -- Where a page lies: in the block, and at the place in it, that a division tells.
@@ -226,7 +225,7 @@ page-lies g p some h = (div-lt-iff-lt-mul {k = g .P} (omega arith) .1 h, mod-lt 
 
 -- A block is erased.
 pub census-erased : {g : Geometry} {spare census spare′ : List ℕ} → Census g spare census → (b : ℕ) → b < blocks g
-    → b * g .P * 2 + g .P * 2 ≤ length spare → spare′ ≡ sets spare (b * g .P * 2) (replicate (g .P * 2) erased)
+    → (b * g .P + g .P) * spare-words ≤ length spare → spare′ ≡ with-erased (b * g .P) (g .P) spare
     → Census g spare′ (set census b (256 * g .P))
 census-erased {g} {spare} {census} kept b h fits e =
     rw e
@@ -238,7 +237,7 @@ census-erased {g} {spare} {census} kept b h fits e =
     })
   where
     filled : List ℕ
-    filled = sets spare (b * g .P * 2) (replicate (g .P * 2) erased)
+    filled = with-erased (b * g .P) (g .P) spare
 
     sum-each : (n : ℕ) (a : ℕ → ℕ) → ((i : ℕ) → i < n → a i ≡ 256) → sum n a ≡ 256 * n
     sum-each zero a q = refl
@@ -248,12 +247,12 @@ census-erased {g} {spare} {census} kept b h fits e =
     all-erased = sum-each (g .P) _ (λ i l.
         ap weight
         (ap (λ (j : ℕ). getD filled j none) (omega arith)
-        ∙ block-filled spare 2 (g .P) b i 0 erased none l (omega arith) (omega arith)))
+        ∙ block-filled spare spare-words (g .P) b i 0 erased none l (omega arith) (omega arith)))
 
     of-other : (c : ℕ) → c ≢ b → weigh g filled c ≡ weigh g spare c
     of-other c other =
         sum-same (g .P) _ _ (λ j l.
         ap weight
         (ap (λ (k : ℕ). getD filled k none) (omega arith)
-        ∙ block-kept spare 2 (g .P) b (page-in g c j) 0 erased none (omega arith) (λ i m q. other (slot-same (g .P) c b j i l m q))
+        ∙ block-kept spare spare-words (g .P) b (page-in g c j) 0 erased none (omega arith) (λ i m q. other (slot-same (g .P) c b j i l m q))
         ∙ ap (λ (k : ℕ). getD spare k none) (omega arith)))

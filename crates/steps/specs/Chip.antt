@@ -9,7 +9,7 @@ use lib.Seq.{sets}
 use Rattle.scope.specs.Geometry.{Geometry, pages}
 use Rattle.scope.specs.Regions.{Region}
 use Rattle.scope.specs.SmallRecord.{advanced, opened}
-use Rattle.scope.specs.Lent.{none, valid, invalid, erased, Entry, Place, Nowhere, State, Mapping, words-of, owner-of, translation-word}
+use Rattle.scope.specs.Lent.{none, invalid, erased, Entry, Place, Nowhere, State, Mapping, words-of, owner-of, with-state, with-claim, with-erased, translation-word}
 use Rattle.scope.specs.Operations.{Step, Mark, Erase, Counts, apply, give, look, perform, set-small, _>>=_, _>>_}
 use Rattle.scope.specs.Room.{Following, read-page, program-next, move-page, open-lowest, lowest-erased}
 use Rattle.scope.specs.Sound.{in-page}
@@ -39,11 +39,11 @@ read-by-chip g p kept counting spare directory cache =
 
 -- A page is marked; the page that an entry names is, if it names one.
 abbrev pub marked : Entry → List ℕ → List ℕ
-marked (Place p) spare = set spare (p * 2) invalid
+marked (Place p) spare = with-state p invalid spare
 marked Nowhere spare = spare
 
 pub mark-does : (g : Geometry) (p : ℕ) {chip spare spare′ directory cache : List ℕ} {rec : Record} {c : Counts}
-    → spare′ ≡ set spare (p * 2) invalid
+    → spare′ ≡ with-state p invalid spare
     → Does (perform g (Mark p)) (state chip spare directory cache rec) c tt (state chip spare′ directory cache rec) c
 unfolding apply
 mark-does g p e = does-ends (does-mark g p) (state-same refl (sym e) refl refl refl) refl
@@ -58,7 +58,7 @@ mark-old-does g Nowhere e = does-ends (does-give tt) (state-same refl (sym e) re
 -- A block is erased.
 pub erase-does : (g : Geometry) (b : ℕ) {chip spare chip′ spare′ : List ℕ} {w w′ : Work}
     → chip′ ≡ sets chip (b * g .P * g .W) (replicate (g .P * g .W) erased)
-    → spare′ ≡ sets spare (b * g .P * 2) (replicate (g .P * 2) erased)
+    → spare′ ≡ with-erased (b * g .P) (g .P) spare
     → w′ .rec ≡ w .rec → counts (w′ .counts) ≡ one-erase (counts (w .counts))
     → Does-flash (perform g (Erase b)) chip spare w tt chip′ spare′ w′
 unfolding apply
@@ -70,7 +70,7 @@ erase-does g b e f kept counting directory cache =
 -- It is claimed for an owner: valid and the owner's, the page behind it the next one, and a program counted. Its words are stored apart.
 pub record Claimed (g : Geometry) (r : Region) (owner : ℕ) (spare : List ℕ) (w : Work) (q : ℕ) (spare′ : List ℕ) (w′ : Work) : Type 0 where
   pub is-next : q ≡ next-page g r (small (w .rec))
-  pub owned : spare′ ≡ sets spare (q * 2) (valid ∷ owner ∷ [])
+  pub owned : spare′ ≡ with-claim q owner spare
   pub moves-on : small (w′ .rec) ≡ advanced r (small (w .rec))
   pub counting : counts (w′ .counts) ≡ one-program (counts (w .counts))
 
@@ -107,7 +107,7 @@ relocate g r p = do
 pub relocate-does : (p : ℕ) {g : Geometry} {r : Region} {owner q q₀ : ℕ} {chip spare chip′ spare₁ spare′ : List ℕ} {w w₁ w′ : Work}
     → owner ≡ owner-of p spare → q₀ ≡ next-page g r (small (w .rec)) → chip′ ≡ sets chip (q₀ * g .W) (words-of g p chip)
     → w₁ .rec ≡ w .rec → counts (w₁ .counts) ≡ one-read (counts (w .counts))
-    → Claimed g r owner spare w₁ q spare₁ w′ → spare′ ≡ set spare₁ (p * 2) invalid
+    → Claimed g r owner spare w₁ q spare₁ w′ → spare′ ≡ with-state p invalid spare₁
     → Does-flash (relocate g r p) chip spare w (record { logical = owner; physical = q }) chip′ spare′ w′
 unfolding relocate
 relocate-does p {g} {r} {chip = chip} its-owner is-next copied kept counting claimed is-marked directory cache =

@@ -7,7 +7,7 @@ use lib.ListN.{length}
 use lib.Seq.{sets}
 use Rattle.scope.specs.Geometry.{Geometry}
 use Rattle.scope.specs.SmallRecord.{with-used}
-use Rattle.scope.specs.Lent.{none, cache-size}
+use Rattle.scope.specs.Lent.{none, entry-words, cache-size}
 use Rattle.scope.specs.Cache.{entry-at, without, touch, enter, forget, set-entry}
 use Rattle.lent.specs.declared.Work.{Work}
 use Rattle.lent.specs.Model.{small, counts}
@@ -25,7 +25,7 @@ module _ {cache cache′ : List ℕ} where
   touch-does i e chip spare directory =
       does-ends (does-bind _ (does-set-cache _) (does-give 0)) (state-same refl refl refl (sym e) refl) refl
 
-  pub set-entry-does : (i place : ℕ) {w : Work} → cache′ ≡ sets cache (i * 3 + 1) (place ∷ 1 ∷ [])
+  pub set-entry-does : (i place : ℕ) {w : Work} → cache′ ≡ sets cache (i * entry-words + 1) (place ∷ 1 ∷ [])
       → Does-cache (set-entry i place) cache w tt cache′ w
   unfolding set-entry
   set-entry-does i place e chip spare directory = does-ends (does-set-cache _) (state-same refl refl refl (sym e) refl) refl
@@ -40,7 +40,7 @@ module _ {cache cache′ : List ℕ} where
         (ap (λ (n : ℕ). with-used n (small (w .rec))) (sym (add-one (w .rec .used))) ∙ sym more))
         (ap counts (sym counting))
 
-    pub forget-does : (i : ℕ) → cache′ ≡ sets cache (i * 3) (none ∷ none ∷ none ∷ [])
+    pub forget-does : (i : ℕ) → cache′ ≡ sets cache (i * entry-words) (none ∷ none ∷ none ∷ [])
         → small (w′ .rec) ≡ with-used (w .rec .used - 1) (small (w .rec)) → Does-cache (forget i) cache w tt cache′ w′
     unfolding forget
     forget-does i e less chip spare directory =

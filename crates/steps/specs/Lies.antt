@@ -7,10 +7,10 @@ use native.Mathlib.Nat.{mul-le-mul-right, add-mul, mod-lt}
 use native.Mathlib.Numerals.{add-one}
 use native.Mathlib.Omega.{arith}
 use lib.ListN.{length}
-use Rattle.scope.specs.Geometry.{Geometry, Accepted, blocks, pages}
+use Rattle.scope.specs.Geometry.{Geometry, Accepted, most-pages-in-block, most-pages, blocks, pages}
 use Rattle.scope.specs.Regions.{Region, Has-block, page-in}
 use Rattle.scope.specs.SmallRecord.{SmallRecord, open-block, next-offset, with-open, advanced}
-use Rattle.scope.specs.Lent.{chip-size, spare-size, translation-word}
+use Rattle.scope.specs.Lent.{spare-words, chip-size, spare-size, translation-word}
 use Rattle.lent.specs.declared.Record.{Record}
 use Rattle.lent.specs.Model.{small}
 use Rattle.flash.specs.Cases.{below?}
@@ -35,17 +35,17 @@ spare-still lent e = record { accepted = lent .accepted; spare-fits = e ∙ lent
 
 -- ---- pages
 
--- A page's words; its two spare words.
+-- A page's words; its spare words.
 pub record Words-lie (g : Geometry) (chip : List ℕ) (p : ℕ) : Type 0 where
-  pub page-to : p < 65536
+  pub page-to : p < most-pages
   pub W-to : g .W ≤ 512
   pub words : p * g .W + g .W ≤ length chip
 
 pub record Spare-lies (spare : List ℕ) (p : ℕ) : Type 0 where
-  pub page-to : p < 65536
-  pub words : p * 2 + 2 ≤ length spare
+  pub page-to : p < most-pages
+  pub words : (p + 1) * spare-words ≤ length spare
 
-pub few-pages : {g : Geometry} → Accepted g → pages g ≤ 65536
+pub few-pages : {g : Geometry} → Accepted g → pages g ≤ most-pages
 few-pages {g} ok = omega (arith, mul-le-mul-right (g .P) (ok .D+T-to), ok .P-to)
 
 pub words-lie : {g : Geometry} {chip : List ℕ} → Chip-lent g chip → (p : ℕ) → p < pages g → Words-lie g chip p
@@ -80,18 +80,18 @@ pages-apart w p q = below? p q (λ h. inl (omega (arith, mul-le-mul-right w h)))
 
 -- All words of a block, in the chip and in the spare.
 pub record Block-lies (g : Geometry) (chip spare : List ℕ) (b : ℕ) : Type 0 where
-  pub P-to : g .P ≤ 64
+  pub P-to : g .P ≤ most-pages-in-block
   pub W-to : g .W ≤ 512
-  pub first-to : b * g .P < 65536
+  pub first-to : b * g .P < most-pages
   pub size-to : g .P * g .W ≤ 32768
   pub words : b * g .P * g .W + g .P * g .W ≤ length chip
-  pub spares : b * g .P * 2 + g .P * 2 ≤ length spare
+  pub spares : (b * g .P + g .P) * spare-words ≤ length spare
 
 pub block-lies : {g : Geometry} {chip spare : List ℕ} → Chip-lent g chip → Spare-lent g spare → (b : ℕ) → b < blocks g
     → Block-lies g chip spare b
 block-lies {g} chip spare b h =
     let behind : b * g .P + g .P ≤ pages g = omega (arith, mul-le-mul-right (g .P) h) in
-    let most : g .P * g .W ≤ 64 * g .W = mul-le-mul-right (g .W) (chip .accepted .P-to) in
+    let most : g .P * g .W ≤ most-pages-in-block * g .W = mul-le-mul-right (g .W) (chip .accepted .P-to) in
     let in-words : (b * g .P + g .P) * g .W ≤ pages g * g .W = mul-le-mul-right (g .W) behind in
     record {
       P-to = chip .accepted .P-to;
@@ -119,7 +119,7 @@ pub next-on-chip : {g : Geometry} {r : Region} {s : SmallRecord} → Has-next g 
 next-on-chip {g} {r} {s} h =
     slot-below (g .P) (blocks g) (open-block r s) (next-offset r s) (block-on-chip g r (open-block r s) (h .in-region)) (h .room)
 
-pub next-to : {g : Geometry} {r : Region} {s : SmallRecord} → Accepted g → Has-next g r s → next-page g r s < 65536
+pub next-to : {g : Geometry} {r : Region} {s : SmallRecord} → Accepted g → Has-next g r s → next-page g r s < most-pages
 next-to ok h = omega (arith, few-pages ok, next-on-chip h)
 
 -- Its words lie in the chip, and its spare words in the spare.

@@ -103,7 +103,7 @@ pub fn victim(g: Geometry, r: Region, spare: &[u32], census: &[u32]) -> u32
 }
 
 // The lowest wholly erased block becomes the open one.
-pub fn open_lowest(g: Geometry, r: Region, spare: &[u32], census: &[u32], work: Work) -> Work
+pub fn open_lowest(work: Work, g: Geometry, r: Region, spare: &[u32], census: &[u32]) -> Work
     requires { ⌜ Accepted (geometry g) × Census (geometry g) (now spare) (now census) ⌝ }
     ensures { λ x. ⌜ Does-by-spare (open-lowest (geometry g) (region r)) (now (spare .entry)) work tt x ⌝ }
 {

@@ -12,6 +12,7 @@ use lent::Record;
 use lent::Region;
 use lent::VALID;
 use lent::Work;
+use lent::as_it_is;
 use lent::count_erase;
 use lent::count_program;
 use lent::count_read;
@@ -20,12 +21,16 @@ use words::runs::copy_in;
 use words::runs::copy_out;
 use words::runs::copy_within;
 use words::runs::fill_erased;
-use words::runs::store_two;
+use words::spare::claim;
+use words::spare::erase_pages;
+use words::spare::owner_at;
+use words::spare::set_state;
+use words::spare::state_at;
 ghost use mathlib.Core.Path.{_≡_};
-ghost use Prim.Native.Nat.{ℕ, _+_, _*_, _<_};
+ghost use Prim.Native.Nat.{ℕ, _+_, _*_, _≤_, _<_};
 ghost use lib.ListN.{length, set};
 ghost use Rattle.scope.specs.Geometry.{Accepted, blocks, pages};
-ghost use Rattle.scope.specs.Lent.{invalid, Place, is-valid, translation-word};
+ghost use Rattle.scope.specs.Lent.{invalid, Place, spare-words, is-valid, with-state, translation-word};
 ghost use Rattle.scope.specs.Operations.{Erase, perform};
 ghost use Rattle.scope.specs.Room.{read-page, program-next};
 ghost use Rattle.scope.specs.Steps.{word-for};
@@ -37,12 +42,12 @@ ghost use Rattle.steps.specs.Chip.{Claimed, Begun, marked, relocate};
 
 // Block b is erased.
 pub fn erase(
+    work: Work,
     g: Geometry,
     b: u32,
     chip: &mut [u32],
     spare: &mut [u32],
     census: &mut [u32],
-    work: Work,
 ) -> Work
     requires { ⌜ Chip-lent (geometry g) (now chip) × Spare-lent (geometry g) (now spare) × (b < blocks (geometry g))
         × Room-to-count 1 (work .counts) ⌝ }
@@ -51,33 +56,38 @@ pub fn erase(
         (now (chip .exit)) (now (spare .exit)) r ⌝ }
     ensures { λ _. ⌜ Census (geometry g) (now (spare .exit)) (now (census .exit)) ⌝ }
 {
+    let rec = work.rec;
+    let counts = work.counts;
     let p = g.p as usize;
     let w = g.w as usize;
     let at = b as usize * p;
     fill_erased(chip, at * w, p * w);
-    fill_erased(spare, at * 2, p * 2);
+    erase_pages(spare, at, p);
     census[b as usize] = ERASED_PAGE * g.p;
-    count_erase(work)
+    Work {
+        rec: as_it_is(rec),
+        counts: count_erase(counts),
+    }
 }
 
 // Whether page p is valid.
 pub fn is_valid(p: u32, spare: &[u32]) -> bool
-    requires { ⌜ p * 2 < length (now spare) ⌝ }
+    requires { ⌜ (p + 1) * spare-words ≤ length (now spare) ⌝ }
     ensures { λ r. ⌜ r ≡ is-valid p (now (spare .entry)) ⌝ }
 {
-    spare[p as usize * 2] == VALID
+    state_at(spare, p as usize) == VALID
 }
 
 // Page p is marked invalid.
 pub fn mark(g: Geometry, p: u32, spare: &mut [u32], census: &mut [u32])
     requires { ⌜ Spare-lent (geometry g) (now spare) × (p < pages (geometry g)) ⌝ }
     requires { ⌜ Census (geometry g) (now spare) (now census) ⌝ }
-    ensures { λ _. ⌜ now (spare .exit) ≡ set (now (spare .entry)) (p * 2) invalid ⌝ }
+    ensures { λ _. ⌜ now (spare .exit) ≡ with-state p invalid (now (spare .entry)) ⌝ }
     ensures { λ _. ⌜ Census (geometry g) (now (spare .exit)) (now (census .exit)) ⌝ }
 {
-    let at = p as usize * 2;
-    restate(census, (p / g.p) as usize, spare[at], INVALID);
-    spare[at] = INVALID;
+    let at = p as usize;
+    restate(census, (p / g.p) as usize, state_at(spare, at), INVALID);
+    set_state(spare, at, INVALID);
 }
 
 // The former page is, if there is one.
@@ -94,7 +104,7 @@ pub fn mark_old(g: Geometry, old: Entry, spare: &mut [u32], census: &mut [u32])
 }
 
 // The open block's next page.
-pub fn next_page(g: Geometry, r: Region, rec: Record) -> u32
+pub fn next_page(rec: Record, g: Geometry, r: Region) -> u32
     requires { ⌜ Accepted (geometry g) × Has-next (geometry g) (region r) (small rec) ⌝ }
     ensures { λ q. ⌜ q ≡ next-page (geometry g) (region r) (small rec) ⌝ }
 {
@@ -103,12 +113,12 @@ pub fn next_page(g: Geometry, r: Region, rec: Record) -> u32
 
 // It is claimed for an owner; its words are the caller's to store.
 pub fn claim_next(
+    work: Work,
     g: Geometry,
     r: Region,
     owner: u32,
     spare: &mut [u32],
     census: &mut [u32],
-    work: Work,
 ) -> Handed
     requires { ⌜ Spare-lent (geometry g) (now spare) × Has-next (geometry g) (region r) (small (work .rec))
         × Room-to-count 1 (work .counts) ⌝ }
@@ -120,30 +130,30 @@ pub fn claim_next(
     let counts = work.counts;
     let b = open_block(rec, r);
     let i = next_offset(rec, r);
-    let q = next_page(g, r, rec);
-    let at = q as usize * 2;
-    restate(census, b as usize, spare[at], VALID);
-    store_two(spare, at, VALID, owner);
+    let q = next_page(rec, g, r);
+    let at = q as usize;
+    restate(census, b as usize, state_at(spare, at), VALID);
+    claim(spare, at, owner);
     let next = Work {
         rec: with_open(rec, r, b, i + 1),
-        counts,
+        counts: count_program(counts),
     };
     Handed {
         value: q,
-        work: count_program(next),
+        work: next,
     }
 }
 
 // It is programmed with an owner and a page's words.
 pub fn program_next(
+    work: Work,
     g: Geometry,
     r: Region,
     owner: u32,
-    words: &[u32],
     chip: &mut [u32],
     spare: &mut [u32],
     census: &mut [u32],
-    work: Work,
+    words: &[u32],
 ) -> Handed
     requires { ⌜ Chip-lent (geometry g) (now chip) × Spare-lent (geometry g) (now spare) × (length (now words) ≡ geometry g .W) ⌝ }
     requires { ⌜ Has-next (geometry g) (region r) (small (work .rec)) × Room-to-count 1 (work .counts) ⌝ }
@@ -154,9 +164,9 @@ pub fn program_next(
 {
     let w = g.w as usize;
     let rec = work.rec;
-    let q = next_page(g, r, rec) as usize;
+    let q = next_page(rec, g, r) as usize;
     copy_in(chip, q * w, words);
-    claim_next(g, r, owner, spare, census, work)
+    claim_next(work, g, r, owner, spare, census)
 }
 
 // Where a page has gone, and its owner.
@@ -168,13 +178,13 @@ pub struct Moved {
 
 // Page p moves to the open block's next page, with its owner, and is marked invalid.
 pub fn relocate(
+    work: Work,
     g: Geometry,
     r: Region,
     p: u32,
     chip: &mut [u32],
     spare: &mut [u32],
     census: &mut [u32],
-    work: Work,
 ) -> Moved
     requires { ⌜ Chip-lent (geometry g) (now chip) × Spare-lent (geometry g) (now spare) × (p < pages (geometry g)) ⌝ }
     requires { ⌜ Has-next (geometry g) (region r) (small (work .rec)) × Room-to-count 2 (work .counts) ⌝ }
@@ -186,11 +196,15 @@ pub fn relocate(
     let w = g.w as usize;
     let from = p as usize;
     let rec = work.rec;
-    let q = next_page(g, r, rec) as usize;
+    let counts = work.counts;
+    let q = next_page(rec, g, r) as usize;
     copy_within(chip, from * w, q * w, w);
-    let owner = spare[from * 2 + 1];
-    let read = count_read(work);
-    let claimed = claim_next(g, r, owner, spare, census, read);
+    let owner = owner_at(spare, from);
+    let read = Work {
+        rec: as_it_is(rec),
+        counts: count_read(counts),
+    };
+    let claimed = claim_next(read, g, r, owner, spare, census);
     mark(g, p, spare, census);
     let done = claimed.work;
     Moved {
@@ -201,18 +215,23 @@ pub fn relocate(
 }
 
 // Page p is read into a buffer.
-pub fn read_page(g: Geometry, p: u32, chip: &[u32], buffer: &mut [u32], work: Work) -> Work
+pub fn read_page(work: Work, g: Geometry, p: u32, chip: &[u32], buffer: &mut [u32]) -> Work
     requires { ⌜ Chip-lent (geometry g) (now chip) × (p < pages (geometry g)) × (length (now buffer) ≡ geometry g .W)
         × Room-to-count 1 (work .counts) ⌝ }
     ensures { λ r. ⌜ Does-by-chip (read-page (geometry g) p) (now (chip .entry)) work (now (buffer .exit)) r ⌝ }
 {
+    let rec = work.rec;
+    let counts = work.counts;
     let w = g.w as usize;
     copy_out(buffer, chip, p as usize * w);
-    count_read(work)
+    Work {
+        rec: as_it_is(rec),
+        counts: count_read(counts),
+    }
 }
 
 // The word for logical page l, of the translation page that an entry names; none, with no read, where it names none.
-pub fn word_for(g: Geometry, l: u32, page: Entry, chip: &[u32], work: Work) -> Handed
+pub fn word_for(work: Work, g: Geometry, l: u32, page: Entry, chip: &[u32]) -> Handed
     requires { ⌜ Chip-lent (geometry g) (now chip) × ((q : ℕ) → entry page ≡ Place q → q < pages (geometry g))
         × Room-to-count 1 (work .counts) ⌝ }
     ensures { λ x. ⌜ Does-by-chip (word-for (geometry g) l (entry page)) (now (chip .entry)) work (x .value) (x .work) ⌝ }
@@ -220,30 +239,40 @@ pub fn word_for(g: Geometry, l: u32, page: Entry, chip: &[u32], work: Work) -> H
     let Entry::Place(q) = page else {
         return Handed { value: NONE, work };
     };
+    let rec = work.rec;
+    let counts = work.counts;
     let w = g.w as usize;
     let word = chip[q as usize * w + l as usize % w];
+    let read = Work {
+        rec: as_it_is(rec),
+        counts: count_read(counts),
+    };
     Handed {
         value: word,
-        work: count_read(work),
+        work: read,
     }
 }
 
 // The words that an update of a translation page begins with are put into the open block's next page: those of the former page, which
 // are read, or none throughout.
-pub fn begin_next(g: Geometry, r: Region, former: Entry, chip: &mut [u32], work: Work) -> Work
+pub fn begin_next(work: Work, g: Geometry, r: Region, former: Entry, chip: &mut [u32]) -> Work
     requires { ⌜ Chip-lent (geometry g) (now chip) × ((p : ℕ) → entry former ≡ Place p → p < pages (geometry g)) ⌝ }
     requires { ⌜ Has-next (geometry g) (region r) (small (work .rec)) × Room-to-count 1 (work .counts) ⌝ }
     ensures { λ x. ⌜ Begun (geometry g) (region r) (entry former) (now (chip .entry)) work (now (chip .exit)) x ⌝ }
 {
     let w = g.w as usize;
     let rec = work.rec;
-    let q = next_page(g, r, rec) as usize;
+    let counts = work.counts;
+    let q = next_page(rec, g, r) as usize;
     let Entry::Place(p) = former else {
         fill_erased(chip, q * w, w);
         return work;
     };
     copy_within(chip, p as usize * w, q * w, w);
-    count_read(work)
+    Work {
+        rec: as_it_is(rec),
+        counts: count_read(counts),
+    }
 }
 
 // In the translation page at q, the word of logical page l.

@@ -2,8 +2,7 @@
 use lent::Entry;
 use lent::decode;
 ghost use mathlib.Core.Path.{_≡_};
-ghost use mathlib.Core.List.{List};
-ghost use Prim.Native.Nat.{ℕ, _<_};
+ghost use Prim.Native.Nat.{_<_};
 ghost use lib.ListN.{length};
 ghost use Rattle.scope.specs.Lent.{named};
 ghost use Rattle.scope.specs.Steps.{directory-names-it};

@@ -1,4 +1,5 @@
 // The cache's entries: found, moved to the front, entered, dropped and set, with the number of those in use.
+use lent::ENTRY_WORDS;
 use lent::Geometry;
 use lent::NONE;
 use lent::Record;
@@ -14,7 +15,7 @@ ghost use lib.ListN.{length};
 ghost use Rattle.scope.specs.Geometry.{Accepted};
 ghost use Rattle.scope.specs.Sound.{Entries-fit, rank-of};
 ghost use Rattle.scope.specs.Cache.{is-changed, touch, enter, forget, set-entry};
-ghost use Rattle.scope.specs.Lent.{logical-at, physical-at};
+ghost use Rattle.scope.specs.Lent.{entry-words, logical-at, physical-at};
 ghost use Rattle.lent.specs.declared.Work.{Work};
 ghost use Rattle.lent.specs.Model.{geometry};
 ghost use Rattle.lent.specs.Shapes.{Does-cache};
@@ -29,7 +30,7 @@ fn bit_of(l: u32) -> usize
 }
 
 // The rank of logical page l; C where it isn't cached, which the filter mostly tells.
-pub fn rank_of(g: Geometry, rec: Record, l: u32, cache: &[u32], filter: &[u64; 1024]) -> usize
+pub fn rank_of(rec: Record, g: Geometry, l: u32, cache: &[u32], filter: &[u64; 1024]) -> usize
     requires { ⌜ Cache-lent (geometry g) (now cache) (rec .used) ⌝ }
     requires { ⌜ Filter (now cache) (rec .used) (now filter) ⌝ }
     ensures { λ i. ⌜ (i ≤ geometry g .C) × (rank-of (geometry g) (now (cache .entry)) (rec .used) l ≡ i) ⌝ }
@@ -44,37 +45,37 @@ pub fn rank_of(g: Geometry, rec: Record, l: u32, cache: &[u32], filter: &[u64; 1
 
 // The words of the entry at rank i.
 pub fn logical(i: usize, cache: &[u32]) -> u32
-    requires { ⌜ i * 3 + 3 ≤ length (now cache) ⌝ }
+    requires { ⌜ i * entry-words + entry-words ≤ length (now cache) ⌝ }
     ensures { λ l. ⌜ l ≡ logical-at i (now (cache .entry)) ⌝ }
 {
-    cache[i * 3]
+    cache[i * ENTRY_WORDS]
 }
 
 pub fn physical(i: usize, cache: &[u32]) -> u32
-    requires { ⌜ i * 3 + 3 ≤ length (now cache) ⌝ }
+    requires { ⌜ i * entry-words + entry-words ≤ length (now cache) ⌝ }
     ensures { λ p. ⌜ p ≡ physical-at i (now (cache .entry)) ⌝ }
 {
-    cache[i * 3 + 1]
+    cache[i * ENTRY_WORDS + 1]
 }
 
 pub fn is_changed(i: usize, cache: &[u32]) -> bool
-    requires { ⌜ i * 3 + 3 ≤ length (now cache) ⌝ }
+    requires { ⌜ i * entry-words + entry-words ≤ length (now cache) ⌝ }
     ensures { λ r. ⌜ r ≡ is-changed i (now (cache .entry)) ⌝ }
 {
-    cache[i * 3 + 2] == 1
+    cache[i * ENTRY_WORDS + 2] == 1
 }
 
 // The entry at rank i moves to the front.
 pub fn touch(i: usize, cache: &mut [u32])
-    requires { ⌜ i * 3 + 3 ≤ length (now cache) ⌝ }
+    requires { ⌜ i * entry-words + entry-words ≤ length (now cache) ⌝ }
     ensures { λ _. ⌜ ((w : Work) → Does-cache (touch i) (now (cache .entry)) w 0 (now (cache .exit)) w) ⌝ }
 {
     to_front(cache, i);
 }
 
 // An entry for logical page l, in front and unchanged, in the place of the first unused one.
-pub fn enter(l: u32, place: u32, cache: &mut [u32], filter: &mut [u64; 1024], work: Work) -> Work
-    requires { ⌜ (work .rec .used * 3 + 3 ≤ length (now cache)) × (work .rec .used < 4294967295) ⌝ }
+pub fn enter(work: Work, l: u32, place: u32, cache: &mut [u32], filter: &mut [u64; 1024]) -> Work
+    requires { ⌜ (work .rec .used * entry-words + entry-words ≤ length (now cache)) × (work .rec .used < 4294967295) ⌝ }
     requires { ⌜ Filter (now cache) (work .rec .used) (now filter) ⌝ }
     ensures { λ r. ⌜ Does-cache (enter l place) (now (cache .entry)) work 0 (now (cache .exit)) r ⌝ }
     ensures { λ r. ⌜ Filter (now (cache .exit)) (r .rec .used) (now (filter .exit)) ⌝ }
@@ -112,8 +113,8 @@ pub fn forget(
 
 // The entry at rank i names a new place and is changed.
 pub fn set_entry(i: usize, place: u32, cache: &mut [u32])
-    requires { ⌜ i * 3 + 3 ≤ length (now cache) ⌝ }
+    requires { ⌜ i * entry-words + entry-words ≤ length (now cache) ⌝ }
     ensures { λ _. ⌜ ((w : Work) → Does-cache (set-entry i place) (now (cache .entry)) w tt (now (cache .exit)) w) ⌝ }
 {
-    store_two(cache, i * 3 + 1, place, 1);
+    store_two(cache, i * ENTRY_WORDS + 1, place, 1);
 }

@@ -11,6 +11,7 @@ use Rattle.scope.specs.Room.{erased-blocks, victim, move-pages, open-lowest}
 use Rattle.scope.specs.Steps.{directory-follows}
 use Rattle.flash.specs.Listed.{cost-none}
 use Rattle.flash.specs.Places.{block-on-chip}
+use Rattle.flash.specs.Heads.{rest-sym, opened-rest}
 use Rattle.flash.specs.SamePages.{same-refl}
 use Rattle.region.specs.DirectoryFollows.{directory-view, Translation-only, since, directory-follower}
 use Rattle.region.specs.Collect.{opened-lowest}
@@ -50,7 +51,8 @@ module _ {g : Geometry} {chip spare directory : List ℕ} {w w₁ : Work} {v : �
   is-opened = opened-is g Translation (opened chip directory (no-cache g))
 
   since-opened : Translation-only g s₁ s
-  since-opened = subst (λ x. Translation-only g x s) is-opened (record { data-pages = same-refl; cache = refl; small = refl })
+  since-opened = subst (λ x. Translation-only g x s) is-opened
+      (record { data-pages = same-refl; cache = refl; rest = rest-sym (opened-rest Translation _ (s .small)) })
 
   pub copy-ready : Copy-ready g chip spare directory w₁ v
   copy-ready =

@@ -7,15 +7,15 @@ use mathlib.Core.List.{List, [], _∷_, _++_, append-nil}
 use native.Mathlib.Numerals.{add-one}
 use native.Mathlib.Omega.{arith}
 use lib.Dec.{eqb, ltb}
-use lib.ListN.{length, getD, set, take, drop, length-append, length-set, take-append-drop}
-use lib.Seq.{sets, sets-eq, take-add}
+use lib.ListN.{length, getD, set, length-append, length-set}
+use lib.Seq.{sets}
 use borrow.Author.Tests.{eq-eqb, ne-eqb, lt-ltb, le-ltb}
 use Rattle.scope.specs.Geometry.{Geometry, pages}
 use Rattle.scope.specs.Lent.{Mapping, words-of, translation-page, translation-word}
 use Rattle.scope.specs.Steps.{of-page, set-words}
 use Rattle.flash.specs.Cases.{same?, below?}
 use Rattle.flash.specs.Words.{length-words-of}
-use Rattle.words.specs.Runs.{length-part}
+use Rattle.words.specs.Runs.{sets-own}
 use Rattle.promises.specs.Stored.{length-set-words}
 use Rattle.steps.specs.Lies.{Chip-lent, words-lie}
 use Rattle.steps.specs.Chip.{one-word-set}
@@ -65,12 +65,6 @@ module _ (g : Geometry) (t : ℕ) where
     of-page-other e = of-page-++ w (m ∷ []) ∙ (rw (ne-eqb (translation-page g (m .logical)) t e) (append-nil (of-page g t w)))
 
 -- ---- the words of a page set
-
--- A page's own words stored in it change nothing.
-sets-own : (l : List ℕ) (at n : ℕ) → at + n ≤ length l → sets l at (take n (drop at l)) ≡ l
-sets-own l at n h =
-    let size : length (take n (drop at l)) ≡ n = length-part l at n h in
-    sets-eq (take n (drop at l)) l at (omega arith) ∙ (rw (size, ← take-add at n l) (take-append-drop (at + n) l))
 
 -- The words of page q are those that it had, with what waits for translation page t set.
 pub record Words-set (g : Geometry) (q t : ℕ) (chip : List ℕ) (w : List Mapping) (chip′ : List ℕ) : Type 0 where

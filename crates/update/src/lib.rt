@@ -42,7 +42,7 @@ pub fn update_one(
     let t = l / g.w;
     let begun = begin(work, g, t, chip, spare, census, directory);
     let rec = begun.rec;
-    let q = next_page(g, Region::Translation, rec);
+    let q = next_page(rec, g, Region::Translation);
     set_word(g, q, l, place, chip);
     finish(begun, g, t, spare, census, directory)
 }
@@ -69,7 +69,7 @@ fn update_page(
 {
     let begun = begin(work, g, t, chip, spare, census, directory);
     let rec = begun.rec;
-    let q = next_page(g, Region::Translation, rec);
+    let q = next_page(rec, g, Region::Translation);
     set_words(g, q, t, n, waiting, chip);
     finish(begun, g, t, spare, census, directory)
 }

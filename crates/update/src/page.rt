@@ -31,7 +31,7 @@ pub(crate) fn begin(
 {
     let made = room(work, g, chip, spare, census, directory);
     let former = named(t, directory);
-    begin_next(g, Region::Translation, former, chip, made)
+    begin_next(made, g, Region::Translation, former, chip)
 }
 
 // The next page becomes that of translation page t, in the place of the former one, and the directory names it.
@@ -49,7 +49,7 @@ pub(crate) fn finish(
     ensures { λ _. ⌜ Census (geometry g) (now (spare .exit)) (now (census .exit)) ⌝ }
 {
     let former = named(t, directory);
-    let claimed = claim_next(g, Region::Translation, t, spare, census, work);
+    let claimed = claim_next(work, g, Region::Translation, t, spare, census);
     mark_old(g, former, spare, census);
     names_it(t, claimed.value, directory);
     claimed.work

@@ -39,7 +39,7 @@ fn move_if_valid(
     if !is_valid(p, spare) {
         return work;
     }
-    let moved = relocate(g, Region::Translation, p, chip, spare, census, work);
+    let moved = relocate(work, g, Region::Translation, p, chip, spare, census);
     names_it(moved.owner, moved.page, directory);
     moved.work
 }
@@ -87,9 +87,9 @@ fn collect(
     ensures { λ _. ⌜ Census (geometry g) (now (spare .exit)) (now (census .exit)) ⌝ }
 {
     let v = victim(g, Region::Translation, spare, census);
-    let opened = open_lowest(g, Region::Translation, spare, census, work);
+    let opened = open_lowest(work, g, Region::Translation, spare, census);
     let moved = move_pages(opened, g, v, chip, spare, census, directory);
-    erase(g, v, chip, spare, census, moved)
+    erase(moved, g, v, chip, spare, census)
 }
 
 // Where the open block is full.
@@ -109,7 +109,7 @@ fn open_or_collect(
     ensures { λ _. ⌜ Census (geometry g) (now (spare .exit)) (now (census .exit)) ⌝ }
 {
     if 2 <= erased_blocks(g, Region::Translation, spare, census) {
-        return open_lowest(g, Region::Translation, spare, census, work);
+        return open_lowest(work, g, Region::Translation, spare, census);
     }
     collect(work, g, chip, spare, census, directory)
 }

@@ -10,7 +10,7 @@ use lib.Dec.{eqb, ltb}
 use lib.ListN.{length, getD}
 use borrow.Author.Tests.{eqb-true, eq-eqb, ne-eqb, lt-ltb, le-ltb, not-true, not-false}
 use Rattle.scope.specs.Counting.{count}
-use Rattle.scope.specs.Geometry.{Geometry, blocks}
+use Rattle.scope.specs.Geometry.{Geometry, most-pages-in-block, blocks}
 use Rattle.scope.specs.Regions.{page-in}
 use Rattle.scope.specs.Lent.{erased, valid, state-of, is-erased, is-valid}
 use Rattle.scope.specs.Blocks.{wholly-erased, no-erased-page, valid-pages}
@@ -49,14 +49,14 @@ in-counts (suc n) s =
     (λ p. rw (p, valid-not-erased (s n) p) (omega (arith, ih)))
     (λ p. on (eqb (s n) erased) (λ q. rw (p, q) (omega (arith, ih))) (λ q. rw (p, q) (omega (arith, ih))))
 
-module _ (g : Geometry) (few : g .P ≤ 64) (spare : List ℕ) (b : ℕ) where
+module _ (g : Geometry) (few : g .P ≤ most-pages-in-block) (spare : List ℕ) (b : ℕ) where
   abbrev erased-at : ℕ → Bool
   erased-at i = is-erased (page-in g b i) spare
 
   weighs : weigh g spare b ≡ valid-pages g spare b + 256 * count (g .P) erased-at
   weighs = in-counts (g .P) (λ i. state-of (page-in g b i) spare)
 
-  valid-few : valid-pages g spare b ≤ 64
+  valid-few : valid-pages g spare b ≤ most-pages-in-block
   valid-few = omega (arith, count-le (g .P) (λ i. is-valid (page-in g b i) spare))
 
   pub weighs-little : weigh g spare b ≤ 16640
@@ -86,7 +86,8 @@ module _ (g : Geometry) (few : g .P ≤ 64) (spare : List ℕ) (b : ℕ) where
       (λ p. p ∙ sym (lt-ltb (weigh g spare b) 256 (omega (arith, weighs, valid-few, no-erased p))))
       (λ p.
       let some = all-fails (g .P) (λ i. not (erased-at i)) p in
-      p ∙ sym (le-ltb (weigh g spare b) 256 (omega (arith, weighs, count-one (g .P) erased-at (some .0) (some .1) (not-false (erased-at (some .0)) (some .2))))))
+      let one = count-one (g .P) erased-at (some .0) (some .1) (not-false (erased-at (some .0)) (some .2)) in
+      p ∙ sym (le-ltb (weigh g spare b) 256 (omega (arith, weighs, one))))
 
   pub valid-told : no-erased-page g spare b ≡ true → weigh g spare b ≡ valid-pages g spare b
   valid-told p = omega (arith, weighs, no-erased p)

@@ -11,7 +11,7 @@ use lib.Seq.{sets, sets-eq, length-sets, drop-cons, drop-at, length-take-le}
 use lib.Dec.{eqb, ltb}
 use borrow.Author.Tests.{lt-ltb, le-ltb, eq-eqb, ne-eqb}
 use Rattle.scope.specs.Counting.{lowest}
-use Rattle.scope.specs.Lent.{none, logical-at}
+use Rattle.scope.specs.Lent.{none, entry-words, logical-at}
 use Rattle.flash.specs.Cases.{below?, true-and}
 use Rattle.flash.specs.Searching.{Is-lowest, lowest-is, lowest-none, lowest-unique}
 use Rattle.flash.specs.Stores.{getD-sets-outside}
@@ -21,55 +21,55 @@ use Rattle.words.specs.Searches.{lowest-fails}
 -- Words i to n - 1 of l₀ have moved three words back.
 pub record Shifted (l₀ : List ℕ) (n : ℕ) (l : List ℕ) (i : ℕ) : Type 0 where
   pub from : i ≤ n
-  pub words : l ≡ sets l₀ (i + 3) (take (n - i) (drop i l₀))
+  pub words : l ≡ sets l₀ (i + entry-words) (take (n - i) (drop i l₀))
   pub as-long : length l ≡ length l₀
 
-module _ {l₀ : List ℕ} {n : ℕ} (fits : n + 3 ≤ length l₀) where
+module _ {l₀ : List ℕ} {n : ℕ} (fits : n + entry-words ≤ length l₀) where
   pub none-shifted : Shifted l₀ n l₀ n
   none-shifted =
       let none : n - n ≡ 0 = omega arith in
       record { from = omega arith; words = rw none refl; as-long = refl }
 
-  pub one-shifted : {l : List ℕ} {i : ℕ} → Shifted l₀ n l i → (j : ℕ) → i ≡ suc j → Shifted l₀ n (set l (j + 3) (getD l j 0)) j
+  pub one-shifted : {l : List ℕ} {i : ℕ} → Shifted l₀ n l i → (j : ℕ) → i ≡ suc j → Shifted l₀ n (set l (j + entry-words) (getD l j 0)) j
   one-shifted {l} {i} h j e =
       let v = getD l₀ j 0 in
       let rest = take (n - i) (drop i l₀) in
       let read : getD l j 0 ≡ v =
-      ap (λ (x : List ℕ). getD x j 0) (h .words) ∙ getD-sets-outside l₀ (i + 3) rest j 0 (λ k _ q. omega arith) in
+      ap (λ (x : List ℕ). getD x j 0) (h .words) ∙ getD-sets-outside l₀ (i + entry-words) rest j 0 (λ k _ q. omega arith) in
       let more : n - j ≡ suc (n - i) = omega (arith, h .from) in
-      let behind : i + 3 ≡ suc (j + 3) = omega arith in
+      let behind : i + entry-words ≡ suc (j + entry-words) = omega arith in
       record {
         from = omega (arith, h .from);
-        words = ap (λ (x : List ℕ). set x (j + 3) (getD l j 0)) (h .words)
-            ∙ ap (set (sets l₀ (i + 3) rest) (j + 3)) read
-            ∙ set-before l₀ (j + 3) (i + 3) rest v (omega arith)
-            ∙ ap (λ (k : ℕ). sets (set l₀ (j + 3) v) k rest) behind
-            ∙ ap (sets l₀ (j + 3)) (ap (λ (k : ℕ). v ∷ take (n - i) (drop k l₀)) e
+        words = ap (λ (x : List ℕ). set x (j + entry-words) (getD l j 0)) (h .words)
+            ∙ ap (set (sets l₀ (i + entry-words) rest) (j + entry-words)) read
+            ∙ set-before l₀ (j + entry-words) (i + entry-words) rest v (omega arith)
+            ∙ ap (λ (k : ℕ). sets (set l₀ (j + entry-words) v) k rest) behind
+            ∙ ap (sets l₀ (j + entry-words)) (ap (λ (k : ℕ). v ∷ take (n - i) (drop k l₀)) e
             ∙ sym (ap (take (suc (n - i))) (drop-cons l₀ j 0 (omega (arith, h .from))))
             ∙ ap (λ (k : ℕ). take k (drop j l₀)) (sym more));
-        as-long = length-set l (j + 3) (getD l j 0) ∙ h .as-long;
+        as-long = length-set l (j + entry-words) (getD l j 0) ∙ h .as-long;
       }
 
   -- All moved.
-  pub all-shifted : {l : List ℕ} {i : ℕ} → Shifted l₀ n l i → i ≡ 0 → l ≡ sets l₀ 3 (take n l₀)
+  pub all-shifted : {l : List ℕ} {i : ℕ} → Shifted l₀ n l i → i ≡ 0 → l ≡ sets l₀ entry-words (take n l₀)
   all-shifted {l} {i} h e = h .words ∙ (rw (e, sub-zero) refl)
 
 -- Three words stored in front of the moved ones: all that was there, without the three words behind the first n.
-pub put-in-front : (l l₁ l₂ : List ℕ) (n a b c : ℕ) → n + 3 ≤ length l → l₁ ≡ sets l 3 (take n l) → l₂ ≡ sets l₁ 0 (a ∷ b ∷ c ∷ [])
-    → l₂ ≡ a ∷ b ∷ c ∷ (take n l ++ drop (n + 3) l)
+pub put-in-front : (l l₁ l₂ : List ℕ) (n a b c : ℕ) → n + entry-words ≤ length l → l₁ ≡ sets l entry-words (take n l) → l₂ ≡ sets l₁ 0 (a ∷ b ∷ c ∷ [])
+    → l₂ ≡ a ∷ b ∷ c ∷ (take n l ++ drop (n + entry-words) l)
 put-in-front l l₁ l₂ n a b c h shifted stored =
-    let end : 3 + length (take n l) ≡ n + 3 = omega (arith, length-take-le n l (omega arith)) in
-    let moved : sets l 3 (take n l) ≡ take 3 l ++ (take n l ++ drop (n + 3) l) =
-    sets-eq (take n l) l 3 (omega arith) ∙ (rw end (append-assoc (take 3 l) (take n l) (drop (n + 3) l))) in
+    let end : entry-words + length (take n l) ≡ n + entry-words = omega (arith, length-take-le n l (omega arith)) in
+    let moved : sets l entry-words (take n l) ≡ take entry-words l ++ (take n l ++ drop (n + entry-words) l) =
+    sets-eq (take n l) l entry-words (omega arith) ∙ (rw end (append-assoc (take entry-words l) (take n l) (drop (n + entry-words) l))) in
     stored
     ∙ ap (λ (x : List ℕ). sets x 0 (a ∷ b ∷ c ∷ [])) shifted
-    ∙ sets-eq (a ∷ b ∷ c ∷ []) (sets l 3 (take n l)) 0 (simp length-sets (omega arith))
-    ∙ ap (λ (x : List ℕ). a ∷ b ∷ c ∷ drop 3 x) moved
-    ∙ ap (λ (x : List ℕ). a ∷ b ∷ c ∷ x) (drop-at (take 3 l) (take n l ++ drop (n + 3) l) 3 (length-take-le 3 l (omega arith)))
+    ∙ sets-eq (a ∷ b ∷ c ∷ []) (sets l entry-words (take n l)) 0 (simp length-sets (omega arith))
+    ∙ ap (λ (x : List ℕ). a ∷ b ∷ c ∷ drop entry-words x) moved
+    ∙ ap (λ (x : List ℕ). a ∷ b ∷ c ∷ x) (drop-at (take entry-words l) (take n l ++ drop (n + entry-words) l) entry-words (length-take-le entry-words l (omega arith)))
 
 -- The three words at a place, read one by one, in front of others.
-pub three-read : (l l₁ rest : List ℕ) (i : ℕ) → i + 3 ≤ length l → l₁ ≡ getD l i 0 ∷ getD l (i + 1) 0 ∷ getD l (i + 2) 0 ∷ rest
-    → l₁ ≡ take 3 (drop i l) ++ rest
+pub three-read : (l l₁ rest : List ℕ) (i : ℕ) → i + entry-words ≤ length l → l₁ ≡ getD l i 0 ∷ getD l (i + 1) 0 ∷ getD l (i + 2) 0 ∷ rest
+    → l₁ ≡ take entry-words (drop i l) ++ rest
 three-read l l₁ rest i h e =
     let first : drop i l ≡ getD l i 0 ∷ drop (suc i) l = drop-cons l i 0 (omega arith) in
     let second : drop (suc i) l ≡ getD l (suc i) 0 ∷ drop (suc (suc i)) l = drop-cons l (suc i) 0 (omega arith) in
@@ -82,9 +82,9 @@ abbrev pub matches : List ℕ → ℕ → ℕ → ℕ → Bool
 matches cache used l i = ltb i used && eqb (logical-at i cache) l
 
 -- An entry's logical page, read at its first word.
-module _ (cache : List ℕ) (l i at : ℕ) (is : at ≡ i * 3) (inside : at < length cache) where
+module _ (cache : List ℕ) (l i at : ℕ) (is : at ≡ i * entry-words) (inside : at < length cache) where
   read-at : getD cache at 0 ≡ logical-at i cache
-  read-at = ap (λ (k : ℕ). getD cache k 0) is ∙ getD-any cache (i * 3) 0 none (omega arith)
+  read-at = ap (λ (k : ℕ). getD cache k 0) is ∙ getD-any cache (i * entry-words) 0 none (omega arith)
 
   pub entry-has : getD cache at 0 ≡ l → eqb (logical-at i cache) l ≡ true
   entry-has e = eq-eqb (logical-at i cache) l (sym read-at ∙ e)

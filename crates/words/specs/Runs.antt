@@ -6,8 +6,8 @@ use mathlib.Core.List.{List, [], _∷_, _++_, append-nil}
 use native.Mathlib.Nat.{add-zero}
 use native.Mathlib.Numerals.{add-one}
 use native.Mathlib.Omega.{arith}
-use lib.ListN.{length, getD, set, take, drop, length-set, length-take, length-drop}
-use lib.Seq.{sets, sets-eq, set-set, take-suc, take-all, drop-length, set-comm, length-take-le, getD-take, getD-drop}
+use lib.ListN.{length, getD, set, take, drop, length-set, length-take, length-drop, take-append-drop}
+use lib.Seq.{sets, sets-eq, set-set, take-suc, take-all, take-add, drop-length, set-comm, length-take-le, getD-take, getD-drop}
 use Rattle.flash.specs.Stores.{getD-sets-outside}
 
 -- Within the list it does not matter what a place past its end would read as.
@@ -51,6 +51,12 @@ length-part l from n h = simp (length-take, length-drop) (omega arith)
 
 pub part-at : (l : List ℕ) (from n i : ℕ) → i < n → getD (take n (drop from l)) i 0 ≡ getD l (from + i) 0
 part-at l from n i h = getD-take n (drop from l) i 0 h ∙ getD-drop from l i 0
+
+-- A list's own words stored in it change nothing.
+pub sets-own : (l : List ℕ) (at n : ℕ) → at + n ≤ length l → sets l at (take n (drop at l)) ≡ l
+sets-own l at n h =
+    let size : length (take n (drop at l)) ≡ n = length-part l at n h in
+    sets-eq (take n (drop at l)) l at (omega arith) ∙ (rw (size, ← take-add at n l) (take-append-drop (at + n) l))
 
 -- The first n words of vs are stored in l₀, from `at` on.
 pub record Stored (l₀ : List ℕ) (at : ℕ) (vs l : List ℕ) (n : ℕ) : Type 0 where

@@ -8,7 +8,7 @@ use lib.Dec.{eqb}
 use lib.ListN.{length, getD}
 use borrow.Author.Tests.{eq-eqb, ne-eqb}
 use Rattle.scope.specs.Counting.{all, count}
-use Rattle.scope.specs.Lent.{none, state-of}
+use Rattle.scope.specs.Lent.{none, spare-words, state-of}
 use Rattle.words.specs.Runs.{getD-any}
 use Rattle.flash.specs.Cases.{on, clash}
 use Rattle.flash.specs.Counting.{all-each, each-all, each-counted, count-each}
@@ -25,7 +25,7 @@ pub count-next : (f : ℕ → Bool) (i k b : ℕ) → k ≡ count i f → b ≡ 
 count-next f i k b e q = rw (add-one, e, q) refl
 
 -- One more page counted, where turn i looks at a page of its own.
-pub count-more : (spare : List ℕ) (page : ℕ → ℕ) (state i k b : ℕ) → page i * 2 < length spare
-    → k ≡ count i (λ j. eqb (state-of (page j) spare) state) → b ≡ cond (eqb (getD spare (page i * 2) 0) state) 1 0
+pub count-more : (spare : List ℕ) (page : ℕ → ℕ) (state i k b : ℕ) → page i * spare-words < length spare
+    → k ≡ count i (λ j. eqb (state-of (page j) spare) state) → b ≡ cond (eqb (getD spare (page i * spare-words) 0) state) 1 0
     → k + b ≡ count (i + 1) (λ j. eqb (state-of (page j) spare) state)
-count-more spare page state i k b h e q = rw (add-one, e, q, getD-any spare (page i * 2) 0 none h) refl
+count-more spare page state i k b h e q = rw (add-one, e, q, getD-any spare (page i * spare-words) 0 none h) refl

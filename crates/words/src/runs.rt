@@ -6,11 +6,12 @@ ghost use mathlib.Core.List.{[], _∷_};
 ghost use Prim.Native.Nat.{_+_, _≤_};
 ghost use lib.ListN.{length, take, drop, replicate};
 ghost use lib.Seq.{sets};
+ghost use Rattle.scope.specs.Lent.{erased};
 
 // n words from `at` on become the erased word.
 pub fn fill_erased(s: &mut [u32], at: usize, n: usize)
     requires { ⌜ at + n ≤ length (now s) ⌝ }
-    ensures { λ _. ⌜ now (s .exit) ≡ sets (now (s .entry)) at (replicate n 4294967295) ⌝ }
+    ensures { λ _. ⌜ now (s .exit) ≡ sets (now (s .entry)) at (replicate n erased) ⌝ }
 {
     let mut i = 0;
     while i < n {

@@ -1,12 +1,12 @@
-// The spare's state words, two words a page: how many of a block's pages have a state.
-use lent::ERASED;
+// How many of a block's pages have a state.
+use crate::spare::state_at;
 ghost use mathlib.Core.Path.{_≡_};
 ghost use mathlib.Core.Bool.{cond};
 ghost use Prim.Native.Nat.{_+_, _*_, _≤_};
 ghost use lib.Dec.{eqb};
 ghost use lib.ListN.{length};
-ghost use Rattle.scope.specs.Counting.{all, count};
-ghost use Rattle.scope.specs.Lent.{«state-of», «is-erased»};
+ghost use Rattle.scope.specs.Counting.{count};
+ghost use Rattle.scope.specs.Lent.{spare-words, state-of};
 
 // What a word adds to a count of those that are b. A function of its own, so that a loop that counts has no branch.
 pub fn bit(a: u32, b: u32) -> usize
@@ -17,22 +17,14 @@ pub fn bit(a: u32, b: u32) -> usize
 
 // How many of the n pages from `first` on have the state.
 pub fn count_state(spare: &[u32], first: usize, n: usize, state: u32) -> usize
-    requires { ⌜ (first + n) * 2 ≤ length (now spare) ⌝ }
+    requires { ⌜ (first + n) * spare-words ≤ length (now spare) ⌝ }
     ensures { λ r. ⌜ r ≡ count n (λ i. eqb (state-of (first + i) (now (spare .entry))) state) ⌝ }
 {
     let mut k = 0;
     let mut i = 0;
     while i < n {
-        k += bit(spare[(first + i) * 2], state);
+        k += bit(state_at(spare, first + i), state);
         i += 1;
     }
     k
-}
-
-// Whether all of the n pages from `first` on are erased.
-pub fn all_erased(spare: &[u32], first: usize, n: usize) -> bool
-    requires { ⌜ (first + n) * 2 ≤ length (now spare) ⌝ }
-    ensures { λ r. ⌜ r ≡ all n (λ i. is-erased (first + i) (now (spare .entry))) ⌝ }
-{
-    count_state(spare, first, n, ERASED) == n
 }

@@ -6,6 +6,7 @@ use mathlib.Core.List.{List, [], _∷_}
 use lib.Dec.{eqb}
 use lib.ListN.{replicate, take}
 use Rattle.scope.specs.Geometry.{Geometry, accepted}
+use Rattle.scope.specs.SmallRecord.{record-words, record-of}
 use Rattle.scope.specs.Lent.{State, chip-size, spare-size, directory-size, cache-size}
 use Rattle.scope.specs.Decisions.{sound, page-fits, pages-fit, owners-differ, blocks-fit, directory-names, entries-fit, places-hold, unchanged-agree}
 use Rattle.scope.specs.Sound.{rank-of, stored, current}
@@ -30,7 +31,7 @@ unformatted g =
       spare = replicate (spare-size g) 7;
       directory = replicate (directory-size g) 7;
       cache = replicate (cache-size g) 7;
-      small = record { open-data = 7; data-offset = 7; open-translation = 7; translation-offset = 7; used = 7 };
+      small = record-of (replicate record-words 7);
     }
 
 unfoldable pub formatted : Geometry → State

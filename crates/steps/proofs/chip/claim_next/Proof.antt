@@ -1,20 +1,22 @@
 -- `steps::chip::claim_next` meets its contract.
-use Prim.Native.Nat.{ℕ, _<_}
-use mathlib.Core.Path.{_≡_, sym, ap, _∙_}
-use native.Mathlib.Omega.{arith}
+use Prim.Native.Nat.{ℕ, _+_, _*_, _≤_, _<_}
+use mathlib.Core.Path.{_≡_, sym, _∙_}
+use lib.ListN.{length}
 use borrow.Author.Needs.{needs}
 use Rattle.scope.specs.Geometry.{Geometry, blocks}
+use Rattle.scope.specs.Lent.{spare-words}
 use Rattle.scope.specs.Regions.{page-in}
-use Rattle.steps.specs.Lies.{Spare-lies, spare-lies, next-page, next-on-chip, next-is, open-on-chip, offset-in-block, advanced-is}
+use Rattle.steps.specs.Lies.{next-spare-lies, next-page, next-is, open-on-chip, offset-in-block, advanced-is}
 use Rattle.steps.specs.Census.{restatable, claim-kept}
 use Rattle.lent.specs.Model.{geometry, small, region}
 use Rattle.steps.proofs.chip.claim_next.Statement.{statement}
 use Rattle.steps.proofs.chip.claim_next.Tie as tie
 
--- The next page's two words lie in the spare.
-in-spare : (start : tie.Start)
-    → let a = start .args in Spare-lies (a .spare .now) (next-page (geometry (a .g)) (region (a .r)) (small (a .work .rec)))
-in-spare start = spare-lies (start .pre .0 .0) _ (next-on-chip (start .pre .0 .1))
+-- The next page's words lie in the spare.
+in-spare : (start : tie.Start) {q : ℕ}
+    → let a = start .args in q ≡ next-page (geometry (a .g)) (region (a .r)) (small (a .work .rec))
+    → (q + 1) * spare-words ≤ length (a .spare .now)
+in-spare start e = next-spare-lies (start .pre .0 .1) e (start .pre .0 .0) .words
 
 -- The page found is at the next offset of the open block, which is one of the chip's.
 abbrev opened : tie.After-next-page → ℕ
@@ -62,27 +64,24 @@ next-page-requires c κs =
 cast-at : tie.Need-cast-at
 cast-at c = search needs
 
-mul-at : tie.Need-mul-at
-mul-at c = search needs
-
 cast-restate : tie.Need-cast-restate
 cast-restate c = search needs
 
-mul-restate : tie.Need-mul-restate
-mul-restate c = search needs
-
-slice-read-restate : tie.Need-slice-read-restate
-slice-read-restate c = omega (arith, in-spare (c .before .before .before .before .before .before .before .before .before))
+state-at-requires : tie.Need-state-at-requires
+state-at-requires c κs = in-spare (given (c .before .before)) (c .before .before .next-page .ensures)
 
 restate-requires : tie.Need-restate-requires
 restate-requires c κs =
-    let found = c .before .before in
+    let found = c .before .before .before in
     let start = given found in
-    let r = restatable (start .pre .0 .0) (start .pre .1) (opened found) (offset found) (on-chip found) (has-room found) (at-offset found) in
+    let r = restatable (start .pre .0 .0) (start .pre .1) (opened found) (offset found) (on-chip found) (has-room found) (at-offset found)
+    (c .state-at .ensures) in
     (r .inside, r .has, r .little)
 
-store-two-requires : tie.Need-store-two-requires
-store-two-requires c κs = omega (arith, in-spare (c .before .before .before .before .before .before .before .before .before .before .before .before .before))
+claim-requires : tie.Need-claim-requires
+claim-requires c κs =
+    let found = c .before .before .before .before .before .before .before in
+    in-spare (given found) (found .next-page .ensures)
 
 add-with-open : tie.Need-add-with-open
 add-with-open c = search needs
@@ -101,19 +100,20 @@ same-length-2 c = search needs
 
 returns : tie.Need-returns
 returns c =
-    let stores = c .before .before .before .before .store-two .ensures in
-    let found = c .before .before .before .before .before .before .before .before .before .before .before in
+    let stores = c .before .before .before .before .claim .ensures in
+    let restated = c .before .before .before .before .before .before .before .before in
+    let found = restated .before .before .before .before in
     let start = given found in
     let a = start .args in (
       record {
         is-next = found .next-page .ensures;
         owned = stores;
-        moves-on = ap small (c .count-program .ensures .0) ∙ c .before .with-open .ensures
+        moves-on = c .before .with-open .ensures
             ∙ advanced-is (region (a .r)) (small (a .work .rec)) (found .before .before .open-block .ensures) (found .before .next-offset .ensures);
-        counting = c .count-program .ensures .1;
+        counting = c .count-program .ensures;
       },
       claim-kept (start .pre .0 .0) (start .pre .1) (opened found) (offset found) (on-chip found) (has-room found) (at-offset found)
-          (a .owner) stores (c .before .before .before .before .before .before .before .before .restate .ensures),
+          (restated .before .state-at .ensures) (a .owner) stores (restated .restate .ensures),
     )
 
 pub claim-next-spec : {M : Type 1} → statement M
@@ -124,12 +124,10 @@ claim-next-spec =
     next-offset-requires
     next-page-requires
     cast-at
-    mul-at
     cast-restate
-    mul-restate
-    slice-read-restate
+    state-at-requires
     restate-requires
-    store-two-requires
+    claim-requires
     add-with-open
     with-open-requires
     count-program-requires

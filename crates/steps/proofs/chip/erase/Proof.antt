@@ -19,37 +19,41 @@ in-place : (start : tie.Start)
     → Block-lies (geometry (start .args .g)) (start .args .chip .now) (start .args .spare .now) (start .args .b)
 in-place start = block-lies (start .pre .0 .0) (start .pre .0 .1) (start .args .b) (start .pre .0 .2)
 
+-- The start, from where each list is lent to be filled.
+abbrev filling : tie.After-fill-erased-arg → tie.Start
+filling lent = lent .before .before .before .before .before .before .before .before
+
+abbrev erasing : tie.After-erase-pages-arg → tie.Start
+erasing lent = filling (lent .before .before .before .before)
+
 mul-at : tie.Need-mul-at
-mul-at c = omega (arith, in-place (c .before .before .before .before .before))
+mul-at c = omega (arith, in-place (c .before .before .before .before .before .before .before))
 
 mul-fill-erased : tie.Need-mul-fill-erased
-mul-fill-erased c = omega (arith, in-place (c .before .before .before .before .before .before))
+mul-fill-erased c = omega (arith, in-place (filling c))
 
 mul-fill-erased-2 : tie.Need-mul-fill-erased-2
-mul-fill-erased-2 c = omega (arith, in-place (c .before .before .before .before .before .before))
+mul-fill-erased-2 c = omega (arith, in-place (filling c))
 
 fill-erased-requires : tie.Need-fill-erased-requires
-fill-erased-requires c κs = omega (arith, in-place (c .before .before .before .before .before .before))
+fill-erased-requires c κs = omega (arith, in-place (filling c))
 
-mul-fill-erased-3 : tie.Need-mul-fill-erased-3
-mul-fill-erased-3 c = omega (arith, in-place (c .before .before .before .before .before .before .before .before .before .before))
-
-mul-fill-erased-4 : tie.Need-mul-fill-erased-4
-mul-fill-erased-4 c = omega (arith, in-place (c .before .before .before .before .before .before .before .before .before .before))
-
-fill-erased-requires-2 : tie.Need-fill-erased-requires-2
-fill-erased-requires-2 c κs = omega (arith, in-place (c .before .before .before .before .before .before .before .before .before .before))
+erase-pages-requires : tie.Need-erase-pages-requires
+erase-pages-requires c κs = in-place (erasing c) .spares
 
 mul-census : tie.Need-mul-census
-mul-census c = omega (arith, in-place (c .before .before .before .before .before .before .before .before .before .before .before .before .before .before))
+mul-census c = omega (arith, in-place (erasing (c .before .before .before .before)))
 
 mul-census-2 : tie.Need-mul-census-2
-mul-census-2 c = omega (arith, in-place (c .before .before .before .before .before .before .before .before .before .before .before .before .before .before))
+mul-census-2 c = omega (arith, in-place (erasing (c .before .before .before .before)))
 
 slice-write-census : tie.Need-slice-write-census
 slice-write-census c =
-    let start = c .before .before .before .before .before .before .before .before .before .before .before .before .before .before in
+    let start = erasing (c .before .before .before .before) in
     omega (arith, start .pre .1 .long, start .pre .0 .2)
+
+as-it-is-requires : tie.Need-as-it-is-requires
+as-it-is-requires c κs = search needs
 
 count-erase-requires : tie.Need-count-erase-requires
 count-erase-requires c κs = search needs
@@ -65,10 +69,11 @@ same-length-3 c = search needs
 
 returns : tie.Need-returns
 returns c =
-    let start = c .before .before .before .before .before .before .before .before .before .before .before .before .before .before .before in
-    let spares = c .before .before .before .before .fill-erased2 .ensures in (
-      erase-does (geometry (start .args .g)) (start .args .b) (c .before .before .before .before .before .before .before .before .fill-erased .ensures) spares
-          (c .count-erase .ensures .0) (c .count-erase .ensures .1),
+    let erased = c .before .before .before .before .before in
+    let start = erasing (erased .before) in
+    let spares = erased .erase-pages .ensures in (
+      erase-does (geometry (start .args .g)) (start .args .b) (erased .before .before .before .before .fill-erased .ensures) spares
+          (c .before .as-it-is .ensures) (c .count-erase .ensures),
       census-erased (start .pre .1) (start .args .b) (start .pre .0 .2) (in-place start .spares) spares,
     )
 
@@ -82,12 +87,11 @@ erase-spec =
     mul-fill-erased
     mul-fill-erased-2
     fill-erased-requires
-    mul-fill-erased-3
-    mul-fill-erased-4
-    fill-erased-requires-2
+    erase-pages-requires
     mul-census
     mul-census-2
     slice-write-census
+    as-it-is-requires
     count-erase-requires
     same-length
     same-length-2

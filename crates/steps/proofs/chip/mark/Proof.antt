@@ -1,5 +1,5 @@
 -- `steps::chip::mark` meets its contract.
-use mathlib.Core.Path.{_≡_, refl}
+use mathlib.Core.Path.{_≡_}
 use native.Mathlib.Omega.{arith}
 use borrow.Author.Needs.{needs}
 use Rattle.steps.specs.Lies.{Spare-lies, spare-lies}
@@ -11,7 +11,7 @@ use Prim.Native.Nat.{_/_, _%_, _<_}
 use Rattle.steps.proofs.chip.mark.Statement.{statement}
 use Rattle.steps.proofs.chip.mark.Tie as tie
 
--- The page has its two words in the spare, and it lies in a block, at a place there.
+-- The page has its words in the spare, and it lies in a block, at a place there.
 in-spare : (start : tie.Start) → Spare-lies (start .args .spare .now) (start .args .p)
 in-spare start = spare-lies (start .pre .0 .0) (start .args .p) (start .pre .0 .1)
 
@@ -21,8 +21,9 @@ in-block : (start : tie.Start)
     × (a .p ≡ page-in (geometry (a .g)) (a .p / a .g .p) (a .p % a .g .p))
 in-block start = page-lies (geometry (start .args .g)) (start .args .p) (start .pre .0 .0 .accepted .P-from) (start .pre .0 .1)
 
-mul-at : tie.Need-mul-at
-mul-at c = search needs
+-- Where its state has been read.
+abbrev given : tie.After-state-at → tie.Start
+given seen = seen .before .before .before .before .before .before
 
 div-restate : tie.Need-div-restate
 div-restate c = omega (arith, c .before .before .before .before .pre .0 .0 .accepted .P-from)
@@ -32,25 +33,19 @@ cast-restate c =
     let start = c .before .before .before .before in
     omega (arith, in-block start .0, start .pre .0 .0 .accepted .D+T-to)
 
-mul-restate : tie.Need-mul-restate
-mul-restate c = search needs
-
-slice-read-restate : tie.Need-slice-read-restate
-slice-read-restate c = omega (arith, in-spare (c .before .before .before .before .before))
+state-at-requires : tie.Need-state-at-requires
+state-at-requires c κs = in-spare (c .before .before .before .before .before) .words
 
 restate-requires : tie.Need-restate-requires
 restate-requires c κs =
-    let start = c .before .before .before .before .before in
+    let start = given c in
     let a = start .args in
     let at = in-block start in
-    let r = restatable (start .pre .0 .0) (start .pre .1) (a .p / a .g .p) (a .p % a .g .p) (at .0) (at .1) (at .2) in
+    let r = restatable (start .pre .0 .0) (start .pre .1) (a .p / a .g .p) (a .p % a .g .p) (at .0) (at .1) (at .2) (c .state-at .ensures) in
     (r .inside, r .has, r .little)
 
-mul-spare : tie.Need-mul-spare
-mul-spare c = search needs
-
-slice-write-spare : tie.Need-slice-write-spare
-slice-write-spare c = omega (arith, in-spare (c .before .before .before .before .before .before .before .before))
+set-state-requires : tie.Need-set-state-requires
+set-state-requires c κs = in-spare (given (c .before .before .before .before)) .words
 
 same-length : tie.Need-same-length
 same-length c = search needs
@@ -60,26 +55,25 @@ same-length-2 c = search needs
 
 returns : tie.Need-returns
 returns c =
-    let start = c .before .before .before .before .before .before .before .before in
+    let restated = c .before .before .before .before .before .before in
+    let start = given (restated .before) in
     let a = start .args in
-    let at = in-block start in (
-      refl,
-      mark-kept (start .pre .0 .0) (start .pre .1) (a .p / a .g .p) (a .p % a .g .p) (at .0) (at .1) (at .2) refl
-          (c .before .before .restate .ensures),
+    let at = in-block start in
+    let stores = c .before .before .set-state .ensures in (
+      stores,
+      mark-kept (start .pre .0 .0) (start .pre .1) (a .p / a .g .p) (a .p % a .g .p) (at .0) (at .1) (at .2)
+          (restated .before .state-at .ensures) stores (restated .restate .ensures),
     )
 
 pub mark-spec : {M : Type 1} → statement M
 mark-spec =
     tie.close
     (tie.spec
-    mul-at
     div-restate
     cast-restate
-    mul-restate
-    slice-read-restate
+    state-at-requires
     restate-requires
-    mul-spare
-    slice-write-spare
+    set-state-requires
     same-length
     same-length-2
     returns)

@@ -16,13 +16,16 @@ cast-w c = search needs
 
 mul-copy-out : tie.Need-mul-copy-out
 mul-copy-out c =
-    let start = c .before .before .before .before in
+    let start = c .before .before .before .before .before .before in
     omega (arith, words-lie (start .pre .0) (start .args .p) (start .pre .1))
 
 copy-out-requires : tie.Need-copy-out-requires
 copy-out-requires c κs =
-    let start = c .before .before .before .before in
+    let start = c .before .before .before .before .before .before in
     omega (arith, words-lie (start .pre .0) (start .args .p) (start .pre .1))
+
+as-it-is-requires : tie.Need-as-it-is-requires
+as-it-is-requires c κs = search needs
 
 count-read-requires : tie.Need-count-read-requires
 count-read-requires c κs = search needs
@@ -32,13 +35,13 @@ same-length c = search needs
 
 returns : tie.Need-returns
 returns c =
-    let start = c .before .before .before .before .before .before .before .before in
+    let start = c .before .before .before .before .before .before .before .before .before .before .before in
     let a = start .args in
     λ spare directory cache. does-value
-    (read-by-chip (geometry (a .g)) (a .p) (c .count-read .ensures .0) (c .count-read .ensures .1) spare directory cache)
-    (sym (c .before .before .before .copy-out .ensures ∙ ap (λ (n : ℕ). take n (drop (a .p * a .g .w) (a .chip .now))) (start .pre .2)))
+    (read-by-chip (geometry (a .g)) (a .p) (c .before .as-it-is .ensures) (c .count-read .ensures) spare directory cache)
+    (sym (c .before .before .before .before .copy-out .ensures ∙ ap (λ (n : ℕ). take n (drop (a .p * a .g .w) (a .chip .now))) (start .pre .2)))
 
 pub read-page-spec : {M : Type 1} → statement M
 read-page-spec =
     tie.close
-    (tie.spec cast-w mul-copy-out copy-out-requires count-read-requires same-length returns)
+    (tie.spec cast-w mul-copy-out copy-out-requires as-it-is-requires count-read-requires same-length returns)

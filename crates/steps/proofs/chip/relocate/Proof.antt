@@ -1,12 +1,10 @@
 -- `steps::chip::relocate` meets its contract: a copy, a claim with the page's own owner, and a mark.
-use Prim.Native.Nat.{_+_, _*_}
 use native.Mathlib.Omega.{arith}
 use borrow.Author.Needs.{needs}
 use Rattle.steps.specs.Lies.{Words-lie, spare-still, next-same, next-words-lie, words-lie, spare-lies, pages-apart}
 use Rattle.steps.specs.Chip.{relocate-does}
 use Rattle.lent.specs.Model.{geometry}
 use Rattle.lent.specs.Shapes.{room-after-read}
-use Rattle.words.specs.Runs.{getD-any}
 use Rattle.steps.proofs.chip.relocate.Statement.{statement}
 use Rattle.steps.proofs.chip.relocate.Tie as tie
 
@@ -14,63 +12,68 @@ cast-w : tie.Need-cast-w
 cast-w c = search needs
 
 next-page-requires : tie.Need-next-page-requires
-next-page-requires c κs = (c .before .before .before .before .before .pre .0 .0 .accepted, c .before .before .before .before .before .pre .1 .0 .0)
+next-page-requires c κs =
+    let start = c .before .before .before .before .before .before in
+    (start .pre .0 .0 .accepted, start .pre .1 .0 .0)
 
 cast-q : tie.Need-cast-q
 cast-q c = search needs
+
+-- The start, from where the next page is known, and that, from where the read is counted.
+abbrev given : tie.After-next-page → tie.Start
+given found = found .before .before .before .before .before .before .before
+
+abbrev its-next : tie.After-count-read → tie.After-next-page
+its-next read = read .before .before .before .before .before .before .before .before
 
 -- The words of the page, and those of the next page, lie in the chip.
 from-page : (start : tie.Start) → let a = start .args in Words-lie (geometry (a .g)) (a .chip .now) (a .p)
 from-page start = words-lie (start .pre .0 .0) (start .args .p) (start .pre .0 .2)
 
 to-page : (found : tie.After-next-page)
-    → let a = found .before .before .before .before .before .before .args in
+    → let a = given found .args in
     Words-lie (geometry (a .g)) (a .chip .now) (found .next-page .result)
 to-page found =
-    let start = found .before .before .before .before .before .before in
+    let start = given found in
     next-words-lie (start .pre .1 .0 .0) (found .next-page .ensures) (start .pre .0 .0)
 
 mul-copy-within : tie.Need-mul-copy-within
-mul-copy-within c = omega (arith, from-page (c .before .before .before .before .before .before .before))
+mul-copy-within c = omega (arith, from-page (given (c .before)))
 
 mul-copy-within-2 : tie.Need-mul-copy-within-2
 mul-copy-within-2 c = omega (arith, to-page (c .before))
 
 copy-within-requires : tie.Need-copy-within-requires
 copy-within-requires c κs =
-    let start = c .before .before .before .before .before .before .before in (
+    let start = given (c .before) in (
       (from-page start .words, to-page (c .before) .words),
       pages-apart (start .args .g .w) (start .args .p) (c .before .next-page .result),
     )
 
-mul-owner : tie.Need-mul-owner
-mul-owner c = search needs
+owner-at-requires : tie.Need-owner-at-requires
+owner-at-requires c κs =
+    let start = given (c .before .before .before .before .before) in
+    spare-lies (start .pre .0 .1) (start .args .p) (start .pre .0 .2) .words
 
-add-owner : tie.Need-add-owner
-add-owner c = search needs
-
-mul-owner-2 : tie.Need-mul-owner-2
-mul-owner-2 c = search needs
-
-slice-read-owner : tie.Need-slice-read-owner
-slice-read-owner c = search needs
+as-it-is-requires : tie.Need-as-it-is-requires
+as-it-is-requires c κs = search needs
 
 count-read-requires : tie.Need-count-read-requires
 count-read-requires c κs = search needs
 
 claim-next-requires : tie.Need-claim-next-requires
 claim-next-requires c κs =
-    let read = c .before .before .count-read .ensures in
-    let start = c .before .before .before .before .before .before .before .before .before .before .before .before .before .before in (
-      (start .pre .0 .1, next-same (read .0) (start .pre .1 .0 .0), room-after-read 1 _ _ (start .pre .1 .0 .1) (read .1)),
-      start .pre .1 .1,
-    )
+    let read = c .before .before in
+    let start = given (its-next read) in
+    let next = next-same (read .before .as-it-is .ensures) (start .pre .1 .0 .0) in
+    let room = room-after-read 1 _ _ (start .pre .1 .0 .1) (read .count-read .ensures) in
+    ((start .pre .0 .1, next, room), start .pre .1 .1)
 
 mark-requires : tie.Need-mark-requires
 mark-requires c κs =
     let claimed = c .before .before .before .before .before .before in
-    let start = claimed .before .before .before .before .before .before .before .before .before .before .before .before .before .before .before in
-    ((spare-still (start .pre .0 .1) (claimed .claim-next .kept .1 .1 .1 .0), start .pre .0 .2), claimed .claim-next .ensures .1)
+    let start = given (its-next (claimed .before .before .before)) in
+    ((spare-still (start .pre .0 .1) (claimed .claim-next .kept .1 .1 .1 .1 .0), start .pre .0 .2), claimed .claim-next .ensures .1)
 
 same-length : tie.Need-same-length
 same-length c = search needs
@@ -86,13 +89,11 @@ returns c =
     let marked = c .before .before .before .before .before in
     let claimed = marked .before .before .before .before .before .before .before in
     let read = claimed .before .before .before in
-    let copied = read .before .before .before .before in
-    let found = copied .before .before in
-    let start = found .before .before .before .before .before .before in
-    let a = start .args in
-    let in-spare = spare-lies (start .pre .0 .1) (a .p) (start .pre .0 .2) in (
-      relocate-does (a .p) (getD-any (a .spare .now) (a .p * 2 + 1) 0 4294967295 (omega (arith, in-spare))) (found .next-page .ensures)
-          (copied .copy-within .ensures) (read .count-read .ensures .0) (read .count-read .ensures .1)
+    let copied = read .before .before .before .before .before .before in
+    let found = its-next read in
+    let start = given found in (
+      relocate-does (start .args .p) (read .before .before .owner-at .ensures) (found .next-page .ensures)
+          (copied .copy-within .ensures) (read .before .as-it-is .ensures) (read .count-read .ensures)
           (claimed .claim-next .ensures .0) (marked .mark .ensures .0),
       marked .mark .ensures .1,
     )
@@ -107,10 +108,8 @@ relocate-spec =
     mul-copy-within
     mul-copy-within-2
     copy-within-requires
-    mul-owner
-    add-owner
-    mul-owner-2
-    slice-read-owner
+    owner-at-requires
+    as-it-is-requires
     count-read-requires
     claim-next-requires
     mark-requires

@@ -2,6 +2,7 @@
 use mathlib.Core.Path.{refl, sym, ap, _∙_}
 use native.Mathlib.Omega.{arith}
 use borrow.Author.Needs.{needs}
+use Rattle.scope.specs.Lent.{none}
 use Rattle.steps.specs.Lies.{word-lies}
 use Rattle.steps.specs.Chip.{word-does, read-if-place}
 use Rattle.scope.specs.Sound.{in-page}
@@ -34,42 +35,45 @@ cast-word c = search needs
 
 mul-word : tie.Need-mul-word
 mul-word c =
-    let start = c .before .before .before .before .before in
-    omega (arith, word-lies (start .pre .0) _ (start .args .l) (start .pre .1 _ (ap entry (c .before .before .page .given .1))))
+    let start = c .before .before .before .before .before .before .before in
+    omega (arith, word-lies (start .pre .0) _ (start .args .l) (start .pre .1 _ (ap entry (c .before .before .before .before .page .given .1))))
 
 rem-word : tie.Need-rem-word
 rem-word c = search needs
 
 add-word : tie.Need-add-word
 add-word c =
-    let start = c .before .before .before .before .before in
-    omega (arith, word-lies (start .pre .0) _ (start .args .l) (start .pre .1 _ (ap entry (c .before .before .page .given .1))))
+    let start = c .before .before .before .before .before .before .before in
+    omega (arith, word-lies (start .pre .0) _ (start .args .l) (start .pre .1 _ (ap entry (c .before .before .before .before .page .given .1))))
 
 mul-word-2 : tie.Need-mul-word-2
 mul-word-2 c =
-    let start = c .before .before .before .before .before in
-    omega (arith, word-lies (start .pre .0) _ (start .args .l) (start .pre .1 _ (ap entry (c .before .before .page .given .1))))
+    let start = c .before .before .before .before .before .before .before in
+    omega (arith, word-lies (start .pre .0) _ (start .args .l) (start .pre .1 _ (ap entry (c .before .before .before .before .page .given .1))))
 
 shared-slice-read-word : tie.Need-shared-slice-read-word
 shared-slice-read-word c =
-    let start = c .before .before .before .before .before .before in
-    omega (arith, word-lies (start .pre .0) _ (start .args .l) (start .pre .1 _ (ap entry (c .before .before .before .page .given .1))))
+    let start = c .before .before .before .before .before .before .before .before in
+    omega (arith, word-lies (start .pre .0) _ (start .args .l) (start .pre .1 _ (ap entry (c .before .before .before .before .before .page .given .1))))
+
+as-it-is-requires : tie.Need-as-it-is-requires
+as-it-is-requires c κs = search needs
 
 count-read-requires : tie.Need-count-read-requires
 count-read-requires c κs = search needs
 
 returns-2 : tie.Need-returns-2
 returns-2 c =
-    let page = c .before .before .before .before in
+    let page = c .before .before .before .before .before .before .before in
     let start = page .before .before .before in
     let a = start .args in
     let g = geometry (a .g) in
     let named = page .page .given .1 in
     let lies = word-lies (start .pre .0) _ (a .l) (start .pre .1 _ (ap entry named)) in
     word-does g (a .l) (entry (a .page)) (start .pre .0 .accepted .W-from)
-    (getD-any (a .chip .now) _ 0 4294967295 (lies .place) ∙ sym (ap (λ (e : Entry). in-page g (a .chip .now) (a .l) (entry e)) named))
-    (c .count-read .ensures .0)
-    (c .count-read .ensures .1 ∙ sym (ap (λ (e : Entry). read-if-place (entry e) (counts (a .work .counts))) named))
+    (getD-any (a .chip .now) _ 0 none (lies .place) ∙ sym (ap (λ (e : Entry). in-page g (a .chip .now) (a .l) (entry e)) named))
+    (c .before .as-it-is .ensures)
+    (c .count-read .ensures ∙ sym (ap (λ (e : Entry). read-if-place (entry e) (counts (a .work .counts))) named))
 
 pub word-for-spec : {M : Type 1} → statement M
 word-for-spec =
@@ -85,5 +89,6 @@ word-for-spec =
     add-word
     mul-word-2
     shared-slice-read-word
+    as-it-is-requires
     count-read-requires
     returns-2)

@@ -2,7 +2,7 @@
 use mathlib.Core.Path.{ap, _∙_}
 use borrow.Author.Needs.{needs}
 use Rattle.words.specs.Runs.{getD-any}
-use Rattle.scope.specs.Lent.{decode}
+use Rattle.scope.specs.Lent.{none, decode}
 use Rattle.steps.proofs.directory.named.Statement.{statement}
 use Rattle.steps.proofs.directory.named.Tie as tie
 
@@ -18,7 +18,7 @@ decode-requires c κs = search needs
 returns : tie.Need-returns
 returns c =
     let start = c .before .before .before in
-    c .decode .ensures ∙ ap decode (getD-any (start .args .directory .now) (start .args .t) 0 4294967295 (start .pre))
+    c .decode .ensures ∙ ap decode (getD-any (start .args .directory .now) (start .args .t) 0 none (start .pre))
 
 pub named-spec : {M : Type 1} → statement M
 named-spec = tie.close (tie.spec mul-decode shared-slice-read-decode decode-requires returns)

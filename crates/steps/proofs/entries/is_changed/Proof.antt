@@ -4,6 +4,7 @@ use mathlib.Core.Path.{ap}
 use native.Mathlib.Omega.{arith}
 use lib.Dec.{eqb}
 use borrow.Author.Needs.{needs}
+use Rattle.scope.specs.Lent.{none, entry-words}
 use Rattle.words.specs.Runs.{getD-any}
 use Rattle.steps.proofs.entries.is_changed.Statement.{statement}
 use Rattle.steps.proofs.entries.is_changed.Tie as tie
@@ -21,7 +22,7 @@ shared-slice-read-result : tie.Need-shared-slice-read-result
 shared-slice-read-result c = search needs
 
 returns : tie.Need-returns
-returns c = ap (λ (x : ℕ). eqb x 1) (getD-any (c .before .args .cache .now) (c .before .args .i * 3 + 2) 0 4294967295 (omega arith))
+returns c = ap (λ (x : ℕ). eqb x 1) (getD-any (c .before .args .cache .now) (c .before .args .i * entry-words + 2) 0 none (omega arith))
 
 pub is-changed-spec : {M : Type 1} → statement M
 is-changed-spec =

@@ -2,6 +2,7 @@
 use Prim.Native.Nat.{_*_}
 use native.Mathlib.Omega.{arith}
 use borrow.Author.Needs.{needs}
+use Rattle.scope.specs.Lent.{none, entry-words}
 use Rattle.words.specs.Runs.{getD-any}
 use Rattle.steps.proofs.entries.logical.Statement.{statement}
 use Rattle.steps.proofs.entries.logical.Tie as tie
@@ -16,7 +17,7 @@ shared-slice-read-result : tie.Need-shared-slice-read-result
 shared-slice-read-result c = search needs
 
 returns : tie.Need-returns
-returns c = getD-any (c .before .args .cache .now) (c .before .args .i * 3) 0 4294967295 (omega arith)
+returns c = getD-any (c .before .args .cache .now) (c .before .args .i * entry-words) 0 none (omega arith)
 
 pub logical-spec : {M : Type 1} → statement M
 logical-spec = tie.close (tie.spec mul-result mul-result-2 shared-slice-read-result returns)

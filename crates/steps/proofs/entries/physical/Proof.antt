@@ -2,6 +2,7 @@
 use Prim.Native.Nat.{_+_, _*_}
 use native.Mathlib.Omega.{arith}
 use borrow.Author.Needs.{needs}
+use Rattle.scope.specs.Lent.{none, entry-words}
 use Rattle.words.specs.Runs.{getD-any}
 use Rattle.steps.proofs.entries.physical.Statement.{statement}
 use Rattle.steps.proofs.entries.physical.Tie as tie
@@ -19,7 +20,7 @@ shared-slice-read-result : tie.Need-shared-slice-read-result
 shared-slice-read-result c = search needs
 
 returns : tie.Need-returns
-returns c = getD-any (c .before .args .cache .now) (c .before .args .i * 3 + 1) 0 4294967295 (omega arith)
+returns c = getD-any (c .before .args .cache .now) (c .before .args .i * entry-words + 1) 0 none (omega arith)
 
 pub physical-spec : {M : Type 1} → statement M
 physical-spec =

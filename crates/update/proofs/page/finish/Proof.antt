@@ -21,7 +21,7 @@ mark-old-requires c κs =
     let looked = claimed .before .before .before in
     let start = looked .before .before .before .before .before in (
       (
-        spare-still (start .pre .0 .lent) (claimed .claim-next .kept .1 .1 .1 .0),
+        spare-still (start .pre .0 .lent) (claimed .claim-next .kept .1 .1 .1 .1 .0),
         λ p e. start .pre .0 .former p (sym (looked .named .ensures) ∙ e),
       ),
       claimed .claim-next .ensures .1,

@@ -5,6 +5,7 @@ use mathlib.Core.Bool.{false}
 use native.Mathlib.Omega.{arith}
 use borrow.Author.Count.{below-more}
 use borrow.Author.Needs.{needs}
+use Rattle.scope.specs.Lent.{entry-words}
 use Rattle.words.specs.Entries.{matches, entry-has, entry-differs, match-missed, first-match, match-further, none-further, no-match}
 use Rattle.words.proofs.entries.rank_of.Statement.{statement}
 use Rattle.words.proofs.entries.rank_of.Tie as tie
@@ -76,7 +77,7 @@ returns-2 c =
     let i = at-loop .loop2 .i in (
       omega arith,
       first-match (a .cache .now) (a .used) (a .l) i (a .n) (omega arith) (omega arith)
-          (entry-has (a .cache .now) (a .l) i (i * 3) refl (omega arith) (c .if2 .taken))
+          (entry-has (a .cache .now) (a .l) i (i * entry-words) refl (omega arith) (c .if2 .taken))
           (at-loop .loop2 .inv .1),
     )
 
@@ -93,7 +94,7 @@ loop2-again c =
     let i = at-loop .loop2 .i in (
       omega arith,
       below-more _ _ (at-loop .loop2 .inv .1)
-          (match-missed (a .cache .now) (a .used) (a .l) i (entry-differs (a .cache .now) (a .l) i (i * 3) refl (omega arith) (c .if2 .left))),
+          (match-missed (a .cache .now) (a .used) (a .l) i (entry-differs (a .cache .now) (a .l) i (i * entry-words) refl (omega arith) (c .if2 .left))),
     )
 
 returns-3 : tie.Need-returns-3 Inv-loop μ-loop Inv-loop2 μ-loop2

@@ -2,6 +2,7 @@
 use Prim.Native.Nat.{_*_}
 use borrow.Author.Needs.{needs}
 use Rattle.words.specs.Entries.{three-read}
+use Rattle.scope.specs.Lent.{entry-words}
 use Rattle.scope.specs.Cache.{without}
 use Rattle.words.proofs.entries.to_front.Statement.{statement}
 use Rattle.words.proofs.entries.to_front.Tie as tie
@@ -50,7 +51,7 @@ returns c =
     let start = c .before .before .before .before .before .before .before .before in
     let cache = start .args .cache .now in
     let i = start .args .i in
-    three-read cache _ (without i cache) (i * 3) (start .pre) (c .before .before .put-front .ensures)
+    three-read cache _ (without i cache) (i * entry-words) (start .pre) (c .before .before .put-front .ensures)
 
 pub to-front-spec : {M : Type 1} → statement M
 to-front-spec =

@@ -3,12 +3,13 @@ use Prim.Native.Nat.{_-_}
 use mathlib.Core.Path.{refl, sym}
 use lib.ListN.{replicate, length-replicate, getD-replicate}
 use borrow.Author.Needs.{needs}
+use Rattle.scope.specs.Lent.{erased}
 use Rattle.words.specs.Runs.{Stored, none-stored, one-stored, all-stored}
 use Rattle.words.proofs.runs.fill_erased.Statement.{statement}
 use Rattle.words.proofs.runs.fill_erased.Tie as tie
 
 abbrev Inv-loop : tie.InvT-loop
-Inv-loop s₀ at n i₀ s i = Stored s₀ at (replicate n 4294967295) s i
+Inv-loop s₀ at n i₀ s i = Stored s₀ at (replicate n erased) s i
 
 abbrev μ-loop : tie.MeasureT-loop
 μ-loop s₀ at n i₀ s i = n - i
@@ -36,7 +37,7 @@ loop-again c =
     let at-loop = c .before in
     let n = at-loop .before .args .n in
     one-stored (at-loop .loop .inv) (simp length-replicate (c .loop-test .taken)) refl
-    (sym (getD-replicate n (at-loop .loop .i) 4294967295 0 (c .loop-test .taken)))
+    (sym (getD-replicate n (at-loop .loop .i) erased 0 (c .loop-test .taken)))
 
 same-length : tie.Need-same-length Inv-loop μ-loop
 same-length c = search needs

@@ -1,13 +1,13 @@
 -- `words::states::count_state` meets its contract. The invariant: k pages of the first i have the state.
 use Prim.Native.Nat.{ℕ, _+_, _-_, _≤_}
 use mathlib.Core.Path.{_≡_, ap, _∙_}
-use mathlib.Core.Bool.{Bool}
+use mathlib.Core.Bool.{Bool, cond}
 use native.Mathlib.Omega.{arith}
 use lib.Dec.{eqb}
 use borrow.Author.Needs.{needs}
 use Rattle.scope.specs.Counting.{count}
 use Rattle.scope.specs.Lent.{state-of}
-use Rattle.words.specs.States.{count-more}
+use Rattle.words.specs.States.{count-next}
 use Rattle.flash.specs.Counting.{count-le}
 use Rattle.words.proofs.states.count_state.Statement.{statement}
 use Rattle.words.proofs.states.count_state.Tie as tie
@@ -21,31 +21,29 @@ abbrev μ-loop : tie.MeasureT-loop
 loop-holds : tie.Need-loop-holds Inv-loop μ-loop
 loop-holds c = search needs
 
-add-bit : tie.Need-add-bit Inv-loop μ-loop
-add-bit c = search needs
+add-state-at : tie.Need-add-state-at Inv-loop μ-loop
+add-state-at c = search needs
 
-mul-bit : tie.Need-mul-bit Inv-loop μ-loop
-mul-bit c = search needs
-
-mul-bit-2 : tie.Need-mul-bit-2 Inv-loop μ-loop
-mul-bit-2 c = search needs
-
-shared-slice-read-bit : tie.Need-shared-slice-read-bit Inv-loop μ-loop
-shared-slice-read-bit c = search needs
+state-at-requires : tie.Need-state-at-requires Inv-loop μ-loop
+state-at-requires c κs = search needs
 
 bit-requires : tie.Need-bit-requires Inv-loop μ-loop
 bit-requires c κs = search needs
 
-add-k : tie.Need-add-k Inv-loop μ-loop
-add-k c =
+-- Of the pages looked at in a turn and before it, the count.
+abbrev has-state : (c : tie.After-bit Inv-loop μ-loop) → ℕ → Bool
+has-state c j = let a = c .before .before .before .before .before .args in eqb (state-of (a .first + j) (a .spare .now)) (a .state)
+
+one-more : (c : tie.After-bit Inv-loop μ-loop)
+    → c .before .before .before .loop .k + c .bit .result ≡ count (c .before .before .before .loop .i + 1) (has-state c)
+one-more c =
     let at-loop = c .before .before .before in
     let a = at-loop .before .before .args in
-    let i = at-loop .loop .i in
-    let f : ℕ → Bool = λ j. eqb (state-of (a .first + j) (a .spare .now)) (a .state) in
-    let more : at-loop .loop .k + c .bit .result ≡ count (i + 1) f =
-    count-more (a .spare .now) (λ j. a .first + j) (a .state) i (at-loop .loop .k) (c .bit .result)
-    (omega arith) (at-loop .loop .inv .1) (c .bit .ensures) in
-    omega (arith, count-le (i + 1) f)
+    count-next (has-state c) (at-loop .loop .i) (at-loop .loop .k) (c .bit .result) (at-loop .loop .inv .1)
+    (c .bit .ensures ∙ ap (λ (x : ℕ). cond (eqb x (a .state)) 1 0) (c .before .state-at .ensures))
+
+add-k : tie.Need-add-k Inv-loop μ-loop
+add-k c = omega (arith, one-more c, count-le (c .before .before .before .loop .i + 1) (has-state c))
 
 add-i : tie.Need-add-i Inv-loop μ-loop
 add-i c = search needs
@@ -54,15 +52,7 @@ loop-less : tie.Need-loop-less Inv-loop μ-loop
 loop-less c = search needs
 
 loop-again : tie.Need-loop-again Inv-loop μ-loop
-loop-again c =
-    let at-loop = c .before .before .before in
-    let a = at-loop .before .before .args in
-    let i = at-loop .loop .i in
-    let f : ℕ → Bool = λ j. eqb (state-of (a .first + j) (a .spare .now)) (a .state) in
-    let more : at-loop .loop .k + c .bit .result ≡ count (i + 1) f =
-    count-more (a .spare .now) (λ j. a .first + j) (a .state) i (at-loop .loop .k) (c .bit .result)
-    (omega arith) (at-loop .loop .inv .1) (c .bit .ensures) in
-    (omega arith, more)
+loop-again c = (omega arith, one-more c)
 
 returns : tie.Need-returns Inv-loop μ-loop
 returns c =
@@ -78,10 +68,8 @@ count-state-spec =
     Inv-loop
     μ-loop
     loop-holds
-    add-bit
-    mul-bit
-    mul-bit-2
-    shared-slice-read-bit
+    add-state-at
+    state-at-requires
     bit-requires
     add-k
     add-i
