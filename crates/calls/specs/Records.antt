@@ -21,7 +21,7 @@ use Rattle.promises.specs.Write.{write-law}
 use Rattle.promises.specs.Refusals.{answered}
 use Rattle.promises.specs.Records.{record-stores}
 use Rattle.words.specs.Runs.{length-part}
-use Rattle.soundness.specs.Sizes.{piece-inside}
+use Rattle.geometry.specs.Sizes.{piece-inside}
 use Rattle.calls.specs.Room.{most-cost, read-few, write-few}
 use Rattle.calls.specs.Tested.{request-below}
 
