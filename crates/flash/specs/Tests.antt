@@ -8,7 +8,7 @@ use native.Mathlib.Omega.{arith}
 use borrow.Author.Tests.{not-true, not-false}
 use Rattle.scope.specs.Counting.{all}
 use Rattle.scope.specs.Laws.Decides.{Decides}
-use Rattle.flash.specs.Cases.{on, clash, true-and, is-false}
+use Rattle.flash.specs.Cases.{clash, true-and, is-false}
 use Rattle.flash.specs.Counting.{all-each, each-all}
 
 -- Two tests that pass together are equal; a sum of none.
@@ -55,8 +55,8 @@ pub decides-by : {r b : Bool} {X : Type 0} → r ≡ b → Decides b X → Decid
 decides-by {X = X} e d = subst (λ (t : Bool). Decides t X) (sym e) d
 
 -- What a branch on `!f(..)` tells of what f's result decides: where it is refused, the whole of which it is a part doesn't hold.
-pub held : {r : Bool} {X : Type 0} → Decides r X → not r ≡ false → X
-held {r} d h = d .holds (not-false r h)
+pub part-passed : {r : Bool} {X : Type 0} → Decides r X → not r ≡ false → X
+part-passed {r} d h = d .holds (not-false r h)
 
 pub part-refused : {r : Bool} {X Whole : Type 0} → Decides r X → not r ≡ true → (Whole → X) → Decides false Whole
 part-refused {r} d h part =

@@ -5,9 +5,9 @@ ghost use mathlib.Core.Path.{_≡_};
 ghost use mathlib.Core.Bool.{_&&_};
 ghost use Prim.Native.Nat.{_+_, _-_, _*_, _≤_, _<_};
 ghost use lib.Dec.{leb};
-ghost use Rattle.lent.specs.Model.{geometry};
 ghost use Rattle.scope.specs.Geometry.{Accepted, accepted, within, most-blocks, most-pages-in-block, M, pages};
 ghost use Rattle.scope.specs.Replies.{right-sizes};
+ghost use Rattle.lent.specs.Model.{geometry};
 ghost use Rattle.geometry.specs.Sizes.{sizes};
 
 // The table's upper bounds.

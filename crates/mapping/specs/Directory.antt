@@ -22,7 +22,8 @@ use Rattle.mapping.specs.declared.tally.Tally.{Tally}
 
 module _ (g : Geometry) (spare directory : List ℕ) (ok : Accepted g) (fit : Owners-fit g Translation spare)
     (long : length directory ≡ directory-size g) (sum : Tally)
-    (counted : Tallied nothing sum (length directory) (word-none directory) (word-good directory 0 spare (first-page g Translation) (region-pages g Translation))) where
+    (counted : Tallied nothing sum (length directory) (word-none directory)
+    (word-good directory 0 spare (first-page g Translation) (region-pages g Translation))) where
   nones-is : sum .nones ≡ count (M g) (λ t. is-none (getD directory t none))
   nones-is = omega (arith, counted .nones-more, ap (λ (k : ℕ). count k (word-none directory)) long)
 
@@ -33,6 +34,7 @@ module _ (g : Geometry) (spare directory : List ℕ) (ok : Accepted g) (fit : Ow
       ∙ count-same (M g) _ _ (λ t h. ap (λ (k : ℕ). owns (first-page g Translation) (region-pages g Translation) spare k (getD directory t none)) (zero-add t))
 
   pub directory-counts : (valid : ℕ) → valid ≡ valid-in g Translation spare
-      → Decides (eqb (sum .nones + sum .good) (length directory) && eqb (sum .good) valid) (Owners-differ g Translation spare × Directory-names g spare directory)
+      → Decides (eqb (sum .nones + sum .good) (length directory) && eqb (sum .good) valid)
+      (Owners-differ g Translation spare × Directory-names g spare directory)
   directory-counts valid e =
       rw (nones-is, good-is, e, long) (by-counts g Translation spare (region-small g Translation ok) (λ t. getD directory t none) fit)

@@ -1,7 +1,7 @@
 -- A map from the owners of a region to its pages names, for each owner, the one valid page that it owns exactly where every word that is
 -- no *none* names such a page and there are as many of these as valid pages: a second page of an owner would be named by no word. So
 -- rules 4 and 6, each with rule 2 of its region, are decided by three counts, and nothing is kept for each owner.
-use Prim.Native.Nat.{ℕ, _+_, _*_, _-_, _≤_, _<_}
+use Prim.Native.Nat.{ℕ, _+_, _-_, _≤_, _<_}
 use mathlib.Core.Path.{_≡_, refl, sym, ap, _∙_}
 use mathlib.Core.Logic.{_≢_}
 use mathlib.Core.Bool.{Bool, true, false, not, _&&_}

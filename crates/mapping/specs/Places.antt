@@ -6,7 +6,6 @@ use native.Mathlib.Nat.{zero-mul}
 use native.Mathlib.Omega.{arith}
 use mathlib.Core.Path.{_≡_, refl, sym, ap, _∙_, subst}
 use mathlib.Core.Bool.{Bool, true, false, not, _&&_}
-use mathlib.Core.List.{List}
 use lib.Dec.{eqb, ltb}
 use borrow.Author.Tests.{ltb-true, lt-ltb, eqb-true, eq-eqb}
 use Rattle.scope.specs.Counting.{count}
@@ -17,11 +16,11 @@ use Rattle.scope.specs.Regions.{Data}
 use Rattle.scope.specs.Sound.{Owners-differ, Names, Entries-fit, Places-hold, Past-L, rank-of, stored, current}
 use Rattle.flash.specs.Cases.{on, and-true, true-and}
 use Rattle.flash.specs.Counting.{count-same, count-split, count-into}
-use Rattle.cache.specs.Ranks.{rank-found, rank-is}
-use Rattle.flash.specs.Tests.{same-test, held, part-refused}
+use Rattle.flash.specs.Tests.{same-test, part-passed, part-refused}
 use Rattle.flash.specs.Owners.{Owners-fit, valid-in}
-use Rattle.mapping.specs.Named.{owns, is-none, by-counts}
+use Rattle.cache.specs.Ranks.{rank-found, rank-is}
 use Rattle.geometry.specs.Bounds.{region-small}
+use Rattle.mapping.specs.Named.{owns, is-none, by-counts}
 use Rattle.mapping.specs.Tally.{nothing, Tallied}
 use Rattle.mapping.specs.Translated.{stored-none, stored-good, cached-none, cached-good, hidden-none, hidden-good}
 use Rattle.mapping.specs.declared.tally.Tally.{Tally}
@@ -39,7 +38,7 @@ module _ {a : Bool} (g : Geometry) (s : State) (first : Decides a (Current-place
   pub second-tells : {b : Bool} → not a ≡ false → Decides b (Past-L g (s .chip) (s .directory))
       → Decides b (Owners-differ g Data (s .spare) × Places-hold g s)
   second-tells p second =
-      let both = held first p in
+      let both = part-passed first p in
       by-same (λ x. (both .0, record { current-place = both .1; past-L = x })) (λ f. f .1 .past-L) second
 
 module _ (g : Geometry) (s : State) (fits : Entries-fit g (s .cache) (s .small .used)) where

@@ -16,10 +16,10 @@ use Rattle.scope.specs.Regions.{Data}
 use Rattle.scope.specs.Sound.{Entries-fit}
 use Rattle.flash.specs.Cases.{same?, or-right}
 use Rattle.flash.specs.Counting.{found-some}
-use Rattle.words.specs.Bitmap.{has, put, empty, has-empty, length-put, has-put-same, has-put-other}
-use Rattle.words.specs.Filter.{Filter}
 use Rattle.flash.specs.Tests.{or-none}
 use Rattle.geometry.specs.Bounds.{owners-small}
+use Rattle.words.specs.Bitmap.{has, put, empty, has-empty, length-put, has-put-same, has-put-other}
+use Rattle.words.specs.Filter.{Filter}
 
 module _ (cache : List ℕ) where
   -- An entry before rank n has logical page l.

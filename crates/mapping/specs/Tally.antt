@@ -21,10 +21,14 @@ use Rattle.mapping.specs.Named.{owns, is-none, none-owned, past-owned, p
 use Rattle.mapping.specs.declared.tally.Tally.{Tally}
 use Rattle.mapping.specs.declared.tally.Run.{Run}
 
+-- How far a count may go: further than any slice is long.
+abbrev pub most-counted : ℕ
+most-counted = 4294967295
+
 -- Both counts can grow by n.
 pub record Room (t : Tally) (n : ℕ) : Type 0 where
-  pub nones-fit : t .nones + n ≤ 4294967295
-  pub good-fit : t .good + n ≤ 4294967295
+  pub nones-fit : t .nones + n ≤ most-counted
+  pub good-fit : t .good + n ≤ most-counted
 
 -- Neither count is above n.
 pub record Counted (t : Tally) (n : ℕ) : Type 0 where
@@ -51,7 +55,7 @@ pub record Run-counted (i at n : ℕ) (nowhere : ℕ → Bool) (nones : ℕ) (go
 abbrev pub nothing : Tally
 nothing = record { nones = 0; good = 0 }
 
-pub room-enough : Room nothing 4294967295
+pub room-enough : Room nothing most-counted
 room-enough = record { nones-fit = omega arith; good-fit = omega arith }
 
 pub room-less : {t : Tally} (m n : ℕ) → m ≤ n → Room t n → Room t m

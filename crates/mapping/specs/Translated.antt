@@ -1,7 +1,8 @@
 -- The translation pages in order, as rule 6 walks them: page t holds the logical pages from t * W on, W of them or as many as L leaves,
 -- and of the last page alone there are words past L.
 use Prim.Native.Nat.{ℕ, suc, _+_, _*_, _-_, _/_, _%_, min, _≤_, _<_}
-use native.Mathlib.Nat.{le-div-iff-mul-le, lt-div-mul-add, mul-add-div-right, mul-add-mod-self-right, div-eq-of-lt, mod-eq-of-lt, suc-mul, mul-le-mul-right, add-zero}
+use native.Mathlib.Nat.{le-div-iff-mul-le, lt-div-mul-add, mul-add-div-right, mul-add-mod-self-right, div-eq-of-lt, mod-eq-of-lt}
+use native.Mathlib.Nat.{suc-mul, mul-le-mul-right, add-zero}
 use native.Mathlib.Numerals.{add-one}
 use native.Mathlib.Omega.{arith}
 use mathlib.Core.Path.{_≡_, sym, ap, _∙_, subst}

@@ -2,13 +2,13 @@
 // of the translation region comes with it.
 ghost use mathlib.Core.Path.{_≡_};
 ghost use lib.ListN.{length};
-ghost use Rattle.lent.specs.Model.{geometry};
 ghost use Rattle.scope.specs.Geometry.{Accepted};
 ghost use Rattle.scope.specs.Laws.Decides.{Decides};
 ghost use Rattle.scope.specs.Lent.{spare-size, directory-size};
 ghost use Rattle.scope.specs.Regions.{Translation};
 ghost use Rattle.scope.specs.Sound.{Owners-differ, Directory-names};
 ghost use Rattle.flash.specs.Owners.{Owners-fit, valid-in};
+ghost use Rattle.lent.specs.Model.{geometry};
 use crate::tally::Tally;
 use crate::tally::tally_words;
 use lent::Geometry;

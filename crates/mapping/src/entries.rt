@@ -5,11 +5,11 @@ ghost use mathlib.Core.Path.{_≡_};
 ghost use mathlib.Core.Bool.{true};
 ghost use Prim.Native.Nat.{_+_, _*_, _≤_};
 ghost use lib.ListN.{length};
-ghost use Rattle.lent.specs.Model.{geometry};
 ghost use Rattle.scope.specs.Geometry.{Accepted};
 ghost use Rattle.scope.specs.Laws.Decides.{Decides};
-ghost use Rattle.scope.specs.Lent.{cache-size, logical-at};
+ghost use Rattle.scope.specs.Lent.{cache-size, logical-at, entry-words};
 ghost use Rattle.scope.specs.Sound.{Entries-fit};
+ghost use Rattle.lent.specs.Model.{geometry};
 ghost use Rattle.words.specs.Bitmap.{has, put};
 ghost use Rattle.words.specs.Filter.{Filter};
 ghost use Rattle.mapping.specs.Entries.{entry-fits, used-fit};
@@ -20,7 +20,7 @@ use words::erased::only_erased;
 
 // The entry at rank i has a logical page below l, changed 0 or 1, and the page is new to the filter, which takes it.
 fn entry_fits(cache: &[u32], l: u32, i: usize, filter: &mut [u64; 1024]) -> bool
-    requires { ⌜ (i * 3 + 3 ≤ length (now cache)) × (l ≤ 65536) ⌝ }
+    requires { ⌜ (i * entry-words + entry-words ≤ length (now cache)) × (l ≤ 65536) ⌝ }
     ensures { λ r. ⌜ r ≡ entry-fits (has (now (filter .entry))) (now (cache .entry)) l i ⌝ }
     ensures { λ r. ⌜ (r ≡ true → now (filter .exit) ≡ put (now (filter .entry)) (logical-at i (now (cache .entry)))) ⌝ }
 {
@@ -39,7 +39,7 @@ fn entry_fits(cache: &[u32], l: u32, i: usize, filter: &mut [u64; 1024]) -> bool
 
 // So do the first n entries, each in its turn, from an empty filter on.
 fn used_fit(cache: &[u32], l: u32, n: usize, filter: &mut [u64; 1024]) -> bool
-    requires { ⌜ (n * 3 ≤ length (now cache)) × (l ≤ 65536) ⌝ }
+    requires { ⌜ (n * entry-words ≤ length (now cache)) × (l ≤ 65536) ⌝ }
     ensures { λ r. ⌜ r ≡ used-fit (now (cache .entry)) l n ⌝ }
     ensures { λ r. ⌜ (r ≡ true → Seen (now (cache .entry)) n (now (filter .exit))) ⌝ }
 {

@@ -5,20 +5,21 @@
 ghost use mathlib.Core.Path.{_≡_};
 ghost use Prim.Native.Nat.{_+_, _*_, _≤_, _<_, min};
 ghost use lib.ListN.{length};
-ghost use Rattle.lent.specs.Model.{geometry};
 ghost use Rattle.scope.specs.Geometry.{Accepted, M, most-pages};
-ghost use Rattle.scope.specs.Lent.{chip-size, spare-size, directory-size};
-ghost use Rattle.flash.specs.Words.{Lengths-fit};
+ghost use Rattle.scope.specs.Lent.{chip-size, spare-size, directory-size, spare-words, entry-words};
 ghost use Rattle.scope.specs.Laws.Decides.{Decides};
 ghost use Rattle.scope.specs.Regions.{Data};
 ghost use Rattle.scope.specs.Sound.{Owners-differ, Directory-names, Entries-fit, Places-hold, Past-L};
+ghost use Rattle.flash.specs.Words.{Lengths-fit};
+ghost use Rattle.flash.specs.Owners.{Owners-fit, valid-in};
+ghost use Rattle.lent.specs.Model.{geometry};
 ghost use Rattle.words.specs.Erased.{only-erased};
 ghost use Rattle.mapping.specs.PastL.{behind-words};
 ghost use Rattle.mapping.specs.Places.{Current-places, sums-agree};
-ghost use Rattle.flash.specs.Owners.{Owners-fit, valid-in};
 ghost use Rattle.mapping.specs.Stored.{parts};
 ghost use Rattle.mapping.specs.Tally.{nothing, Counted, Room, Tallied, Tallied-word, Tallied-words};
-ghost use Rattle.mapping.specs.Translated.{Names-on-chip, held-words, Tallied-from, stored-none, stored-good, cached-none, cached-good, hidden-none, hidden-good};
+ghost use Rattle.mapping.specs.Translated.{Names-on-chip, held-words, Tallied-from};
+ghost use Rattle.mapping.specs.Translated.{stored-none, stored-good, cached-none, cached-good, hidden-none, hidden-good};
 use crate::stored::stored;
 use crate::tally::Tally;
 use crate::tally::tallied;
@@ -122,8 +123,8 @@ fn tally_stored(g: Geometry, chip: &[u32], spare: &[u32], directory: &[u32]) -> 
 
 // The places of the first `used` entries, of n data pages.
 fn tally_cached(cache: &[u32], used: usize, spare: &[u32], n: usize) -> Tally
-    requires { ⌜ (used * 3 ≤ length (now cache)) × (used ≤ 4096) ⌝ }
-    requires { ⌜ ((0 + n) * 2 ≤ length (now spare)) × (0 + n ≤ most-pages) ⌝ }
+    requires { ⌜ (used * entry-words ≤ length (now cache)) × (used ≤ 4096) ⌝ }
+    requires { ⌜ ((0 + n) * spare-words ≤ length (now spare)) × (0 + n ≤ most-pages) ⌝ }
     ensures { λ r. ⌜ Tallied nothing r used (cached-none (now (cache .entry))) (cached-good n (now (cache .entry)) (now (spare .entry))) ⌝ }
 {
     let mut sum = Tally { nones: 0, good: 0 };
@@ -159,7 +160,7 @@ fn tally_hidden(
 ) -> Tally
     requires { ⌜ Accepted (geometry g) ⌝ }
     requires { ⌜ length (now spare) ≡ spare-size (geometry g) ⌝ }
-    requires { ⌜ (used * 3 ≤ length (now cache)) × (used ≤ 4096) ⌝ }
+    requires { ⌜ (used * entry-words ≤ length (now cache)) × (used ≤ 4096) ⌝ }
     ensures { λ r. ⌜ Tallied nothing r used
         (hidden-none (geometry g) (now (chip .entry)) (now (directory .entry)) (now (cache .entry)))
         (hidden-good (geometry g) (now (chip .entry)) (now (spare .entry)) (now (directory .entry)) (now (cache .entry))) ⌝ }
@@ -205,7 +206,7 @@ fn none_past(g: Geometry, chip: &[u32], directory: &[u32]) -> bool
 // Whether the counts say that each of the `pages` current places is none or the valid page of its owner, and that these are all the valid
 // ones. What the cache hides stands on the other side, so that nothing is subtracted.
 fn sums_agree(held: Tally, has: Tally, hides: Tally, pages: usize, valid: usize) -> bool
-    requires { ⌜ (Counted held 65536 × Counted has 65536 × Counted hides 65536) × (pages ≤ 65536) × (valid ≤ 65536) ⌝ }
+    requires { ⌜ (Counted held most-pages × Counted has most-pages × Counted hides most-pages) × (pages ≤ most-pages) × (valid ≤ most-pages) ⌝ }
     ensures { λ r. ⌜ r ≡ sums-agree held has hides pages valid ⌝ }
 {
     let good = held.good + has.good;

@@ -6,7 +6,7 @@ ghost use Prim.Native.Nat.{_+_, _*_, _≤_};
 ghost use lib.ListN.{length};
 ghost use Rattle.scope.specs.Geometry.{Accepted};
 ghost use Rattle.scope.specs.Laws.Decides.{Decides};
-ghost use Rattle.scope.specs.Lent.{cache-size};
+ghost use Rattle.scope.specs.Lent.{cache-size, entry-words};
 ghost use Rattle.scope.specs.Sound.{stored, Unchanged-agree};
 ghost use Rattle.lent.specs.Model.{geometry};
 ghost use Rattle.mapping.specs.Stored.{parts, agrees};
@@ -39,7 +39,7 @@ pub fn stored(g: Geometry, chip: &[u32], directory: &[u32], l: u32) -> u32
 // The entry at rank i, where it is unchanged, has the place that flash holds.
 fn agrees(g: Geometry, chip: &[u32], directory: &[u32], cache: &[u32], i: usize) -> bool
     requires { ⌜ Accepted (geometry g) ⌝ }
-    requires { ⌜ i * 3 + 3 ≤ length (now cache) ⌝ }
+    requires { ⌜ i * entry-words + entry-words ≤ length (now cache) ⌝ }
     ensures { λ r. ⌜ r ≡ agrees (geometry g) (now (chip .entry)) (now (directory .entry)) (now (cache .entry)) i ⌝ }
 {
     if cache[i * 3 + 2] != 0 {

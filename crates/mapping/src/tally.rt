@@ -5,7 +5,7 @@ ghost use mathlib.Core.Bool.{cond};
 ghost use Prim.Native.Nat.{_+_, _*_, _≤_, _<_};
 ghost use lib.ListN.{length, getD};
 ghost use Rattle.scope.specs.Geometry.{most-pages};
-ghost use Rattle.scope.specs.Lent.{none};
+ghost use Rattle.scope.specs.Lent.{none, spare-words};
 ghost use Rattle.mapping.specs.Named.{owns, is-none};
 ghost use Rattle.mapping.specs.Tally.{Room, Tallied-word, Tallied, Run-counted, Nones-run, word-none, word-good};
 use lent::NONE;
@@ -25,7 +25,7 @@ const PAIR: u64 = 4294967296;
 // 1 where page `at` is one of the n pages from `first` on, valid and owned by k, else 0. Both words are read before they are looked at,
 // so that no branch hangs on them: which words of a full chip are stale, nobody can guess.
 fn owned(spare: &[u32], first: usize, n: usize, k: u32, at: usize) -> usize
-    requires { ⌜ ((first + n) * 2 ≤ length (now spare)) × (at < first + n) ⌝ }
+    requires { ⌜ ((first + n) * spare-words ≤ length (now spare)) × (at < first + n) ⌝ }
     ensures { λ r. ⌜ r ≡ cond (owns first n (now (spare .entry)) k at) 1 0 ⌝ }
 {
     let state = spare[at * 2];
@@ -42,7 +42,7 @@ fn owned(spare: &[u32], first: usize, n: usize, k: u32, at: usize) -> usize
 // The counts with one word more, x, whose owner is k. A page comes first: where there are many words they name pages.
 pub fn tallied(t: Tally, x: u32, k: u32, spare: &[u32], first: usize, n: usize) -> Tally
     requires { ⌜ Room t 1 ⌝ }
-    requires { ⌜ (first + n) * 2 ≤ length (now spare) ⌝ }
+    requires { ⌜ (first + n) * spare-words ≤ length (now spare) ⌝ }
     requires { ⌜ first + n ≤ most-pages ⌝ }
     ensures { λ r. ⌜ Tallied-word t r (is-none x) (owns first n (now (spare .entry)) k x) ⌝ }
 {
@@ -72,7 +72,7 @@ struct Run {
 fn run_of_places(words: &[u32], i: usize, from: usize, spare: &[u32], first: usize, n: usize) -> Run
     requires { ⌜ i ≤ length (now words) ⌝ }
     requires { ⌜ from + length (now words) ≤ most-pages ⌝ }
-    requires { ⌜ (first + n) * 2 ≤ length (now spare) ⌝ }
+    requires { ⌜ (first + n) * spare-words ≤ length (now spare) ⌝ }
     requires { ⌜ first + n ≤ most-pages ⌝ }
     ensures { λ r. ⌜ Run-counted i (r .at) (length (now (words .entry)))
         (word-none (now (words .entry))) 0
@@ -119,7 +119,7 @@ pub fn tally_words(
 ) -> Tally
     requires { ⌜ Room t (length (now words)) ⌝ }
     requires { ⌜ from + length (now words) ≤ most-pages ⌝ }
-    requires { ⌜ (first + n) * 2 ≤ length (now spare) ⌝ }
+    requires { ⌜ (first + n) * spare-words ≤ length (now spare) ⌝ }
     requires { ⌜ first + n ≤ most-pages ⌝ }
     ensures { λ r. ⌜ Tallied t r (length (now (words .entry)))
         (word-none (now (words .entry)))

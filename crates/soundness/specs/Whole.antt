@@ -1,12 +1,12 @@
 -- The seven rules together: those of flash alone, then those that look at the cache. Each rule is a field here, as it is in scope's `Sound`.
 use Prim.Native.Nat.{ℕ}
 use mathlib.Core.List.{List, []}
-use Rattle.lent.specs.Model.{state, small}
-use Rattle.lent.specs.declared.Record.{Record}
 use Rattle.scope.specs.Geometry.{Geometry}
 use Rattle.scope.specs.Regions.{Region, Data, Translation}
 use Rattle.scope.specs.SmallRecord.{SmallRecord}
 use Rattle.scope.specs.Sound.{Owners-differ, Directory-names, Entries-fit, Places-hold, Unchanged-agree, Sound, current}
+use Rattle.lent.specs.Model.{state, small}
+use Rattle.lent.specs.declared.Record.{Record}
 use Rattle.survey.specs.Survey.{Region-holds}
 use Rattle.mapping.specs.Stored.{parts}
 

@@ -15,9 +15,9 @@ use Rattle.scope.specs.Lent.{is-erased}
 use Rattle.scope.specs.Decisions.{blocks-fit}
 use Rattle.flash.specs.Cases.{on, below?, clash, and-true, true-and, or-cases, or-right, is-false, not-of-false, twice-not}
 use Rattle.flash.specs.Counting.{all-each, each-all, count-none, none-counted, count-le}
-use Rattle.words.specs.States.{all-counted}
-use Rattle.geometry.specs.Sizes.{piece-inside}
 use Rattle.flash.specs.Tests.{same-test, or-none}
+use Rattle.geometry.specs.Sizes.{piece-inside}
+use Rattle.words.specs.States.{all-counted}
 
 module _ (P : ℕ) where
   -- How many pages of a block are erased.
@@ -161,7 +161,8 @@ module _ (P first : ℕ) (spare : List ℕ) (opened : ℕ) where
       rw (add-one, is)
       (record {
         fit = true-and (s .fit) (sym (fits-at n) ∙ whole′);
-        found = found-more P total (erased-in P spare (first + n)) (eqb (first + n) opened) (besides P first spare opened n) (all P f) h (sym (all-counted P f)) whole′ (s .found);
+        found = found-more P total (erased-in P spare (first + n)) (eqb (first + n) opened) (besides P first spare opened n) (all P f) h
+            (sym (all-counted P f)) whole′ (s .found);
         small = omega (arith, s .small, suc-mul n P, adds-most n);
       })
 

@@ -18,10 +18,10 @@ use Rattle.scope.specs.Lent.{none, erased, valid, invalid, state-of, owner-of, 
 use Rattle.scope.specs.Decisions.{page-fits, pages-fit}
 use Rattle.flash.specs.Cases.{and-true, or-cases}
 use Rattle.flash.specs.Counting.{all-each, each-all, each-counted, count-none, count-each}
-use Rattle.words.specs.Runs.{getD-any}
 use Rattle.flash.specs.Tests.{all-same}
-use Rattle.words.specs.Erased.{is-erased-word}
 use Rattle.geometry.specs.Sizes.{piece-inside}
+use Rattle.words.specs.Runs.{getD-any}
+use Rattle.words.specs.Erased.{is-erased-word}
 use Rattle.survey.specs.declared.pages.Block.{Block}
 
 -- A page of W words has only erased ones.

@@ -171,10 +171,10 @@ module _ (W limit P first : ℕ) (chip spare : List ℕ) (opened : ℕ) where
   pub walked-all : (i n total valid : ℕ) → i ≤ n → n ≤ i → Walked i total valid
       → (not (eqb total 0) ≡ rules n) × (valid ≡ count (n * P) page-valid)
   walked-all i n total valid h k w =
-      let is : i ≡ n = omega arith in (
-        so-far-all P first spare opened i n total h k (w .so-far)
-            ∙ sym (ap (λ (b : Bool). others-fit P first spare opened n && besides P first spare opened n && b) (ap (λ (m : ℕ). all (m * P) page-fits) (sym is) ∙ w .fit)
-            ∙ and-passed (others-fit P first spare opened n && besides P first spare opened n)),
+      let is : i ≡ n = omega arith in
+      let fits : all (n * P) page-fits ≡ true = ap (λ (m : ℕ). all (m * P) page-fits) (sym is) ∙ w .fit in
+      let others : Bool = others-fit P first spare opened n && besides P first spare opened n in (
+        so-far-all P first spare opened i n total h k (w .so-far) ∙ sym (ap (λ (b : Bool). others && b) fits ∙ and-passed others),
         w .counted ∙ ap (λ (m : ℕ). count (m * P) page-valid) is,
       )
 

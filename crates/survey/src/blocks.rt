@@ -13,13 +13,14 @@ ghost use mathlib.Core.Bool.{true, false, cond, _&&_, _||_};
 ghost use Prim.Native.Nat.{_+_, _*_, _≤_, _<_};
 ghost use lib.Dec.{eqb};
 ghost use lib.ListN.{length};
+ghost use Rattle.scope.specs.Lent.{spare-words};
 ghost use Rattle.scope.specs.Counting.{all, count};
 ghost use Rattle.scope.specs.Geometry.{Accepted, most-pages-in-block};
 ghost use Rattle.scope.specs.Regions.{Data, Translation};
+ghost use Rattle.flash.specs.Owners.{valid-in};
 ghost use Rattle.lent.specs.Model.{geometry, small as small-record};
 ghost use Rattle.survey.specs.Blocks.{open-fits, rule-3};
 ghost use Rattle.survey.specs.Census.{Taken, Taken-in};
-ghost use Rattle.flash.specs.Owners.{valid-in};
 ghost use Rattle.survey.specs.Survey.{Found, Reaches, Region-holds, rules, row-fits, row-valid};
 
 // What a walk finds: whether the rules hold, and, where they do, how many pages are valid.
@@ -40,7 +41,7 @@ fn broken() -> Survey
 
 // The open block's pages before the next offset are programmed, the others erased.
 fn open_fits(spare: &[u32], p: usize, opened: usize, offset: usize) -> bool
-    requires { ⌜ (opened * p + p) * 2 ≤ length (now spare) ⌝ }
+    requires { ⌜ (opened * p + p) * spare-words ≤ length (now spare) ⌝ }
     requires { ⌜ offset ≤ p ⌝ }
     ensures { λ r. ⌜ r ≡ open-fits p (now (spare .entry)) opened offset ⌝ }
 {
@@ -95,7 +96,7 @@ fn walk(
 ) -> Survey
     requires { ⌜ (1 ≤ p) × (p ≤ most-pages-in-block) ⌝ }
     requires { ⌜ (first + n) * p * w ≤ length (now chip) ⌝ }
-    requires { ⌜ (first + n) * p * 2 ≤ length (now spare) ⌝ }
+    requires { ⌜ (first + n) * p * spare-words ≤ length (now spare) ⌝ }
     requires { ⌜ first + n ≤ length (now census) ⌝ }
     ensures { λ r. ⌜ Found r (rules w limit p first (now (chip .entry)) (now (spare .entry)) opened n ≡ true)
         (count (n * p) (row-valid p first (now (spare .entry))))
@@ -140,7 +141,7 @@ fn region_fits(
 ) -> Survey
     requires { ⌜ (1 ≤ p) × (p ≤ most-pages-in-block) ⌝ }
     requires { ⌜ (first + n) * p * w ≤ length (now chip) ⌝ }
-    requires { ⌜ (first + n) * p * 2 ≤ length (now spare) ⌝ }
+    requires { ⌜ (first + n) * p * spare-words ≤ length (now spare) ⌝ }
     requires { ⌜ first + n ≤ length (now census) ⌝ }
     ensures { λ r. ⌜ Found r
         (rule-3 p first n (now (spare .entry)) opened offset

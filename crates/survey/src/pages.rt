@@ -12,7 +12,7 @@ ghost use Prim.Native.Nat.{_+_, _*_, _≤_, _<_};
 ghost use lib.Dec.{eqb};
 ghost use lib.ListN.{length};
 ghost use Rattle.scope.specs.Counting.{all, count};
-ghost use Rattle.scope.specs.Lent.{valid, is-valid};
+ghost use Rattle.scope.specs.Lent.{valid, is-valid, spare-words};
 ghost use Rattle.survey.specs.Pages.{blank, rule-1, programmed-fits, programmed-at, Looked};
 
 // 1 where a page with this state and owner is programmed as the rule asks, its owner below `limit`, else 0.
@@ -54,7 +54,7 @@ fn is_blank(chip: &[u32], w: usize, p: usize) -> bool
 // The rule for page p.
 fn page_fits(chip: &[u32], spare: &[u32], w: usize, limit: u32, p: usize) -> bool
     requires { ⌜ p * w + w ≤ length (now chip) ⌝ }
-    requires { ⌜ p * 2 + 2 ≤ length (now spare) ⌝ }
+    requires { ⌜ p * spare-words + spare-words ≤ length (now spare) ⌝ }
     ensures { λ r. ⌜ r ≡ rule-1 w limit (now (chip .entry)) (now (spare .entry)) p ⌝ }
 {
     let state = spare[p * 2];
@@ -71,7 +71,7 @@ fn page_fits(chip: &[u32], spare: &[u32], w: usize, limit: u32, p: usize) -> boo
 // The rule for the n pages from page `first` on.
 fn pages_fit(chip: &[u32], spare: &[u32], w: usize, limit: u32, first: usize, n: usize) -> bool
     requires { ⌜ (first + n) * w ≤ length (now chip) ⌝ }
-    requires { ⌜ (first + n) * 2 ≤ length (now spare) ⌝ }
+    requires { ⌜ (first + n) * spare-words ≤ length (now spare) ⌝ }
     ensures { λ r. ⌜ r ≡ all n (λ i. rule-1 w limit (now (chip .entry)) (now (spare .entry)) (first + i)) ⌝ }
 {
     let mut i = 0;
@@ -93,7 +93,7 @@ struct Programmed {
 
 // Of the n pages from `first` on.
 fn count_programmed(spare: &[u32], first: usize, n: usize, limit: u32) -> Programmed
-    requires { ⌜ ((first + n) * 2 ≤ length (now spare)) × (n < 4294967296) ⌝ }
+    requires { ⌜ ((first + n) * spare-words ≤ length (now spare)) × (n < 4294967296) ⌝ }
     ensures { λ r. ⌜ (r .fit ≡ count n (λ i. programmed-at limit (now (spare .entry)) (first + i)))
         × (r .valid ≡ count n (λ i. is-valid (first + i) (now (spare .entry)))) ⌝ }
 {
@@ -119,7 +119,7 @@ pub struct Block {
 // Block b of p pages is wholly erased, in the spare and on the chip.
 fn wholly_erased(chip: &[u32], spare: &[u32], w: usize, b: usize, p: usize) -> bool
     requires { ⌜ (b * p + p) * w ≤ length (now chip) ⌝ }
-    requires { ⌜ (b * p + p) * 2 ≤ length (now spare) ⌝ }
+    requires { ⌜ (b * p + p) * spare-words ≤ length (now spare) ⌝ }
     ensures { λ r. ⌜ r ≡ (blank (p * 2) (now (spare .entry)) b && blank (p * w) (now (chip .entry)) b) ⌝ }
 {
     if !is_blank(spare, p * 2, b) {
@@ -132,7 +132,7 @@ fn wholly_erased(chip: &[u32], spare: &[u32], w: usize, b: usize, p: usize) -> b
 // are neither, as the open block, each page is looked at.
 pub fn look(chip: &[u32], spare: &[u32], w: usize, limit: u32, b: usize, p: usize) -> Block
     requires { ⌜ (b * p + p) * w ≤ length (now chip) ⌝ }
-    requires { ⌜ ((b * p + p) * 2 ≤ length (now spare)) × (p < 4294967296) ⌝ }
+    requires { ⌜ ((b * p + p) * spare-words ≤ length (now spare)) × (p < 4294967296) ⌝ }
     ensures { λ r. ⌜ Looked w limit (now (chip .entry)) (now (spare .entry)) (b * p) p r ⌝ }
 {
     let first = b * p;

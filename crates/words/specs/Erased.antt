@@ -2,8 +2,8 @@
 use Prim.Native.Nat.{ℕ, _+_, _-_, _≤_, _<_}
 use native.Mathlib.Numerals.{add-one}
 use native.Mathlib.Omega.{arith}
-use mathlib.Core.Path.{_≡_, refl, sym, ap, subst, _∙_}
-use mathlib.Core.Bool.{Bool, true, false, _&&_}
+use mathlib.Core.Path.{_≡_, sym, ap, subst, _∙_}
+use mathlib.Core.Bool.{Bool, true, _&&_}
 use mathlib.Core.List.{List}
 use lib.Bits.{bitAnd, and-le-l, and-le-r, and-self}
 use lib.Dec.{eqb}
@@ -77,12 +77,12 @@ pub record Erased-run (words : List ℕ) (at end : ℕ) : Type 0 where
   pub ends : end ≤ length words
   pub each : (i : ℕ) → at ≤ i → i < end → getD words i erased ≡ erased
 
-pub run-none : (words : List ℕ) (at : ℕ) → at ≤ length words → Erased-run words at at
-run-none words at h = record { starts = omega arith; ends = h; each = λ i k l. absurd (omega arith) }
+pub erased-run-none : (words : List ℕ) (at : ℕ) → at ≤ length words → Erased-run words at at
+erased-run-none words at h = record { starts = omega arith; ends = h; each = λ i k l. absurd (omega arith) }
 
-pub run-more : (words : List ℕ) (at end n left : ℕ) → end + n ≤ length words → Erased-run words at end → left ≡ erased
+pub erased-run-more : (words : List ℕ) (at end n left : ℕ) → end + n ≤ length words → Erased-run words at end → left ≡ erased
     → eqb left erased ≡ (eqb erased erased && all n (λ j. is-erased-word words (end + j))) → Erased-run words at (end + n)
-run-more words at end n left inside run is tells =
+erased-run-more words at end n left inside run is tells =
     let all-erased : all n (λ j. is-erased-word words (end + j)) ≡ true = sym tells ∙ eq-eqb left erased is in
     record {
       starts = omega (arith, run .starts);

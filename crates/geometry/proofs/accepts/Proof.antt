@@ -6,38 +6,50 @@ use native.Mathlib.Omega.{arith}
 use lib.Dec.{leb}
 use borrow.Author.Needs.{needs}
 use Rattle.scope.specs.Geometry.{accepted, within, M, most-pages-in-block, most-blocks}
-use Rattle.lent.specs.Model.{geometry}
 use Rattle.flash.specs.Tests.{refused, passed}
+use Rattle.lent.specs.Model.{geometry}
 use Rattle.geometry.specs.Bounds.{within-bounds, blocks-bounds}
 use Rattle.geometry.proofs.accepts.Statement.{statement}
 use Rattle.geometry.proofs.accepts.Tie as tie
 
+-- ---- the start, from behind each row's test
+
+abbrev start-1 : tie.Else1 → tie.Start
+start-1 c = c .before .before .before .before .before
+
+abbrev start-2 : tie.Else2 → tie.Start
+start-2 c = start-1 (c .before .before .before)
+
+abbrev start-3 : tie.Else3 → tie.Start
+start-3 c = start-2 (c .before .before)
+
+abbrev start-4 : tie.Else4 → tie.Start
+start-4 c = start-3 (c .before .before .before)
+
 -- ---- each row of the table, where the code has passed it
 
-P-row : (c : tie.Else1) → within 1 (c .before .before .before .before .before .args .g .p) most-pages-in-block ≡ true
+P-row : (c : tie.Else1) → within 1 (start-1 c .args .g .p) most-pages-in-block ≡ true
 P-row c = passed (c .before .within .ensures) (c .if1 .left)
 
-P-at : (c : tie.Else1) → (1 ≤ c .before .before .before .before .before .args .g .p) × (c .before .before .before .before .before .args .g .p ≤ most-pages-in-block)
-P-at c = within-bounds 1 (c .before .before .before .before .before .args .g .p) most-pages-in-block (P-row c)
+P-at : (c : tie.Else1) → (1 ≤ start-1 c .args .g .p) × (start-1 c .args .g .p ≤ most-pages-in-block)
+P-at c = within-bounds 1 (start-1 c .args .g .p) most-pages-in-block (P-row c)
 
-W-row : (c : tie.Else2) → within 1 (c .before .before .before .before .before .before .before .before .args .g .w) 512 ≡ true
+W-row : (c : tie.Else2) → within 1 (start-2 c .args .g .w) 512 ≡ true
 W-row c = passed (c .before .within2 .ensures) (c .if2 .left)
 
-blocks-row : (c : tie.Else3)
-    → leb 2 (c .before .before .before .before .before .before .before .before .before .before .args .g .d) && leb 2 (c .before .before .before .before .before .before .before .before .before .before .args .g .t)
-    && leb (c .before .before .before .before .before .before .before .before .before .before .args .g .d + c .before .before .before .before .before .before .before .before .before .before .args .g .t) most-blocks ≡ true
+blocks-row : (c : tie.Else3) → let g = start-3 c .args .g in leb 2 (g .d) && leb 2 (g .t) && leb (g .d + g .t) most-blocks ≡ true
 blocks-row c = passed (c .before .blocks-within .ensures) (c .if3 .left)
 
-blocks-at : (c : tie.Else3) → let g = c .before .before .before .before .before .before .before .before .before .before .args .g in (2 ≤ g .d) × (2 ≤ g .t) × (g .d + g .t ≤ most-blocks)
-blocks-at c = blocks-bounds (c .before .before .before .before .before .before .before .before .before .before .args .g .d) (c .before .before .before .before .before .before .before .before .before .before .args .g .t) (blocks-row c)
+blocks-at : (c : tie.Else3) → let g = start-3 c .args .g in (2 ≤ g .d) × (2 ≤ g .t) × (g .d + g .t ≤ most-blocks)
+blocks-at c = blocks-bounds (start-3 c .args .g .d) (start-3 c .args .g .t) (blocks-row c)
 
-L-row : (c : tie.Else4) → let g = c .before .before .before .before .before .before .before .before .before .before .before .before .before .args .g in within 1 (g .l) ((g .d - 1) * g .p - 1) ≡ true
+L-row : (c : tie.Else4) → let g = start-4 c .args .g in within 1 (g .l) ((g .d - 1) * g .p - 1) ≡ true
 L-row c = passed (c .before .owners-within .ensures) (c .if4 .left)
 
-M-tested : (c : tie.After-owners-within2) → let g = c .before .before .before .before .before .before .before .before .before .before .before .before .before .before .before .args .g in
+M-tested : (c : tie.After-owners-within2) → let g = start-4 (c .before .before) .args .g in
     c .owners-within2 .result ≡ within 1 (M (geometry g)) ((g .t - 1) * g .p - 1)
 M-tested c =
-    let g = c .before .before .before .before .before .before .before .before .before .before .before .before .before .before .before .args .g in
+    let g = start-4 (c .before .before) .args .g in
     c .owners-within2 .ensures ∙ ap (λ (m : ℕ). within 1 m ((g .t - 1) * g .p - 1)) (c .before .translation-pages .ensures)
 
 -- ---- the needs
@@ -87,7 +99,12 @@ owners-within-requires c κs =
 returns-4 : tie.Need-returns-4
 unfolding accepted
 returns-4 c =
-    rw (P-row (c .before .before .before .before .before .before .before .before), W-row (c .before .before .before .before .before), blocks-row (c .before .before .before), refused (c .before .owners-within .ensures) (c .if4 .taken))
+    rw (
+      P-row (c .before .before .before .before .before .before .before .before),
+      W-row (c .before .before .before .before .before),
+      blocks-row (c .before .before .before),
+      refused (c .before .owners-within .ensures) (c .if4 .taken),
+    )
 
 translation-pages-requires : tie.Need-translation-pages-requires
 translation-pages-requires c κs = within-bounds _ _ _ (W-row (c .before .before .before .before .before)) .0

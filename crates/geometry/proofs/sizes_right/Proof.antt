@@ -7,10 +7,11 @@ use native.Mathlib.Omega.{arith}
 use lib.Dec.{eqb}
 use borrow.Author.Needs.{needs}
 use borrow.Author.Tests.{eq-eqb, ne-eqb}
+use Rattle.scope.specs.Geometry.{most-pages}
 use Rattle.scope.specs.Lent.{chip-size, spare-size}
 use Rattle.scope.specs.Replies.{right-sizes}
-use Rattle.lent.specs.Model.{geometry}
 use Rattle.flash.specs.Tests.{and-passed}
+use Rattle.lent.specs.Model.{geometry}
 use Rattle.geometry.specs.Bounds.{pages-most}
 use Rattle.geometry.proofs.sizes_right.Statement.{statement}
 use Rattle.geometry.proofs.sizes_right.Tie as tie
@@ -47,8 +48,8 @@ cast-if1 c = search needs
 mul-if1 : tie.Need-mul-if1
 mul-if1 c =
     let g = geometry (c .before .before .args .g) in
-    let few : c .before .chip-pages .result ≤ 65536 = omega (arith, pages-most g (c .before .before .pre), c .before .chip-pages .ensures) in
-    omega (arith, mul-le-mul {n₁ = c .before .chip-pages .result} {m₁ = g .W} {n₂ = 65536} {m₂ = 512} few (c .before .before .pre .W-to))
+    let few : c .before .chip-pages .result ≤ most-pages = omega (arith, pages-most g (c .before .before .pre), c .before .chip-pages .ensures) in
+    omega (arith, mul-le-mul {n₁ = c .before .chip-pages .result} {m₁ = g .W} {n₂ = most-pages} {m₂ = 512} few (c .before .before .pre .W-to))
 
 returns : tie.Need-returns
 unfolding right-sizes
@@ -67,7 +68,11 @@ translation-pages-requires c κs = search needs
 returns-3 : tie.Need-returns-3
 unfolding right-sizes
 returns-3 c =
-    simp (chip-right (c .before .before .before), spare-right (c .before .before), ne-eqb _ _ (λ e. c .if3 .taken (e ∙ sym (c .before .translation-pages .ensures))))
+    simp (
+      chip-right (c .before .before .before),
+      spare-right (c .before .before),
+      ne-eqb _ _ (λ e. c .if3 .taken (e ∙ sym (c .before .translation-pages .ensures))),
+    )
 
 cast-result : tie.Need-cast-result
 cast-result c = search needs
@@ -78,7 +83,12 @@ mul-result c = search needs
 returns-4 : tie.Need-returns-4
 unfolding right-sizes
 returns-4 c =
-    simp (chip-right (c .before .before .before .before), spare-right (c .before .before .before), eq-eqb _ _ (c .before .if3 .left ∙ c .before .before .translation-pages .ensures), and-passed)
+    simp (
+      chip-right (c .before .before .before .before),
+      spare-right (c .before .before .before),
+      eq-eqb _ _ (c .before .if3 .left ∙ c .before .before .translation-pages .ensures),
+      and-passed,
+    )
 
 pub sizes-right-spec : {M : Type 1} → statement M
 sizes-right-spec =

@@ -1,11 +1,14 @@
 -- `directory::directory_names` meets its contract: the counts are the ones that decide rule 4.
+use Prim.Native.Nat.{_≤_}
 use native.Mathlib.Nat.{add-mul}
 use native.Mathlib.Omega.{arith}
+use lib.ListN.{length}
 use borrow.Author.Needs.{needs}
 use borrow.Author.Tests.{eq-eqb, ne-eqb}
 use denote.Ref.{now}
-use Rattle.lent.specs.Model.{geometry}
+use Rattle.scope.specs.Geometry.{most-pages}
 use Rattle.scope.specs.Regions.{Translation}
+use Rattle.lent.specs.Model.{geometry}
 use Rattle.geometry.specs.Bounds.{region-small, owners-small}
 use Rattle.mapping.specs.Directory.{directory-counts}
 use Rattle.mapping.specs.Tally.{tallied-most}
@@ -29,14 +32,15 @@ mul-n c = search needs
 
 tally-words-requires : tie.Need-tally-words-requires
 tally-words-requires c κs =
-    let g = geometry (c .before .before .before .before .before .args .g) in
-    let pre = c .before .before .before .before .before .pre in
+    let start = c .before .before .before .before .before in
+    let g = geometry (start .args .g) in
+    let pre = start .pre in
     let few = owners-small g Translation (pre .0) in (
       record { nones-fit = omega (arith, pre .1 .1 .0); good-fit = omega (arith, pre .1 .1 .0) },
       (
         omega (arith, pre .1 .1 .0),
         (
-          omega (arith, pre .1 .0, add-mul (c .before .before .before .before .before .args .g .d) (c .before .before .before .before .before .args .g .t) (c .before .before .before .before .before .args .g .p)),
+          omega (arith, pre .1 .0, add-mul (g .D) (g .T) (g .P)),
           region-small g Translation (pre .0),
         ),
       ),
@@ -44,8 +48,10 @@ tally-words-requires c κs =
 
 add-if1 : tie.Need-add-if1
 add-if1 c =
-    let pre = c .before .before .before .before .before .before .before .pre in
-    let most = tallied-most _ _ 65536 _ _ (c .before .tally-words .ensures) (omega (arith, pre .1 .1 .0, owners-small (geometry (c .before .before .before .before .before .before .before .args .g)) Translation (pre .0))) in
+    let start = c .before .before .before .before .before .before .before in
+    let few : length (now (start .args .directory)) ≤ most-pages =
+    omega (arith, start .pre .1 .1 .0, owners-small (geometry (start .args .g)) Translation (start .pre .0)) in
+    let most = tallied-most _ _ most-pages _ _ (c .before .tally-words .ensures) few in
     omega (arith, most .nones-most, most .good-most)
 
 returns : tie.Need-returns

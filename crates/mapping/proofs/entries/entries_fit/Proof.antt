@@ -7,14 +7,14 @@ use borrow.Rule.Slice.PartAt.{part-to-end}
 use borrow.Author.Needs.{needs}
 use borrow.Author.Tests.{not-false}
 use denote.Ref.{now}
-use Rattle.flash.specs.Cases.{clash}
-use Rattle.lent.specs.Model.{geometry}
 use Rattle.scope.specs.Counting.{all}
 use Rattle.scope.specs.Regions.{Data}
+use Rattle.flash.specs.Cases.{clash}
 use Rattle.flash.specs.Tests.{refused, passed, decides-by}
-use Rattle.mapping.specs.Entries.{too-many, entries-by-parts}
-use Rattle.words.specs.Erased.{is-erased-word}
+use Rattle.lent.specs.Model.{geometry}
 use Rattle.geometry.specs.Bounds.{owners-small}
+use Rattle.words.specs.Erased.{is-erased-word}
+use Rattle.mapping.specs.Entries.{too-many, entries-by-parts}
 use Rattle.mapping.specs.Seen.{seen-filter}
 use Rattle.mapping.proofs.entries.entries_fit.Statement.{statement}
 use Rattle.mapping.proofs.entries.entries_fit.Tie as tie

@@ -7,8 +7,8 @@ use Prim.Native.Nat.{ℕ, _+_, _*_, _≤_, _<_}
 use borrow.Author.Needs.{needs}
 use borrow.Author.Tests.{lt-ltb, le-ltb, le-leb, lt-leb}
 use denote.Ref.{now}
+use Rattle.scope.specs.Lent.{logical-at, changed-at, none}
 use Rattle.flash.specs.Cases.{clash}
-use Rattle.scope.specs.Lent.{logical-at, changed-at}
 use Rattle.words.specs.Bitmap.{has, put}
 use Rattle.words.specs.Runs.{getD-any}
 use Rattle.mapping.specs.Entries.{entry-fits}
@@ -37,7 +37,7 @@ shared-slice-read-page c = search needs
 returns : tie.Need-returns
 returns c =
     let a = c .before .before .before .args in
-    let page = getD-any (now (a .cache)) (a .i * 3) 0 4294967295 (omega (arith, c .before .before .before .pre .0)) in
+    let page = getD-any (now (a .cache)) (a .i * 3) 0 none (omega (arith, c .before .before .before .pre .0)) in
     (too-high (has (now (a .filter))) (now (a .cache)) (a .l) (a .i) (omega (arith, page)), λ p. clash p refl)
 
 mul-if2 : tie.Need-mul-if2
@@ -56,8 +56,8 @@ returns-2 : tie.Need-returns-2
 returns-2 c =
     let a = c .before .before .before .before .before .args in
     let room = c .before .before .before .before .before .pre .0 in
-    let page = getD-any (now (a .cache)) (a .i * 3) 0 4294967295 (omega (arith, room)) in
-    let changed = getD-any (now (a .cache)) (a .i * 3 + 2) 0 4294967295 (omega (arith, room)) in
+    let page = getD-any (now (a .cache)) (a .i * 3) 0 none (omega (arith, room)) in
+    let changed = getD-any (now (a .cache)) (a .i * 3 + 2) 0 none (omega (arith, room)) in
     (other-changed (has (now (a .filter))) (now (a .cache)) (a .l) (a .i) (omega (arith, page)) (omega (arith, changed)), λ p. clash p refl)
 
 cast-at : tie.Need-cast-at
@@ -73,8 +73,8 @@ returns-3 : tie.Need-returns-3
 returns-3 c =
     let a = c .before .before .before .before .before .before .before .before .before .args in
     let room = c .before .before .before .before .before .before .before .before .before .pre .0 in
-    let page = getD-any (now (a .cache)) (a .i * 3) 0 4294967295 (omega (arith, room)) in
-    let changed = getD-any (now (a .cache)) (a .i * 3 + 2) 0 4294967295 (omega (arith, room)) in (
+    let page = getD-any (now (a .cache)) (a .i * 3) 0 none (omega (arith, room)) in
+    let changed = getD-any (now (a .cache)) (a .i * 3 + 2) 0 none (omega (arith, room)) in (
       new-page (has (now (a .filter))) (now (a .cache)) (a .l) (a .i) (omega (arith, page)) (omega (arith, changed))
           (c .before .before .has .ensures ∙ ap (has (now (a .filter))) page),
       λ p. c .put .ensures ∙ ap (put (now (a .filter))) page,

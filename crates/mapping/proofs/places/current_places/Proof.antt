@@ -6,11 +6,12 @@ use mathlib.Core.Bool.{Bool}
 use Prim.Native.Nat.{_+_}
 use borrow.Author.Needs.{needs}
 use denote.Ref.{now}
-use Rattle.flash.specs.Counting.{count-le}
-use Rattle.lent.specs.Model.{geometry}
+use Rattle.scope.specs.Geometry.{most-pages}
 use Rattle.scope.specs.Laws.Decides.{Decides}
 use Rattle.scope.specs.Lent.{is-valid}
 use Rattle.scope.specs.Regions.{Data, first-page, region-pages}
+use Rattle.flash.specs.Counting.{count-le}
+use Rattle.lent.specs.Model.{geometry}
 use Rattle.geometry.specs.Bounds.{data-small, region-small, owners-small}
 use Rattle.mapping.specs.Places.{Current-places, places-by-sums}
 use Rattle.mapping.specs.Stored.{parts}
@@ -52,16 +53,18 @@ cast-sums-agree c = search needs
 
 sums-agree-requires : tie.Need-sums-agree-requires
 sums-agree-requires c κs =
-    let g = geometry (c .before .before .before .before .before .before .before .before .before .before .args .g) in
-    let pre = c .before .before .before .before .before .before .before .before .before .before .pre in
-    let few = pre .1 .1 .1 .1 .0 .at-most in (
+    let start = c .before .before .before .before .before .before .before .before .before .before in
+    let g = geometry (start .args .g) in
+    let pre = start .pre in
+    let few = pre .1 .1 .1 .1 .0 .at-most in
+    let valid-most = count-le (region-pages g Data) (λ i. is-valid (first-page g Data + i) (now (start .args .spare))) in (
       (
-        tallied-most _ _ 65536 _ _ (c .before .before .before .tally-stored .ensures) (owners-small g Data (pre .0)),
-        tallied-most _ _ 65536 _ _ (c .before .before .tally-cached .ensures) (omega (arith, few, pre .0 .C-to)),
-        tallied-most _ _ 65536 _ _ (c .before .tally-hidden .ensures) (omega (arith, few, pre .0 .C-to)),
+        tallied-most _ _ most-pages _ _ (c .before .before .before .tally-stored .ensures) (owners-small g Data (pre .0)),
+        tallied-most _ _ most-pages _ _ (c .before .before .tally-cached .ensures) (omega (arith, few, pre .0 .C-to)),
+        tallied-most _ _ most-pages _ _ (c .before .tally-hidden .ensures) (omega (arith, few, pre .0 .C-to)),
       ),
       owners-small g Data (pre .0),
-      omega (arith, pre .1 .1 .1 .1 .1, count-le (region-pages g Data) (λ i. is-valid (first-page g Data + i) (now (c .before .before .before .before .before .before .before .before .before .before .args .spare))), region-small g Data (pre .0)),
+      omega (arith, pre .1 .1 .1 .1 .1, valid-most, region-small g Data (pre .0)),
     )
 
 returns : tie.Need-returns
@@ -69,10 +72,12 @@ returns c =
     let a = c .before .before .before .before .before .before .before .before .before .before .before .args in
     let pre = c .before .before .before .before .before .before .before .before .before .before .before .pre in
     let s = parts (now (a .chip)) (now (a .spare)) (now (a .directory)) (now (a .cache)) (a .used) in
+    let held = c .before .before .before .before .tally-stored in
+    let has = c .before .before .before .tally-cached in
+    let hides = c .before .before .tally-hidden in
     subst (λ (b : Bool). Decides b (Current-places (geometry (a .g)) s)) (sym (c .sums-agree .ensures))
     (places-by-sums (geometry (a .g)) s (pre .0) (pre .1 .1 .0) (pre .1 .1 .1 .1 .0)
-    (c .before .before .before .before .tally-stored .result) (c .before .before .before .tally-cached .result) (c .before .before .tally-hidden .result) (a .valid)
-    (c .before .before .before .before .tally-stored .ensures) (c .before .before .before .tally-cached .ensures) (c .before .before .tally-hidden .ensures) (pre .1 .1 .1 .1 .1))
+    (held .result) (has .result) (hides .result) (a .valid) (held .ensures) (has .ensures) (hides .ensures) (pre .1 .1 .1 .1 .1))
 
 pub current-places-spec : {M : Type 1} → statement M
 current-places-spec =

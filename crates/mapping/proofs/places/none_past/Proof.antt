@@ -63,7 +63,11 @@ mul-n : tie.Need-mul-n
 mul-n c =
     let a = c .before .before .before .before .before .before .before .before .before .args in
     let pre = c .before .before .before .before .before .before .before .before .before .pre in
-    omega (arith, starts-below (geometry (a .g)) (pre .0) (now (a .chip)) (now (a .directory)) (length (now (a .directory))) (pre .1 .1 .0), c .before .before .before .before .before .before .before .before .before .pre .0 .L-to)
+    omega (
+      arith,
+      starts-below (geometry (a .g)) (pre .0) (now (a .chip)) (now (a .directory)) (length (now (a .directory))) (pre .1 .1 .0),
+      pre .0 .L-to,
+    )
 
 sub-n : tie.Need-sub-n
 sub-n c =

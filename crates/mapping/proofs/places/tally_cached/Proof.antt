@@ -4,9 +4,10 @@ use mathlib.Core.Path.{subst₂}
 use Prim.Native.Nat.{ℕ, _-_, _*_, _+_, _≤_}
 use borrow.Author.Needs.{needs}
 use denote.Ref.{now}
+use Rattle.scope.specs.Lent.{none}
 use Rattle.words.specs.Runs.{getD-any}
 use Rattle.mapping.specs.Named.{owns, is-none}
-use Rattle.mapping.specs.Tally.{nothing, Tallied, Tallied-word, room-enough, tallied-start, tallied-more, tallied-room, tallied-done}
+use Rattle.mapping.specs.Tally.{nothing, Tallied, Tallied-word, room-enough, tallied-start, tallied-more, tallied-room, tallied-done, most-counted}
 use Rattle.mapping.specs.Translated.{cached-none, cached-good}
 use Rattle.mapping.proofs.places.tally_cached.Statement.{statement}
 use Rattle.mapping.proofs.places.tally_cached.Tie as tie
@@ -45,7 +46,7 @@ tallied-requires : tie.Need-tallied-requires Inv-loop μ-loop
 tallied-requires c κs =
     let start = c .before .before .before .before .before .before in
     let turn = c .before .before .before .loop in (
-      tallied-room nothing (turn .sum) (turn .i) 1 4294967295 _ _ (turn .inv .1) room-enough (omega (arith, start .pre .0 .1)),
+      tallied-room nothing (turn .sum) (turn .i) 1 most-counted _ _ (turn .inv .1) room-enough (omega (arith, start .pre .0 .1)),
       (start .pre .1 .0, start .pre .1 .1),
     )
 
@@ -64,8 +65,8 @@ loop-again c =
       tallied-more nothing (turn .sum) (c .tallied .result) (turn .i) _ _ (turn .inv .1)
           (subst₂
           (λ (x k : ℕ). Tallied-word (turn .sum) (c .tallied .result) (is-none x) (owns 0 (a .n) (now (a .spare)) k x))
-          (getD-any (now (a .cache)) (turn .i * 3 + 1) 0 4294967295 (omega (arith, start .pre .0 .0)))
-          (getD-any (now (a .cache)) (turn .i * 3) 0 4294967295 (omega (arith, start .pre .0 .0)))
+          (getD-any (now (a .cache)) (turn .i * 3 + 1) 0 none (omega (arith, start .pre .0 .0)))
+          (getD-any (now (a .cache)) (turn .i * 3) 0 none (omega (arith, start .pre .0 .0)))
           (c .tallied .ensures)),
     )
 

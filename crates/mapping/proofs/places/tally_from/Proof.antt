@@ -9,8 +9,8 @@ use denote.Ref.{now}
 use Rattle.scope.specs.Geometry.{M, most-pages}
 use Rattle.scope.specs.Lent.{Nowhere, named}
 use Rattle.scope.specs.Regions.{Translation}
-use Rattle.geometry.specs.Bounds.{data-small, owners-small}
 use Rattle.lent.specs.Model.{geometry, entry}
+use Rattle.geometry.specs.Bounds.{data-small, owners-small}
 use Rattle.mapping.specs.Tally.{room-less}
 use Rattle.mapping.specs.Translated.{held-by, pages-nowhere, page-place, page-starts, read-here, read-on-chip}
 use Rattle.mapping.proofs.places.tally_from.Statement.{statement}
@@ -18,28 +18,28 @@ use Rattle.mapping.proofs.places.tally_from.Tie as tie
 
 -- ---- where there is no such page
 
--- The run behind it ends within the directory.
-run-ends : (c : tie.After-erased-run) → c .erased-run .result ≤ M (geometry (c .before .before .before .before .before .before .before .before .before .args .g))
-run-ends c = omega (arith, c .erased-run .ensures .ends, c .before .before .before .before .before .before .before .before .before .pre .1 .1 .1 .0)
+abbrev start : tie.After-enum-told → tie.Start
+start c = c .before .before .before .before .before .before .before .before
 
-lacking : (c : tie.After-erased-run) → let a = c .before .before .before .before .before .before .before .before .before .args in
-    a .t * a .g .w ≤ held-by (geometry (a .g)) (c .erased-run .result)
+nowhere : (c : tie.After-enum-told) → Nowhere ≡ named (start c .args .t) (now (start c .args .directory))
+nowhere c =
+    let pre = start c .pre in
+    ap entry (sym (c .enum-told .given .1)) ∙ c .before .before .decode .ensures
+    ∙ read-here (now (start c .args .directory)) (start c .args .t) (omega (arith, pre .1 .1 .1 .0, pre .1 .1 .1 .1 .1))
+
+-- The run behind it ends within the directory, and the pages up to there hold more than those before this one.
+run-ends : (c : tie.After-erased-run) → c .erased-run .result ≤ M (geometry (start (c .before) .args .g))
+run-ends c = omega (arith, c .erased-run .ensures .ends, start (c .before) .pre .1 .1 .1 .0)
+
+lacking : (c : tie.After-erased-run) → let a = start (c .before) .args in a .t * a .g .w ≤ held-by (geometry (a .g)) (c .erased-run .result)
 lacking c =
-    let start = c .before .before .before .before .before .before .before .before .before in
-    let a = start .args in
+    let a = start (c .before) .args in
+    let pre = start (c .before) .pre in
     omega (
       arith,
-      page-starts (geometry (a .g)) (start .pre .0 .W-from) (a .t) (start .pre .1 .1 .1 .1 .1),
+      page-starts (geometry (a .g)) (pre .0 .W-from) (a .t) (pre .1 .1 .1 .1 .1),
       mul-le-mul-right {m = a .t} {n = c .erased-run .result} (a .g .w) (omega (arith, c .erased-run .ensures .starts)),
     )
-
-nowhere : (c : tie.After-enum-told) → let a = c .before .before .before .before .before .before .before .before .args in
-    Nowhere ≡ named (a .t) (now (a .directory))
-nowhere c =
-    let start = c .before .before .before .before .before .before .before .before in
-    let pre = start .pre in
-    ap entry (sym (c .enum-told .given .1)) ∙ c .before .before .decode .ensures
-    ∙ read-here (now (start .args .directory)) (start .args .t) (omega (arith, pre .1 .1 .1 .0, pre .1 .1 .1 .1 .1))
 
 -- ---- the needs
 
@@ -75,12 +75,12 @@ erased-run-requires c κs = search needs
 
 mul-least : tie.Need-mul-least
 mul-least c =
-    let start = c .before .before .before .before .before .before .before .before .before in
-    let g = geometry (start .args .g) in
+    let g = geometry (start (c .before) .args .g) in
+    let ok = start (c .before) .pre .0 in
     omega (
       arith,
-      mul-le-mul {n₁ = c .erased-run .result} {m₁ = start .args .g .w} {n₂ = most-pages} {m₂ = 512}
-          (omega (arith, run-ends c, owners-small g Translation (start .pre .0))) (start .pre .0 .W-to),
+      mul-le-mul {n₁ = c .erased-run .result} {m₁ = g .W} {n₂ = most-pages} {m₂ = 512}
+          (omega (arith, run-ends c, owners-small g Translation ok)) (ok .W-to),
     )
 
 cast-least : tie.Need-cast-least
@@ -94,20 +94,20 @@ sub-lacks c = omega (arith, c .least .ensures, lacking (c .before .before))
 
 add-t18 : tie.Need-add-t18
 add-t18 c =
-    let start = c .before .before .before .before .before .before .before .before .before .before .before .before in
-    omega (arith, start .pre .1 .1 .1 .1 .2 .nones-fit, c .before .least .ensures)
+    omega (arith, start (c .before .before .before .before) .pre .1 .1 .1 .1 .2 .nones-fit, c .before .least .ensures)
 
 returns : tie.Need-returns
 returns c =
-    let start = c .before .before .before .before .before .before .before .before .before .before .before .before in
-    let a = start .args in
+    let told = c .before .before .before .before in
+    let a = start told .args in
     let g = geometry (a .g) in
+    let ok = start told .pre .0 in
     let run = c .before .before .before .erased-run in
     record {
       goes-on = omega (arith, run .ensures .starts);
       ends = run-ends (c .before .before .before);
-      counted = pages-nowhere g (start .pre .0) (data-small g (start .pre .0)) (now (a .chip)) (now (a .spare)) (now (a .directory)) (a .t) (run .result) (a .sum) _
-          (nowhere (c .before .before .before .before)) (run .ensures)
+      counted = pages-nowhere g ok (data-small g ok) (now (a .chip)) (now (a .spare)) (now (a .directory)) (a .t) (run .result) (a .sum) _
+          (nowhere told) (run .ensures)
           (ap (λ (k : ℕ). a .sum .nones + (k - a .t * a .g .w)) (c .before .least .ensures)) refl;
     }
 

@@ -6,8 +6,8 @@ use Prim.Native.Nat.{ℕ, _*_}
 use native.Mathlib.Nat.{add-mul}
 use borrow.Author.Needs.{needs}
 use denote.Ref.{now}
-use Rattle.lent.specs.Model.{geometry}
 use Rattle.scope.specs.Regions.{Data}
+use Rattle.lent.specs.Model.{geometry}
 use Rattle.geometry.specs.Bounds.{data-small, owners-small}
 use Rattle.mapping.specs.Tally.{Tallied-words}
 use Rattle.mapping.specs.Translated.{part-held, part-short}
@@ -67,8 +67,9 @@ tally-words-requires c κs =
 returns : tie.Need-returns
 returns c =
     let a = c .before .before .before .before .before .before .before .before .before .args in
+    let least = c .before .before .before .before .least in
     subst (λ (words : List ℕ). Tallied-words words (a .from) (now (a .spare)) (a .g .d * a .g .p) (a .sum) (c .tally-words .result))
-    (part-held (geometry (a .g)) (now (a .chip)) (a .at) (a .from) (c .before .before .before .before .least .result) (c .before .before .before .before .least .ensures))
+    (part-held (geometry (a .g)) (now (a .chip)) (a .at) (a .from) (least .result) (least .ensures))
     (c .tally-words .ensures)
 
 pub tally-held-spec : {M : Type 1} → statement M

@@ -4,9 +4,10 @@ use mathlib.Core.Path.{subst}
 use Prim.Native.Nat.{ℕ, _-_, _*_, _≤_}
 use borrow.Author.Needs.{needs}
 use denote.Ref.{now}
+use Rattle.scope.specs.Lent.{none}
 use Rattle.lent.specs.Model.{geometry}
 use Rattle.words.specs.Runs.{getD-any}
-use Rattle.mapping.specs.Tally.{nothing, Tallied, Tallied-word, room-enough, tallied-start, tallied-more, tallied-room, tallied-done}
+use Rattle.mapping.specs.Tally.{nothing, Tallied, Tallied-word, room-enough, tallied-start, tallied-more, tallied-room, tallied-done, most-counted}
 use Rattle.mapping.specs.Translated.{stored-none, stored-good, hidden-none, hidden-good}
 use Rattle.mapping.proofs.places.tally_hidden.Statement.{statement}
 use Rattle.mapping.proofs.places.tally_hidden.Tie as tie
@@ -35,7 +36,7 @@ hidden-requires c κs =
     let start = c .before .before .before .before .before .before .before in
     let turn = c .before .before .loop in (
       start .pre .0,
-      (start .pre .1 .0, tallied-room nothing (turn .sum) (turn .i) 1 4294967295 _ _ (turn .inv .1) room-enough (omega (arith, start .pre .1 .1 .1))),
+      (start .pre .1 .0, tallied-room nothing (turn .sum) (turn .i) 1 most-counted _ _ (turn .inv .1) room-enough (omega (arith, start .pre .1 .1 .1))),
     )
 
 add-i : tie.Need-add-i Inv-loop μ-loop
@@ -54,7 +55,7 @@ loop-again c =
           (subst
           (λ (l : ℕ). Tallied-word (turn .sum) (c .hidden .result) (stored-none (geometry (a .g)) (now (a .chip)) (now (a .directory)) l)
           (stored-good (geometry (a .g)) (now (a .chip)) (now (a .spare)) (now (a .directory)) l))
-          (getD-any (now (a .cache)) (turn .i * 3) 0 4294967295 (omega (arith, start .pre .1 .1 .0)))
+          (getD-any (now (a .cache)) (turn .i * 3) 0 none (omega (arith, start .pre .1 .1 .0)))
           (c .hidden .ensures)),
     )
 

@@ -10,7 +10,7 @@ use borrow.Author.Needs.{needs}
 use borrow.Author.Tests.{eq-eqb, ne-eqb}
 use denote.Ref.{now}
 use Rattle.scope.specs.Geometry.{Geometry}
-use Rattle.scope.specs.Lent.{changed-at, physical-at, logical-at}
+use Rattle.scope.specs.Lent.{changed-at, physical-at, logical-at, none}
 use Rattle.scope.specs.Sound.{stored}
 use Rattle.lent.specs.Model.{geometry}
 use Rattle.words.specs.Runs.{getD-any}
@@ -42,7 +42,7 @@ returns : tie.Need-returns
 returns c =
     let a = c .before .before .before .before .before .args in
     changed (geometry (a .g)) (now (a .chip)) (now (a .directory)) (now (a .cache)) (a .i)
-    (λ e. c .if1 .taken (getD-any (now (a .cache)) (a .i * 3 + 2) 0 4294967295 (omega (arith, c .before .before .before .before .before .pre .1)) ∙ e))
+    (λ e. c .if1 .taken (getD-any (now (a .cache)) (a .i * 3 + 2) 0 none (omega (arith, c .before .before .before .before .before .pre .1)) ∙ e))
 
 mul-stored : tie.Need-mul-stored
 mul-stored c = search needs
@@ -72,11 +72,11 @@ returns-2 : tie.Need-returns-2
 returns-2 c =
     let a = c .before .before .before .before .before .before .before .before .args in
     let fits = c .before .before .before .before .before .before .before .before .pre .1 in
-    ap (λ (x : ℕ). eqb x (c .before .stored .result)) (getD-any (now (a .cache)) (a .i * 3 + 1) 0 4294967295 (omega (arith, fits)))
+    ap (λ (x : ℕ). eqb x (c .before .stored .result)) (getD-any (now (a .cache)) (a .i * 3 + 1) 0 none (omega (arith, fits)))
     ∙ ap (eqb (physical-at (a .i) (now (a .cache)))) (c .before .stored .ensures
-    ∙ ap (stored (geometry (a .g)) (now (a .chip)) (now (a .directory))) (getD-any (now (a .cache)) (a .i * 3) 0 4294967295 (omega (arith, fits))))
+    ∙ ap (stored (geometry (a .g)) (now (a .chip)) (now (a .directory))) (getD-any (now (a .cache)) (a .i * 3) 0 none (omega (arith, fits))))
     ∙ unchanged (geometry (a .g)) (now (a .chip)) (now (a .directory)) (now (a .cache)) (a .i)
-    (getD-any (now (a .cache)) (a .i * 3 + 2) 4294967295 0 (omega (arith, fits)) ∙ c .before .before .before .if1 .left)
+    (getD-any (now (a .cache)) (a .i * 3 + 2) none 0 (omega (arith, fits)) ∙ c .before .before .before .if1 .left)
 
 pub agrees-spec : {M : Type 1} → statement M
 agrees-spec =

@@ -6,7 +6,7 @@ use Prim.Native.Nat.{ℕ, _*_, _/_, _≤_, _<_}
 use lib.ListN.{getD, List·getD-eq-default}
 use borrow.Author.Needs.{needs}
 use denote.Ref.{now}
-use Rattle.scope.specs.Lent.{Place, decode}
+use Rattle.scope.specs.Lent.{Place, decode, none}
 use Rattle.lent.specs.Decoded.{of-place}
 use Rattle.lent.specs.Model.{geometry, entry}
 use Rattle.words.specs.Runs.{getD-any}
@@ -49,19 +49,20 @@ returns-2 c =
     let a = c .before .before .before .before .before .before .before .before .args in
     stored-nowhere (geometry (a .g)) (now (a .chip)) (now (a .directory)) (a .l)
     (ap entry (sym (c .enum-told .given .1)) ∙ c .before .before .decode .ensures
-    ∙ ap decode (getD-any (now (a .directory)) (a .l / a .g .w) 0 4294967295 (c .before .before .before .before .if1 .left)))
+    ∙ ap decode (getD-any (now (a .directory)) (a .l / a .g .w) 0 none (c .before .before .before .before .if1 .left)))
 
 cast-at : tie.Need-cast-at
 cast-at c = search needs
 
 mul-at : tie.Need-mul-at
 mul-at c =
-    let a = c .before .before .before .before .before .before .before .before .before .args in
+    let start = c .before .before .before .before .before .before .before .before .before in
+    let a = start .args in
     omega (
       arith,
       small (getD (now (a .directory)) (a .l / a .g .w) 0) _ (a .g .w)
           (c .before .before .before .before .shared-slice-known3 .given (a .l / a .g .w) .fits)
-          (ap entry (sym (c .before .e .given .1)) ∙ c .before .before .before .decode .ensures) (c .before .before .before .before .before .before .before .before .before .pre .W-to),
+          (ap entry (sym (c .before .e .given .1)) ∙ c .before .before .before .decode .ensures) (start .pre .W-to),
     )
 
 rem-at : tie.Need-rem-at
@@ -69,22 +70,23 @@ rem-at c = search needs
 
 add-at : tie.Need-add-at
 add-at c =
-    let a = c .before .before .before .before .before .before .before .before .before .args in
+    let start = c .before .before .before .before .before .before .before .before .before in
+    let a = start .args in
     omega (
       arith,
       small (getD (now (a .directory)) (a .l / a .g .w) 0) _ (a .g .w)
           (c .before .before .before .before .shared-slice-known3 .given (a .l / a .g .w) .fits)
-          (ap entry (sym (c .before .e .given .1)) ∙ c .before .before .before .decode .ensures) (c .before .before .before .before .before .before .before .before .before .pre .W-to),
-      mod-lt (a .l) (c .before .before .before .before .before .before .before .before .before .pre .W-from),
+          (ap entry (sym (c .before .e .given .1)) ∙ c .before .before .before .decode .ensures) (start .pre .W-to),
+      mod-lt (a .l) (start .pre .W-from),
     )
 
 returns-3 : tie.Need-returns-3
 returns-3 c =
     let a = c .before .before .before .before .before .before .before .before .before .before .args in
-    sym (List·getD-eq-default (now (a .chip)) 4294967295 (c .if2 .taken))
+    sym (List·getD-eq-default (now (a .chip)) none (c .if2 .taken))
     ∙ stored-place (geometry (a .g)) (now (a .chip)) (now (a .directory)) (a .l) _
     (ap entry (sym (c .before .before .e .given .1)) ∙ c .before .before .before .before .decode .ensures
-    ∙ ap decode (getD-any (now (a .directory)) (a .l / a .g .w) 0 4294967295 (c .before .before .before .before .before .before .if1 .left)))
+    ∙ ap decode (getD-any (now (a .directory)) (a .l / a .g .w) 0 none (c .before .before .before .before .before .before .if1 .left)))
 
 mul-result : tie.Need-mul-result
 mul-result c = search needs
@@ -95,10 +97,10 @@ shared-slice-read-result c = search needs
 returns-4 : tie.Need-returns-4
 returns-4 c =
     let a = c .before .before .before .before .before .before .before .before .before .before .before .args in
-    getD-any (now (a .chip)) _ 0 4294967295 (c .before .if2 .left)
+    getD-any (now (a .chip)) _ 0 none (c .before .if2 .left)
     ∙ stored-place (geometry (a .g)) (now (a .chip)) (now (a .directory)) (a .l) _
     (ap entry (sym (c .before .before .before .e .given .1)) ∙ c .before .before .before .before .before .decode .ensures
-    ∙ ap decode (getD-any (now (a .directory)) (a .l / a .g .w) 0 4294967295 (c .before .before .before .before .before .before .before .if1 .left)))
+    ∙ ap decode (getD-any (now (a .directory)) (a .l / a .g .w) 0 none (c .before .before .before .before .before .before .before .if1 .left)))
 
 pub stored-spec : {M : Type 1} → statement M
 stored-spec =

@@ -2,8 +2,8 @@
 use Prim.Native.Nat.{_-_}
 use borrow.Author.Needs.{needs}
 use denote.Ref.{now}
-use Rattle.lent.specs.Model.{geometry}
 use Rattle.flash.specs.Tests.{decides-by, Tested, tested-none, tested-more, tested-stops, tested-done}
+use Rattle.lent.specs.Model.{geometry}
 use Rattle.mapping.specs.Stored.{agrees, agree-decided}
 use Rattle.mapping.proofs.stored.unchanged_agree.Statement.{statement}
 use Rattle.mapping.proofs.stored.unchanged_agree.Tie as tie
@@ -22,10 +22,12 @@ agrees-requires c κs = search needs
 
 returns : tie.Need-returns Inv-loop μ-loop
 returns c =
-    let a = c .before .before .before .before .before .before .before .args in
+    let start = c .before .before .before .before .before .before .before in
+    let a = start .args in
     decides-by
-    (tested-stops _ _ (c .before .agrees .result) (c .before .before .before .loop .inv) (c .before .before .loop-test .taken) (c .before .agrees .ensures) (c .if1 .taken))
-    (agree-decided (geometry (a .g)) (now (a .chip)) (now (a .directory)) (now (a .cache)) (a .used) (c .before .before .before .before .before .before .before .pre .1 .1))
+    (tested-stops _ _ (c .before .agrees .result) (c .before .before .before .loop .inv) (c .before .before .loop-test .taken)
+    (c .before .agrees .ensures) (c .if1 .taken))
+    (agree-decided (geometry (a .g)) (now (a .chip)) (now (a .directory)) (now (a .cache)) (a .used) (start .pre .1 .1))
 
 add-i : tie.Need-add-i Inv-loop μ-loop
 add-i c = search needs
@@ -35,7 +37,8 @@ loop-less c = search needs
 
 loop-again : tie.Need-loop-again Inv-loop μ-loop
 loop-again c =
-    tested-more _ _ (c .before .agrees .result) (c .before .before .before .loop .inv) (c .before .before .loop-test .taken) (c .before .agrees .ensures) (c .if1 .left)
+    tested-more _ _ (c .before .agrees .result) (c .before .before .before .loop .inv) (c .before .before .loop-test .taken)
+    (c .before .agrees .ensures) (c .if1 .left)
 
 returns-2 : tie.Need-returns-2 Inv-loop μ-loop
 returns-2 c =

@@ -70,9 +70,10 @@ returns-2 c =
 
 returns-3 : tie.Need-returns-3
 returns-3 c =
-    let a = c .before .before .before .before .args in
+    let start = c .before .before .before .before in
+    let a = start .args in
     sym (ap (λ (b : Bool). cond b 1 0)
-    (pair-owns (a .first) (a .n) (a .spare .now) (a .k) (a .at) (c .before .if1 .left) (c .before .before .before .before .pre .1) (omega (arith, c .before .before .before .before .pre)) (c .if2 .left)
+    (pair-owns (a .first) (a .n) (a .spare .now) (a .k) (a .at) (c .before .if1 .left) (start .pre .1) (omega (arith, start .pre)) (c .if2 .left)
     (omega (arith, c .before .before .before .shared-slice-known .given (a .at * 2)))))
 
 pub owned-spec : {M : Type 1} → statement M

@@ -1,11 +1,11 @@
 -- `tally::tally_words` meets its contract. The loop's invariant: the words before i are counted.
 use native.Mathlib.Omega.{arith}
 use mathlib.Core.Path.{refl}
-use Prim.Native.Nat.{_+_, _-_, _≤_}
+use Prim.Native.Nat.{ℕ, _+_, _-_, _≤_}
 use lib.ListN.{length}
 use borrow.Author.Needs.{needs}
 use denote.Ref.{now}
-use Rattle.mapping.specs.Tally.{Tallied, word-none, word-good, nones-counted, tallied-start, tallied-run, tallied-room, tallied-done}
+use Rattle.mapping.specs.Tally.{Tallied, word-none, word-good, nones-counted, tallied-start, tallied-run, tallied-room, tallied-done, most-counted}
 use Rattle.mapping.proofs.tally.tally_words.Statement.{statement}
 use Rattle.mapping.proofs.tally.tally_words.Tie as tie
 
@@ -23,49 +23,60 @@ loop-holds c = (omega arith, tallied-start _ _ _)
 run-of-places-requires : tie.Need-run-of-places-requires Inv-loop μ-loop
 run-of-places-requires c κs = search needs
 
--- The words up to the run's end are counted.
+-- ---- what is counted: the words up to the end of the run of places, and up to the end of the run behind it
+
+abbrev start : tie.At-loop Inv-loop μ-loop → tie.Start Inv-loop μ-loop
+start c = c .before .before .before
+
+abbrev Up-to : tie.At-loop Inv-loop μ-loop → ℕ → ℕ → ℕ → Type 0
+Up-to c nones good at =
+    let a = start c .args in
+    Tallied (a .t) (record { nones = nones; good = good }) at (word-none (now (a .words)))
+    (word-good (now (a .words)) (a .from) (now (a .spare)) (a .first) (a .n))
+
+-- So that both counts are small.
+counts-fit : (c : tie.At-loop Inv-loop μ-loop) (nones good at : ℕ) → Up-to c nones good at → at ≤ length (now (start c .args .words))
+    → (nones ≤ most-counted) × (good ≤ most-counted)
+counts-fit c nones good at counted inside =
+    let a = start c .args in
+    let room = tallied-room (a .t) _ at 0 (length (now (a .words))) _ _ counted (start c .pre .0) (omega arith) in
+    (omega (arith, room .nones-fit), omega (arith, room .good-fit))
+
 to-run : (c : tie.After-struct-known Inv-loop μ-loop)
-    → let a = c .before .before .before .before .before .before .args in
-    let turn = c .before .before .before .loop in
+    → let turn = c .before .before .before in
     let run = c .before .run-of-places .result in
-    Tallied (a .t) (record { nones = turn .nones; good = turn .good + run .found }) (run .at) (word-none (now (a .words))) (word-good (now (a .words)) (a .from) (now (a .spare)) (a .first) (a .n))
+    Up-to turn (turn .loop .nones) (turn .loop .good + run .found) (run .at)
 to-run c =
     let turn = c .before .before .before .loop in
     let run = c .before .run-of-places in
     tallied-run _ _ _ (turn .i) (run .result .at) _ 0 (run .result .found) _ _ (turn .inv .1) (run .ensures .0) (omega arith) refl
 
--- And those up to the end of the run behind it.
 to-rest : (c : tie.After-struct-known2 Inv-loop μ-loop)
-    → let a = c .before .before .before .before .before .before .before .before .before .args in
-    let turn = c .before .before .before .before .before .before .loop in
+    → let turn = c .before .before .before .before .before .before in
     let run = c .before .before .before .before .run-of-places .result in
     let rest = c .before .run-of-nones .result in
-    Tallied (a .t) (record { nones = turn .nones + rest .found; good = turn .good + run .found }) (rest .at) (word-none (now (a .words))) (word-good (now (a .words)) (a .from) (now (a .spare)) (a .first) (a .n))
+    Up-to turn (turn .loop .nones + rest .found) (turn .loop .good + run .found) (rest .at)
 to-rest c =
-    let start = c .before .before .before .before .before .before .before .before .before in
-    let a = start .args in
+    let s = start (c .before .before .before .before .before .before) in
+    let a = s .args in
     let run = c .before .before .before .before .run-of-places in
     let rest = c .before .run-of-nones in
     tallied-run _ _ _ (run .result .at) (rest .result .at) _ (rest .result .found) 0 _ _ (to-run (c .before .before .before))
-    (nones-counted (now (a .words)) (run .result .at) (rest .result) (a .from) (now (a .spare)) (a .first) (a .n) (start .pre .1 .1 .1) (run .ensures .1 (omega arith)) (rest .ensures))
+    (nones-counted (now (a .words)) (run .result .at) (rest .result) (a .from) (now (a .spare)) (a .first) (a .n) (s .pre .1 .1 .1)
+    (run .ensures .1 (omega arith)) (rest .ensures))
     refl (omega arith)
 
+-- ---- the needs
+
 add-good : tie.Need-add-good Inv-loop μ-loop
-add-good c =
-    let start = c .before .before .before .before .before .before in
-    let run = c .before .run-of-places in
-    let room = tallied-room (start .args .t) _ (run .result .at) 0 (length (now (start .args .words))) _ _ (to-run c) (start .pre .0) (omega (arith, run .ensures .0 .ends)) in
-    omega (arith, room .good-fit)
+add-good c = omega (arith, counts-fit (c .before .before .before) _ _ _ (to-run c) (c .before .run-of-places .ensures .0 .ends) .1)
 
 run-of-nones-requires : tie.Need-run-of-nones-requires Inv-loop μ-loop
 run-of-nones-requires c κs = search needs
 
 add-nones : tie.Need-add-nones Inv-loop μ-loop
 add-nones c =
-    let start = c .before .before .before .before .before .before .before .before .before in
-    let rest = c .before .run-of-nones in
-    let room = tallied-room (start .args .t) _ (rest .result .at) 0 (length (now (start .args .words))) _ _ (to-rest c) (start .pre .0) (omega (arith, rest .ensures .behind .ends)) in
-    omega (arith, room .nones-fit)
+    omega (arith, counts-fit (c .before .before .before .before .before .before) _ _ _ (to-rest c) (c .before .run-of-nones .ensures .behind .ends) .0)
 
 loop-less : tie.Need-loop-less Inv-loop μ-loop
 loop-less c =

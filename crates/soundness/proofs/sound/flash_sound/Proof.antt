@@ -3,11 +3,11 @@ use native.Mathlib.Omega.{arith}
 use borrow.Author.Needs.{needs}
 use borrow.Author.Tests.{not-true, not-false}
 use denote.Ref.{now}
-use Rattle.lent.specs.Model.{geometry}
-use Rattle.flash.specs.Owners.{owners-fit}
-use Rattle.flash.specs.Tests.{held, part-refused}
 use Rattle.scope.specs.Laws.Decides.{by-same}
 use Rattle.scope.specs.Regions.{Data, Translation}
+use Rattle.flash.specs.Owners.{owners-fit}
+use Rattle.flash.specs.Tests.{part-passed, part-refused}
+use Rattle.lent.specs.Model.{geometry}
 use Rattle.survey.specs.Census.{both-taken}
 use Rattle.survey.specs.Survey.{found-broken, whole-reaches}
 use Rattle.soundness.proofs.sound.flash_sound.Statement.{statement}
@@ -17,28 +17,35 @@ data-fits-requires : tie.Need-data-fits-requires
 data-fits-requires c κs =
     let start = c .before .before .before .before .before in
     let a = start .args in
-    (start .pre .0, whole-reaches (geometry (a .g)) Data (now (a .chip)) (now (a .spare)) (now (a .census)) (start .pre .1 .0) (start .pre .1 .1 .0) (start .pre .1 .1 .1 .1))
+    let pre = start .pre in
+    (pre .0, whole-reaches (geometry (a .g)) Data (now (a .chip)) (now (a .spare)) (now (a .census)) (pre .1 .0) (pre .1 .1 .0) (pre .1 .1 .1 .1))
 
 same-length : tie.Need-same-length
 same-length c = search needs
 
 returns : tie.Need-returns
 returns c =
-    found-broken _ _ (not-true _ (c .if1 .taken)) (part-refused (c .before .before .before .before .data-fits .ensures .tells) (c .if1 .taken) (λ f. f .in-data))
+    found-broken _ _ (not-true _ (c .if1 .taken))
+    (part-refused (c .before .before .before .before .data-fits .ensures .tells) (c .if1 .taken) (λ f. f .in-data))
 
 translation-fits-requires : tie.Need-translation-fits-requires
 translation-fits-requires c κs =
     let start = c .before .before .before .before .before .before .before .before .before .before .before in
     let a = start .args in
     let taken = c .before .before .before .before .before .data-fits .ensures .numbers (not-false _ (c .before .if1 .left)) in
-    (start .pre .0, whole-reaches (geometry (a .g)) Translation (now (a .chip)) (now (a .spare)) _ (start .pre .1 .0) (start .pre .1 .1 .0) (omega (arith, taken .as-long, start .pre .1 .1 .1 .1)))
+    let pre = start .pre in (
+      pre .0,
+      whole-reaches (geometry (a .g)) Translation (now (a .chip)) (now (a .spare)) _ (pre .1 .0) (pre .1 .1 .0)
+          (omega (arith, taken .as-long, pre .1 .1 .1 .1)),
+    )
 
 same-length-2 : tie.Need-same-length-2
 same-length-2 c = search needs
 
 returns-2 : tie.Need-returns-2
 returns-2 c =
-    found-broken _ _ (not-true _ (c .if2 .taken)) (part-refused (c .before .before .before .before .translation-fits .ensures .tells) (c .if2 .taken) (λ f. f .in-translation))
+    found-broken _ _ (not-true _ (c .if2 .taken))
+    (part-refused (c .before .before .before .before .translation-fits .ensures .tells) (c .if2 .taken) (λ f. f .in-translation))
 
 directory-names-requires : tie.Need-directory-names-requires
 directory-names-requires c κs =
@@ -51,7 +58,7 @@ directory-names-requires c κs =
         (
           start .pre .1 .1 .1 .0,
           (
-            owners-fit (geometry (a .g)) Translation (now (a .chip)) (now (a .spare)) (held (translation .tells) (c .if2 .left) .pages),
+            owners-fit (geometry (a .g)) Translation (now (a .chip)) (now (a .spare)) (part-passed (translation .tells) (c .if2 .left) .pages),
             translation .counts (not-false _ (c .if2 .left)),
           ),
         ),
@@ -71,15 +78,17 @@ returns-3 c =
     record {
       tells = by-same
           (λ x. record {
-            in-data = held (in-data .tells) data-left;
-            in-translation = held (in-translation .tells) translation-left;
+            in-data = part-passed (in-data .tells) data-left;
+            in-translation = part-passed (in-translation .tells) translation-left;
             differ = x .0;
             names = x .1;
           })
           (λ f. (f .differ, f .names))
           (c .directory-names .ensures);
       counts = λ p. in-data .counts (not-false _ data-left);
-      numbers = λ p. both-taken (geometry (start .args .g)) (start .pre .1 .1 .1 .1) (in-data .numbers (not-false _ data-left)) (in-translation .numbers (not-false _ translation-left));
+      numbers = λ p.
+          both-taken (geometry (start .args .g)) (start .pre .1 .1 .1 .1) (in-data .numbers (not-false _ data-left))
+          (in-translation .numbers (not-false _ translation-left));
     }
 
 pub flash-sound-spec : {M : Type 1} → statement M

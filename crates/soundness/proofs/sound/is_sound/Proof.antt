@@ -3,13 +3,13 @@ use mathlib.Core.Path.{refl}
 use borrow.Author.Needs.{needs}
 use borrow.Author.Tests.{not-false}
 use denote.Ref.{now}
-use Rattle.flash.specs.Cases.{clash}
-use Rattle.flash.specs.Owners.{owners-fit}
-use Rattle.flash.specs.Tests.{decided-same, held, part-refused}
-use Rattle.lent.specs.Model.{geometry, state}
 use Rattle.scope.specs.Laws.Decided.{sound-decided}
 use Rattle.scope.specs.Laws.Decides.{by-same}
 use Rattle.scope.specs.Regions.{Data}
+use Rattle.flash.specs.Cases.{clash}
+use Rattle.flash.specs.Owners.{owners-fit}
+use Rattle.flash.specs.Tests.{decided-same, part-passed, part-refused}
+use Rattle.lent.specs.Model.{geometry, state}
 use Rattle.soundness.specs.Whole.{flash-of-sound, cache-of-sound, sound-of-both}
 use Rattle.soundness.proofs.sound.is_sound.Statement.{statement}
 use Rattle.soundness.proofs.sound.is_sound.Tie as tie
@@ -36,7 +36,7 @@ cache-sound-requires c κs =
     let start = c .before .before .before .before .before .before .before .before .before .before .before .before in
     let a = start .args in
     let flash = c .before .before .before .before .before .flash-sound .ensures in
-    let holds = held (flash .tells) (c .before .if1 .left) in (
+    let holds = part-passed (flash .tells) (c .before .if1 .left) in (
       start .pre .0,
       (
         start .pre .1 .0,
@@ -58,7 +58,7 @@ returns-2 c =
     let flash-left = c .before .before .if1 .left in (
       decided-same
           (by-same
-          (sound-of-both g (now (a .chip)) (now (a .spare)) (now (a .directory)) (now (a .cache)) (a .rec) (held (flash .tells) flash-left))
+          (sound-of-both g (now (a .chip)) (now (a .spare)) (now (a .directory)) (now (a .cache)) (a .rec) (part-passed (flash .tells) flash-left))
           (cache-of-sound g (now (a .chip)) (now (a .spare)) (now (a .directory)) (now (a .cache)) (a .rec))
           (c .cache-sound .ensures .0))
           (sound-decided g (state (now (a .chip)) (now (a .spare)) (now (a .directory)) (now (a .cache)) (a .rec))),

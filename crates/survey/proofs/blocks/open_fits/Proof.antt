@@ -13,8 +13,9 @@ count-state-requires c κs = search needs
 
 returns : tie.Need-returns
 returns c =
-    let a = c .before .before .before .args in
-    rw (open-counted (a .p) (a .spare .now) (a .opened) (a .offset) (c .before .before .before .pre .1), ← c .before .count-state .ensures, ne-eqb _ _ (c .if1 .taken))
+    let start = c .before .before .before in
+    let a = start .args in
+    rw (open-counted (a .p) (a .spare .now) (a .opened) (a .offset) (start .pre .1), ← c .before .count-state .ensures, ne-eqb _ _ (c .if1 .taken))
 
 sub-rest : tie.Need-sub-rest
 sub-rest c = search needs
@@ -27,8 +28,14 @@ count-state-requires-2 c κs = search needs
 
 returns-2 : tie.Need-returns-2
 returns-2 c =
-    let a = c .before .before .before .before .args in
-    rw (open-counted (a .p) (a .spare .now) (a .opened) (a .offset) (c .before .before .before .before .pre .1), ← c .before .before .count-state .ensures, eq-eqb _ _ (c .before .if1 .left), ← c .count-state2 .ensures)
+    let start = c .before .before .before .before in
+    let a = start .args in
+    rw (
+      open-counted (a .p) (a .spare .now) (a .opened) (a .offset) (start .pre .1),
+      ← c .before .before .count-state .ensures,
+      eq-eqb _ _ (c .before .if1 .left),
+      ← c .count-state2 .ensures,
+    )
 
 pub open-fits-spec : {M : Type 1} → statement M
 open-fits-spec =

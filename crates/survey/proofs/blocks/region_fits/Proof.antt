@@ -2,8 +2,8 @@
 use native.Mathlib.Omega.{arith}
 use borrow.Author.Needs.{needs}
 use borrow.Author.Tests.{le-leb, lt-leb, lt-ltb, le-ltb}
-use Rattle.survey.specs.Blocks.{rule-3, blocks-inside, block-inside}
 use Rattle.flash.specs.Tests.{refused, passed}
+use Rattle.survey.specs.Blocks.{rule-3, blocks-inside, block-inside}
 use Rattle.survey.specs.Survey.{found-stopped}
 use Rattle.survey.proofs.blocks.region_fits.Statement.{statement}
 use Rattle.survey.proofs.blocks.region_fits.Tie as tie
@@ -48,7 +48,12 @@ returns-4 : tie.Need-returns-4
 unfolding rule-3
 returns-4 c =
     found-stopped _ _ _ (c .broken4 .ensures)
-    (simp (le-leb _ _ (c .before .before .before .before .before .if1 .left), lt-ltb _ _ (c .before .before .before .before .if2 .left), le-leb _ _ (c .before .before .before .if3 .left), refused (c .before .before .open-fits .ensures) (c .before .if4 .taken)))
+    (simp (
+      le-leb _ _ (c .before .before .before .before .before .if1 .left),
+      lt-ltb _ _ (c .before .before .before .before .if2 .left),
+      le-leb _ _ (c .before .before .before .if3 .left),
+      refused (c .before .before .open-fits .ensures) (c .before .if4 .taken),
+    ))
 
 walk-requires : tie.Need-walk-requires
 walk-requires c κs = search needs
@@ -60,7 +65,13 @@ returns-5 : tie.Need-returns-5
 unfolding rule-3
 returns-5 c =
     record {
-      tells = simp (le-leb _ _ (c .before .before .before .before .before .before .before .before .if1 .left), lt-ltb _ _ (c .before .before .before .before .before .before .before .if2 .left), le-leb _ _ (c .before .before .before .before .before .before .if3 .left), passed (c .before .before .before .before .before .open-fits .ensures) (c .before .before .before .before .if4 .left)) (c .before .before .walk .ensures .tells);
+      tells = simp (
+        le-leb _ _ (c .before .before .before .before .before .before .before .before .if1 .left),
+        lt-ltb _ _ (c .before .before .before .before .before .before .before .if2 .left),
+        le-leb _ _ (c .before .before .before .before .before .before .if3 .left),
+        passed (c .before .before .before .before .before .open-fits .ensures) (c .before .before .before .before .if4 .left),
+      )
+          (c .before .before .walk .ensures .tells);
       counts = c .before .before .walk .ensures .counts;
       numbers = c .before .before .walk .ensures .numbers;
     }

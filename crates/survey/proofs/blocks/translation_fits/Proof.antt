@@ -1,8 +1,8 @@
 -- `blocks::translation_fits` meets its contract.
 use native.Mathlib.Omega.{arith}
 use borrow.Author.Needs.{needs}
-use Rattle.lent.specs.Model.{geometry, small}
 use Rattle.scope.specs.Regions.{Translation}
+use Rattle.lent.specs.Model.{geometry, small}
 use Rattle.geometry.specs.Bounds.{owners-small}
 use Rattle.survey.specs.Survey.{found-region}
 use Rattle.survey.proofs.blocks.translation_fits.Statement.{statement}
@@ -16,7 +16,8 @@ translation-pages-requires c κs = search needs
 
 cast-region-fits-2 : tie.Need-cast-region-fits-2
 cast-region-fits-2 c =
-    omega (arith, c .translation-pages .ensures, owners-small (geometry (c .before .before .before .before .before .args .g)) Translation (c .before .before .before .before .before .pre .0))
+    let start = c .before .before .before .before .before in
+    omega (arith, c .translation-pages .ensures, owners-small (geometry (start .args .g)) Translation (start .pre .0))
 
 cast-region-fits-3 : tie.Need-cast-region-fits-3
 cast-region-fits-3 c = search needs
@@ -42,8 +43,10 @@ same-length c = search needs
 returns : tie.Need-returns
 returns c =
     let a = c .before .before .before .before .before .before .before .before .before .before .before .before .before .before .args in
-    found-region (geometry (a .g)) Translation (a .chip .now) (a .spare .now) (small (a .small)) (c .before .before .region-fits .result) (c .before .before .before .before .before .before .before .before .before .translation-pages .result) (c .before .before .before .before .before .before .before .before .before .translation-pages .ensures)
-    (c .before .before .region-fits .ensures)
+    let walk = c .before .before .region-fits in
+    let limit = c .before .before .before .before .before .before .before .before .before .translation-pages in
+    found-region (geometry (a .g)) Translation (a .chip .now) (a .spare .now) (small (a .small)) (walk .result) (limit .result) (limit .ensures)
+    (walk .ensures)
 
 pub translation-fits-spec : {M : Type 1} → statement M
 translation-fits-spec =

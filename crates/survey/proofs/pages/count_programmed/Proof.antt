@@ -24,20 +24,22 @@ fit-more : (c : tie.After-fits-programmed Inv-loop μ-loop)
     let turn = c .before .before .before .before .loop in
     turn .fit + c .fits-programmed .result ≡ count (turn .i + 1) (λ j. programmed-at (a .limit) (a .spare .now) (a .first + j))
 fit-more c =
-    let a = c .before .before .before .before .before .before .args in
+    let start = c .before .before .before .before .before .before in
+    let a = start .args in
     let turn = c .before .before .before .before .loop in
     programmed-more (a .limit) (a .spare .now) (a .first) (turn .i) (turn .fit) (c .fits-programmed .result)
-    (omega (arith, c .before .before .before .before .before .before .pre .0, c .before .before .before .loop-test)) (turn .inv .1) (c .fits-programmed .ensures)
+    (omega (arith, start .pre .0, c .before .before .before .loop-test)) (turn .inv .1) (c .fits-programmed .ensures)
 
 valid-more : (c : tie.After-is-valid Inv-loop μ-loop)
     → let a = c .before .before .before .before .before .before .before .args in
     let turn = c .before .before .before .before .before .loop in
     turn .valid + c .is-valid .result ≡ count (turn .i + 1) (λ j. is-valid (a .first + j) (a .spare .now))
 valid-more c =
-    let a = c .before .before .before .before .before .before .before .args in
+    let start = c .before .before .before .before .before .before .before in
+    let a = start .args in
     let turn = c .before .before .before .before .before .loop in
     count-more (a .spare .now) (λ j. a .first + j) valid (turn .i) (turn .valid) (c .is-valid .result)
-    (omega (arith, c .before .before .before .before .before .before .before .pre .0, c .before .before .before .before .loop-test)) (turn .inv .2) (c .is-valid .ensures)
+    (omega (arith, start .pre .0, c .before .before .before .before .loop-test)) (turn .inv .2) (c .is-valid .ensures)
 
 loop-holds : tie.Need-loop-holds Inv-loop μ-loop
 loop-holds c = search needs
@@ -74,16 +76,20 @@ fits-programmed-requires c κs = search needs
 
 add-fit : tie.Need-add-fit Inv-loop μ-loop
 add-fit c =
-    let a = c .before .before .before .before .before .before .args in
-    omega (arith, fit-more c, count-le (c .before .before .before .before .loop .i + 1) (λ j. programmed-at (a .limit) (a .spare .now) (a .first + j)), c .before .before .before .before .before .before .pre .1)
+    let start = c .before .before .before .before .before .before in
+    let a = start .args in
+    let next = c .before .before .before .before .loop .i + 1 in
+    omega (arith, fit-more c, count-le next (λ j. programmed-at (a .limit) (a .spare .now) (a .first + j)), start .pre .1)
 
 is-valid-requires : tie.Need-is-valid-requires Inv-loop μ-loop
 is-valid-requires c κs = search needs
 
 add-valid : tie.Need-add-valid Inv-loop μ-loop
 add-valid c =
-    let a = c .before .before .before .before .before .before .before .args in
-    omega (arith, valid-more c, count-le (c .before .before .before .before .before .loop .i + 1) (λ j. is-valid (a .first + j) (a .spare .now)), c .before .before .before .before .before .before .before .pre .1)
+    let start = c .before .before .before .before .before .before .before in
+    let a = start .args in
+    let next = c .before .before .before .before .before .loop .i + 1 in
+    omega (arith, valid-more c, count-le next (λ j. is-valid (a .first + j) (a .spare .now)), start .pre .1)
 
 add-i : tie.Need-add-i Inv-loop μ-loop
 add-i c = search needs

@@ -12,8 +12,9 @@ use Rattle.survey.proofs.pages.page_fits.Tie as tie
 
 -- What the two words that were read say is what the rule says.
 by-words : (c : tie.Start) (b : Bool)
-    → b ≡ rule-1-words (c .args .limit) (getD (c .args .spare .now) (c .args .p * 2) 0) (getD (c .args .spare .now) (c .args .p * 2 + 1) 0) (blank (c .args .w) (c .args .chip .now) (c .args .p))
-    → b ≡ rule-1 (c .args .w) (c .args .limit) (c .args .chip .now) (c .args .spare .now) (c .args .p)
+    → let a = c .args in
+    b ≡ rule-1-words (a .limit) (getD (a .spare .now) (a .p * 2) 0) (getD (a .spare .now) (a .p * 2 + 1) 0) (blank (a .w) (a .chip .now) (a .p))
+    → b ≡ rule-1 (a .w) (a .limit) (a .chip .now) (a .spare .now) (a .p)
 by-words c b e = e ∙ rule-1-read (c .args .w) (c .args .limit) (c .args .chip .now) (c .args .spare .now) (c .args .p) (c .pre .1)
 
 mul-state : tie.Need-mul-state
@@ -45,7 +46,8 @@ is-blank-requires c κs = search needs
 
 returns-2 : tie.Need-returns-2
 returns-2 c =
-    by-words (c .before .before .before .before .before .before .before) (c .is-blank .result) (simp (eq-eqb _ _ (c .before .before .if1 .taken), eq-eqb _ _ (c .before .if2 .left)) (c .is-blank .ensures))
+    by-words (c .before .before .before .before .before .before .before) (c .is-blank .result)
+    (simp (eq-eqb _ _ (c .before .before .if1 .taken), eq-eqb _ _ (c .before .if2 .left)) (c .is-blank .ensures))
 
 fits-programmed-requires : tie.Need-fits-programmed-requires
 fits-programmed-requires c κs = search needs

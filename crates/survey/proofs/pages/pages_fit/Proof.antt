@@ -1,10 +1,10 @@
 -- `pages::pages_fit` meets its contract.
-use Prim.Native.Nat.{_+_, _-_, _≤_}
+use Prim.Native.Nat.{_+_, _-_}
 use native.Mathlib.Omega.{arith}
 use borrow.Author.Needs.{needs}
 use Rattle.flash.specs.Tests.{Tested, tested-none, tested-more, tested-stops, tested-done}
-use Rattle.survey.specs.Pages.{rule-1}
 use Rattle.geometry.specs.Sizes.{piece-inside}
+use Rattle.survey.specs.Pages.{rule-1}
 use Rattle.survey.proofs.pages.pages_fit.Statement.{statement}
 use Rattle.survey.proofs.pages.pages_fit.Tie as tie
 
@@ -27,7 +27,8 @@ page-fits-requires c κs =
 
 returns : tie.Need-returns Inv-loop μ-loop
 returns c =
-    tested-stops _ _ (c .before .page-fits .result) (c .before .before .before .loop .inv) (c .before .before .loop-test .taken) (c .before .page-fits .ensures) (c .if1 .taken)
+    tested-stops _ _ (c .before .page-fits .result) (c .before .before .before .loop .inv) (c .before .before .loop-test .taken)
+    (c .before .page-fits .ensures) (c .if1 .taken)
 
 add-i : tie.Need-add-i Inv-loop μ-loop
 add-i c = search needs
@@ -37,7 +38,8 @@ loop-less c = search needs
 
 loop-again : tie.Need-loop-again Inv-loop μ-loop
 loop-again c =
-    tested-more _ _ (c .before .page-fits .result) (c .before .before .before .loop .inv) (c .before .before .loop-test .taken) (c .before .page-fits .ensures) (c .if1 .left)
+    tested-more _ _ (c .before .page-fits .result) (c .before .before .before .loop .inv) (c .before .before .loop-test .taken)
+    (c .before .page-fits .ensures) (c .if1 .left)
 
 returns-2 : tie.Need-returns-2 Inv-loop μ-loop
 returns-2 c = tested-done _ _ (c .before .loop .inv) (c .loop-test .left)

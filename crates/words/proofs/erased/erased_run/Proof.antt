@@ -4,7 +4,7 @@ use Prim.Native.Nat.{_-_}
 use lib.ListN.{length}
 use borrow.Author.Needs.{needs}
 use denote.Ref.{now}
-use Rattle.words.specs.Erased.{Erased-run, run-none, run-more}
+use Rattle.words.specs.Erased.{Erased-run, erased-run-none, erased-run-more}
 use Rattle.words.proofs.erased.erased_run.Statement.{statement}
 use Rattle.words.proofs.erased.erased_run.Tie as tie
 
@@ -15,7 +15,7 @@ abbrev μ-loop : tie.MeasureT-loop
 μ-loop words at end₀ end = length words - end
 
 loop-holds : tie.Need-loop-holds Inv-loop μ-loop
-loop-holds c = run-none _ _ (c .before .pre)
+loop-holds c = erased-run-none _ _ (c .before .pre)
 
 sub-loop : tie.Need-sub-loop Inv-loop μ-loop
 sub-loop c = search needs
@@ -36,7 +36,7 @@ loop-again : tie.Need-loop-again Inv-loop μ-loop
 loop-again c =
     let a = c .before .before .before .before .before .args in
     let turn = c .before .before .before .loop in
-    run-more (now (a .words)) (a .at) (turn .end) 16 (c .before .sweep .result) (omega (arith, turn .inv .ends)) (turn .inv) (c .if1 .left)
+    erased-run-more (now (a .words)) (a .at) (turn .end) 16 (c .before .sweep .result) (omega (arith, turn .inv .ends)) (turn .inv) (c .if1 .left)
     (c .before .sweep .ensures)
 
 returns-2 : tie.Need-returns-2 Inv-loop μ-loop
