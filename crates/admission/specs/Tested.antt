@@ -17,7 +17,7 @@ use Rattle.scope.specs.Decisions.{sound}
 use Rattle.scope.specs.Replies.{DONE, GEOMETRY, LENGTH, DAMAGED, KIND, PAGE, Test, first-applying, right-sizes}
 use Rattle.scope.specs.Calls.{state-sizes, size-tests, state-tests, request-tests}
 use Rattle.scope.specs.Laws.Decided.{accepted-decided, sound-decided}
-use Rattle.soundness.specs.Sizes.{sizes-fit}
+use Rattle.geometry.specs.Sizes.{sizes-fit}
 
 -- The first of more tests.
 earlier-applies : (ts us : List Test) {n : ℕ} → n ≡ first-applying ts → n ≢ DONE → n ≡ first-applying (ts ++ us)

@@ -3,10 +3,10 @@
 // cached pages: a state found sound has both. They are no part of the state: a call keeps them on its stack, as long as it lasts.
 use crate::Request;
 use crate::counting::COUNTS_WORDS;
+use geometry::accepts;
+use geometry::sizes_right;
 use lent::Geometry;
 use lent::Record;
-use soundness::geometry::accepts;
-use soundness::geometry::sizes_right;
 use soundness::sound::is_sound;
 ghost use mathlib.Core.Path.{_≡_};
 ghost use mathlib.Core.Bool.{_&&_};
@@ -17,7 +17,7 @@ ghost use Rattle.lent.specs.Model.{geometry, small, state};
 ghost use Rattle.scope.specs.Boundary.{counts-words};
 ghost use Rattle.scope.specs.Calls.{size-tests, request-tests};
 ghost use Rattle.scope.specs.Replies.{DONE, first-applying, right-sizes};
-ghost use Rattle.soundness.specs.Sizes.{sizes};
+ghost use Rattle.geometry.specs.Sizes.{sizes};
 ghost use Rattle.admission.specs.Sizes.{buffer-right, run-right};
 ghost use Rattle.admission.specs.Tested.{State-tested};
 ghost use Rattle.admission.specs.Noted.{Noted};

@@ -113,6 +113,18 @@ count-split (suc n) f h =
     (λ p. on (h n) (λ q. rw (p, q) (omega arith)) (λ q. rw (p, q) (omega arith)))
     (λ p. rw p (omega arith))
 
+-- Where each that passes f passes h, and one passes h alone, f counts less; so where they count the same, h passes no more.
+pub count-less : (n : ℕ) (f h : ℕ → Bool) → ((i : ℕ) → i < n → f i ≡ true → h i ≡ true)
+    → (i : ℕ) → i < n → f i ≡ false → h i ≡ true → count n f < count n h
+count-less n f h sub i k p q =
+    let more : 1 ≤ count n (λ j. h j && not (f j)) = count-one n (λ j. h j && not (f j)) i k (rw (p, q) refl) in
+    let both : count n f ≤ count n (λ j. h j && f j) = count-mono n f (λ j. h j && f j) (λ j l t. rw (sub j l t, t) refl) in
+    omega (arith, count-split n h f)
+
+pub count-tight : (n : ℕ) (f h : ℕ → Bool) → ((i : ℕ) → i < n → f i ≡ true → h i ≡ true) → count n h ≡ count n f
+    → (i : ℕ) → i < n → h i ≡ true → f i ≡ true
+count-tight n f h sub same i k q = is-true (f i) (λ p. omega (arith, count-less n f h sub i k p q))
+
 -- The numbers below m + n: those below m, and those from m on.
 pub count-add : (m n : ℕ) (f : ℕ → Bool) → count (m + n) f ≡ count m f + count n (λ i. f (m + i))
 count-add m zero f = rw (add-zero m) (omega arith)

@@ -22,7 +22,7 @@ use Rattle.scope.specs.Operations.{Counts, no-counts, give, _>>=_}
 use Rattle.scope.specs.Replies.{DONE, first-applying, right-sizes}
 use Rattle.scope.specs.Boundary.{counts-words}
 use Rattle.scope.specs.Calls.{state-sizes, state-tests, RunReplied, run-replied, no-request, serve-record, serve-records, run}
-use Rattle.soundness.specs.Sizes.{piece-inside}
+use Rattle.geometry.specs.Sizes.{piece-inside}
 use Rattle.admission.specs.declared.Request.{Request as Asked}
 use Rattle.admission.specs.Model.{request}
 use Rattle.running.specs.declared.Running.{Running}

@@ -20,7 +20,7 @@ use Rattle.promises.specs.Read.{read-law}
 use Rattle.promises.specs.Write.{write-law}
 use Rattle.promises.specs.Records.{record-stores}
 use Rattle.words.specs.Runs.{length-part}
-use Rattle.soundness.specs.Sizes.{piece-inside}
+use Rattle.geometry.specs.Sizes.{piece-inside}
 use Rattle.admission.specs.Room.{most-cost, read-few, write-few}
 use Rattle.admission.specs.Tested.{request-below}
 

@@ -4,26 +4,28 @@ ghost use mathlib.Core.Path.{_≡_};
 ghost use mathlib.Core.Bool.{true};
 ghost use Prim.Native.Nat.{_≤_};
 ghost use lib.ListN.{length};
-ghost use Rattle.flash.specs.Words.{Lengths-fit};
-ghost use Rattle.lent.specs.Model.{geometry, state, small};
 ghost use Rattle.scope.specs.Decisions.{sound};
 ghost use Rattle.scope.specs.Geometry.{Accepted, blocks};
 ghost use Rattle.scope.specs.Lent.{chip-size, spare-size, directory-size};
+ghost use Rattle.scope.specs.Laws.Decides.{Decides};
 ghost use Rattle.scope.specs.Regions.{Data};
+ghost use Rattle.scope.specs.Sound.{Directory-names};
+ghost use Rattle.flash.specs.Words.{Lengths-fit};
+ghost use Rattle.flash.specs.Owners.{Owners-fit, valid-in};
+ghost use Rattle.lent.specs.Model.{geometry, state, small};
 ghost use Rattle.words.specs.Census.{Census};
 ghost use Rattle.words.specs.Filter.{Filter};
-ghost use Rattle.soundness.specs.Named.{valid-in};
-ghost use Rattle.soundness.specs.Survey.{Found};
-ghost use Rattle.soundness.specs.Whole.{flash-sound, cache-sound, Flash-holds};
-use crate::blocks::Survey;
-use crate::blocks::data_fits;
-use crate::blocks::translation_fits;
-use crate::directory::directory_names;
-use crate::entries::entries_fit;
-use crate::places::places_hold;
-use crate::stored::unchanged_agree;
+ghost use Rattle.survey.specs.Survey.{Found};
+ghost use Rattle.soundness.specs.Whole.{Flash-holds, Cache-holds};
 use lent::Geometry;
 use lent::Record;
+use mapping::directory::directory_names;
+use mapping::entries::entries_fit;
+use mapping::places::places_hold;
+use mapping::stored::unchanged_agree;
+use survey::blocks::Survey;
+use survey::blocks::data_fits;
+use survey::blocks::translation_fits;
 
 // Rules 1 to 4, of chip, spare and directory; where they hold, the valid data pages are counted and the census is taken.
 fn flash_sound(
@@ -39,7 +41,7 @@ fn flash_sound(
     requires { ⌜ length (now spare) ≡ spare-size (geometry g) ⌝ }
     requires { ⌜ length (now directory) ≡ directory-size (geometry g) ⌝ }
     requires { ⌜ blocks (geometry g) ≤ length (now census) ⌝ }
-    ensures { λ r. ⌜ Found r (flash-sound (geometry g) (now (chip .entry)) (now (spare .entry)) (now (directory .entry)) (small rec))
+    ensures { λ r. ⌜ Found r (Flash-holds (geometry g) (now (chip .entry)) (now (spare .entry)) (now (directory .entry)) (small rec))
         (valid-in (geometry g) Data (now (spare .entry)))
         (Census (geometry g) (now (spare .entry)) (now (census .exit))) ⌝ }
 {
@@ -71,9 +73,11 @@ fn cache_sound(
 ) -> bool
     requires { ⌜ Accepted (geometry g) ⌝ }
     requires { ⌜ Lengths-fit (geometry g) (now chip) (now spare) (now directory) (now cache) ⌝ }
-    requires { ⌜ Flash-holds (geometry g) (now spare) (now directory) ⌝ }
+    requires { ⌜ Owners-fit (geometry g) Data (now spare) ⌝ }
+    requires { ⌜ Directory-names (geometry g) (now spare) (now directory) ⌝ }
     requires { ⌜ valid ≡ valid-in (geometry g) Data (now spare) ⌝ }
-    ensures { λ r. ⌜ r ≡ cache-sound (geometry g) (now (chip .entry)) (now (spare .entry)) (now (directory .entry)) (now (cache .entry)) used ⌝ }
+    ensures { λ r. ⌜ Decides r
+        (Cache-holds (geometry g) (now (chip .entry)) (now (spare .entry)) (now (directory .entry)) (now (cache .entry)) used) ⌝ }
     ensures { λ r. ⌜ (r ≡ true → Filter (now (cache .entry)) used (now (filter .exit))) ⌝ }
 {
     if !entries_fit(g, cache, used, filter) {

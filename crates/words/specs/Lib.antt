@@ -2,6 +2,7 @@
 pub mod Runs
 pub mod Entries
 pub mod States
+pub mod Erased
 pub mod Searches
 pub mod Bitmap
 pub mod Census

@@ -7,8 +7,8 @@ use Rattle.lent.specs.Model.{geometry}
 use Rattle.scope.specs.Geometry.{accepted}
 use Rattle.scope.specs.Replies.{right-sizes}
 use Rattle.scope.specs.Laws.Decided.{accepted-decided}
-use Rattle.soundness.specs.Bools.{refused, passed}
-use Rattle.soundness.specs.Sizes.{sizes}
+use Rattle.flash.specs.Tests.{refused, passed}
+use Rattle.geometry.specs.Sizes.{sizes}
 use Rattle.admission.specs.Tested.{geometry-refused, length-refused, other-refused, size-admitted}
 use Rattle.admission.proofs.tests.size_answer.Statement.{statement}
 use Rattle.admission.proofs.tests.size_answer.Tie as tie

@@ -6,7 +6,7 @@ use borrow.Author.Tests.{not-false}
 use denote.Ref.{now}
 use Rattle.lent.specs.Model.{geometry, state}
 use Rattle.scope.specs.Lent.{State}
-use Rattle.soundness.specs.Bools.{refused, passed}
+use Rattle.flash.specs.Tests.{refused, passed}
 use Rattle.admission.specs.Tested.{Sizes-pass, size-applies, sizes-pass, geometry-passes, lengths-pass, damaged, undamaged}
 use Rattle.admission.proofs.tests.state_answer.Statement.{statement}
 use Rattle.admission.proofs.tests.state_answer.Tie as tie

@@ -1,52 +1,64 @@
--- `soundness::sound::flash_sound` meets its contract: rules 1 to 4, each with what the earlier ones give.
-use mathlib.Core.Path.{_∙_}
+-- `sound::flash_sound` meets its contract: rules 1 to 4, each with what the earlier ones give.
+use native.Mathlib.Omega.{arith}
 use borrow.Author.Needs.{needs}
 use borrow.Author.Tests.{not-true, not-false}
 use denote.Ref.{now}
-use Rattle.lent.specs.Model.{geometry, small}
-use Rattle.scope.specs.Regions.{Translation}
-use Rattle.soundness.specs.Bools.{refused, passed}
-use Rattle.soundness.specs.Census.{both-taken}
-use Rattle.soundness.specs.Survey.{found-broken}
-use Rattle.soundness.specs.Whole.{owners-of-region, stops-at-data, stops-at-translation, ends-at-4}
+use Rattle.scope.specs.Laws.Decides.{by-same}
+use Rattle.scope.specs.Regions.{Data, Translation}
+use Rattle.flash.specs.Owners.{owners-fit}
+use Rattle.flash.specs.Tests.{part-passed, part-refused}
+use Rattle.lent.specs.Model.{geometry}
+use Rattle.survey.specs.Census.{both-taken}
+use Rattle.survey.specs.Survey.{found-broken, whole-reaches}
 use Rattle.soundness.proofs.sound.flash_sound.Statement.{statement}
 use Rattle.soundness.proofs.sound.flash_sound.Tie as tie
 
 data-fits-requires : tie.Need-data-fits-requires
-data-fits-requires c κs = search needs
+data-fits-requires c κs =
+    let start = c .before .before .before .before .before in
+    let a = start .args in
+    let pre = start .pre in
+    (pre .0, whole-reaches (geometry (a .g)) Data (now (a .chip)) (now (a .spare)) (now (a .census)) (pre .1 .0) (pre .1 .1 .0) (pre .1 .1 .1 .1))
 
 same-length : tie.Need-same-length
 same-length c = search needs
 
 returns : tie.Need-returns
 returns c =
-    let a = c .before .before .before .before .before .before .before .before .before .before .args in
-    found-broken _ _ _ (not-true _ (c .if1 .taken)) (stops-at-data (geometry (a .g)) (now (a .chip)) (now (a .spare)) (now (a .directory)) (small (a .rec)) (refused (c .before .before .before .before .data-fits .ensures .tells) (c .if1 .taken)))
+    found-broken _ _ (not-true _ (c .if1 .taken))
+    (part-refused (c .before .before .before .before .data-fits .ensures .tells) (c .if1 .taken) (λ f. f .in-data))
 
 translation-fits-requires : tie.Need-translation-fits-requires
-translation-fits-requires c κs = search needs
+translation-fits-requires c κs =
+    let start = c .before .before .before .before .before .before .before .before .before .before .before in
+    let a = start .args in
+    let taken = c .before .before .before .before .before .data-fits .ensures .numbers (not-false _ (c .before .if1 .left)) in
+    let pre = start .pre in (
+      pre .0,
+      whole-reaches (geometry (a .g)) Translation (now (a .chip)) (now (a .spare)) _ (pre .1 .0) (pre .1 .1 .0)
+          (omega (arith, taken .as-long, pre .1 .1 .1 .1)),
+    )
 
 same-length-2 : tie.Need-same-length-2
 same-length-2 c = search needs
 
 returns-2 : tie.Need-returns-2
 returns-2 c =
-    let a = c .before .before .before .before .before .before .before .before .before .before .before .before .before .before .before .before .args in
-    found-broken _ _ _ (not-true _ (c .if2 .taken))
-    (stops-at-translation (geometry (a .g)) (now (a .chip)) (now (a .spare)) (now (a .directory)) (small (a .rec)) (passed (c .before .before .before .before .before .before .before .before .before .before .data-fits .ensures .tells) (c .before .before .before .before .before .before .if1 .left)) (refused (c .before .before .before .before .translation-fits .ensures .tells) (c .if2 .taken)))
+    found-broken _ _ (not-true _ (c .if2 .taken))
+    (part-refused (c .before .before .before .before .translation-fits .ensures .tells) (c .if2 .taken) (λ f. f .in-translation))
 
 directory-names-requires : tie.Need-directory-names-requires
 directory-names-requires c κs =
-    let a = c .before .before .before .before .before .before .before .before .before .before .before .before .before .before .before .before .args in
-    let pre = c .before .before .before .before .before .before .before .before .before .before .before .before .before .before .before .before .pre in
+    let start = c .before .before .before .before .before .before .before .before .before .before .before .before .before .before .before .before in
+    let a = start .args in
     let translation = c .before .before .before .before .translation-fits .ensures in (
-      pre .0,
+      start .pre .0,
       (
-        pre .1 .1 .0,
+        start .pre .1 .1 .0,
         (
-          pre .1 .1 .1 .0,
+          start .pre .1 .1 .1 .0,
           (
-            owners-of-region (geometry (a .g)) Translation (now (a .chip)) (now (a .spare)) (small (a .rec)) (passed (translation .tells) (c .if2 .left)),
+            owners-fit (geometry (a .g)) Translation (now (a .chip)) (now (a .spare)) (part-passed (translation .tells) (c .if2 .left) .pages),
             translation .counts (not-false _ (c .if2 .left)),
           ),
         ),
@@ -58,13 +70,25 @@ same-length-3 c = search needs
 
 returns-3 : tie.Need-returns-3
 returns-3 c =
-    let a = c .before .before .before .before .before .before .before .before .before .before .before .before .before .before .before .before .before .args in
+    let start = c .before .before .before .before .before .before .before .before .before .before .before .before .before .before .before .before .before in
     let data-left = c .before .before .before .before .before .before .before .if1 .left in
+    let in-data = c .before .before .before .before .before .before .before .before .before .before .before .data-fits .ensures in
     let translation-left = c .before .if2 .left in
+    let in-translation = c .before .before .before .before .before .translation-fits .ensures in
     record {
-      tells = c .directory-names .ensures ∙ ends-at-4 (geometry (a .g)) (now (a .chip)) (now (a .spare)) (now (a .directory)) (small (a .rec)) (passed (c .before .before .before .before .before .before .before .before .before .before .before .data-fits .ensures .tells) data-left) (passed (c .before .before .before .before .before .translation-fits .ensures .tells) translation-left);
-      counts = λ p. c .before .before .before .before .before .before .before .before .before .before .before .data-fits .ensures .counts (not-false _ data-left);
-      numbers = λ p. both-taken (geometry (a .g)) (c .before .before .before .before .before .before .before .before .before .before .before .before .before .before .before .before .before .pre .1 .1 .1 .1) (c .before .before .before .before .before .before .before .before .before .before .before .data-fits .ensures .numbers (not-false _ data-left)) (c .before .before .before .before .before .translation-fits .ensures .numbers (not-false _ translation-left));
+      tells = by-same
+          (λ x. record {
+            in-data = part-passed (in-data .tells) data-left;
+            in-translation = part-passed (in-translation .tells) translation-left;
+            differ = x .0;
+            names = x .1;
+          })
+          (λ f. (f .differ, f .names))
+          (c .directory-names .ensures);
+      counts = λ p. in-data .counts (not-false _ data-left);
+      numbers = λ p.
+          both-taken (geometry (start .args .g)) (start .pre .1 .1 .1 .1) (in-data .numbers (not-false _ data-left))
+          (in-translation .numbers (not-false _ translation-left));
     }
 
 pub flash-sound-spec : {M : Type 1} → statement M

@@ -1,12 +1,16 @@
--- `soundness::sound::is_sound` meets its contract: all seven rules, and the census and the filter where they hold.
-use mathlib.Core.Path.{refl, _∙_}
+-- `sound::is_sound` meets its contract: all seven rules, and the census and the filter where they hold.
+use mathlib.Core.Path.{refl}
 use borrow.Author.Needs.{needs}
 use borrow.Author.Tests.{not-false}
 use denote.Ref.{now}
+use Rattle.scope.specs.Laws.Decided.{sound-decided}
+use Rattle.scope.specs.Laws.Decides.{by-same}
+use Rattle.scope.specs.Regions.{Data}
 use Rattle.flash.specs.Cases.{clash}
-use Rattle.lent.specs.Model.{geometry, small}
-use Rattle.soundness.specs.Bools.{refused, passed}
-use Rattle.soundness.specs.Whole.{flash-holds, flash-fails, cache-tells}
+use Rattle.flash.specs.Owners.{owners-fit}
+use Rattle.flash.specs.Tests.{decided-same, part-passed, part-refused}
+use Rattle.lent.specs.Model.{geometry, state}
+use Rattle.soundness.specs.Whole.{flash-of-sound, cache-of-sound, sound-of-both}
 use Rattle.soundness.proofs.sound.is_sound.Statement.{statement}
 use Rattle.soundness.proofs.sound.is_sound.Tie as tie
 
@@ -19,19 +23,29 @@ same-length c = search needs
 returns : tie.Need-returns
 returns c =
     let a = c .before .before .before .before .before .before .before .before .before .before .before .args in
-    let flash = refused (c .before .before .before .before .flash-sound .ensures .tells) (c .if1 .taken) in (
-      flash-fails (geometry (a .g)) (now (a .chip)) (now (a .spare)) (now (a .directory)) (now (a .cache)) (a .rec) flash,
+    let g = geometry (a .g) in (
+      decided-same
+          (part-refused (c .before .before .before .before .flash-sound .ensures .tells) (c .if1 .taken)
+          (flash-of-sound g (now (a .chip)) (now (a .spare)) (now (a .directory)) (now (a .cache)) (a .rec)))
+          (sound-decided g (state (now (a .chip)) (now (a .spare)) (now (a .directory)) (now (a .cache)) (a .rec))),
       (λ p. clash p refl, λ p. clash p refl),
     )
 
 cache-sound-requires : tie.Need-cache-sound-requires
 cache-sound-requires c κs =
-    let a = c .before .before .before .before .before .before .before .before .before .before .before .before .args in
-    let pre = c .before .before .before .before .before .before .before .before .before .before .before .before .pre in
+    let start = c .before .before .before .before .before .before .before .before .before .before .before .before in
+    let a = start .args in
     let flash = c .before .before .before .before .before .flash-sound .ensures in
-    let tells = passed (flash .tells) (c .before .if1 .left) in
-    let holds = flash-holds (geometry (a .g)) (now (a .chip)) (now (a .spare)) (now (a .directory)) (small (a .rec)) tells in
-    (pre .0, (pre .1 .0, (holds, flash .counts (not-false _ (c .before .if1 .left)))))
+    let holds = part-passed (flash .tells) (c .before .if1 .left) in (
+      start .pre .0,
+      (
+        start .pre .1 .0,
+        (
+          owners-fit (geometry (a .g)) Data (now (a .chip)) (now (a .spare)) (holds .in-data .pages),
+          (holds .names, flash .counts (not-false _ (c .before .if1 .left))),
+        ),
+      ),
+    )
 
 same-length-2 : tie.Need-same-length-2
 same-length-2 c = search needs
@@ -39,11 +53,16 @@ same-length-2 c = search needs
 returns-2 : tie.Need-returns-2
 returns-2 c =
     let a = c .before .before .before .before .before .before .before .before .before .before .before .before .before .args in
-    let flash = c .before .before .before .before .before .before .flash-sound .ensures in (
-      c .cache-sound .ensures .0
-          ∙ cache-tells (geometry (a .g)) (now (a .chip)) (now (a .spare)) (now (a .directory)) (now (a .cache)) (a .rec)
-          (passed (flash .tells) (c .before .before .if1 .left)),
-      (λ p. flash .numbers (not-false _ (c .before .before .if1 .left)), c .cache-sound .ensures .1),
+    let g = geometry (a .g) in
+    let flash = c .before .before .before .before .before .before .flash-sound .ensures in
+    let flash-left = c .before .before .if1 .left in (
+      decided-same
+          (by-same
+          (sound-of-both g (now (a .chip)) (now (a .spare)) (now (a .directory)) (now (a .cache)) (a .rec) (part-passed (flash .tells) flash-left))
+          (cache-of-sound g (now (a .chip)) (now (a .spare)) (now (a .directory)) (now (a .cache)) (a .rec))
+          (c .cache-sound .ensures .0))
+          (sound-decided g (state (now (a .chip)) (now (a .spare)) (now (a .directory)) (now (a .cache)) (a .rec))),
+      (λ p. flash .numbers (not-false _ flash-left), c .cache-sound .ensures .1),
     )
 
 pub is-sound-spec : {M : Type 1} → statement M

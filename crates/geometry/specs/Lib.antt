@@ -1,0 +1,3 @@
+-- The modules of this crate.
+pub mod Bounds
+pub mod Sizes

@@ -1,0 +1,44 @@
+-- The lengths that the lent slices have, beside the sizes that a geometry gives them.
+use Prim.Native.Nat.{ℕ, _+_, _*_, _≤_, _<_}
+use mathlib.Core.Path.{_≡_}
+use mathlib.Core.Bool.{true}
+use mathlib.Core.List.{List, [], _∷_}
+use native.Mathlib.Nat.{suc-mul, mul-le-mul-right}
+use native.Mathlib.Omega.{arith}
+use lib.Dec.{eqb}
+use lib.ListN.{length}
+use borrow.Author.Tests.{eqb-true}
+use Rattle.scope.specs.Geometry.{Geometry}
+use Rattle.scope.specs.Lent.{chip-size, spare-size, directory-size, cache-size}
+use Rattle.scope.specs.Replies.{Size, right-sizes}
+use Rattle.flash.specs.Cases.{and-true}
+use Rattle.flash.specs.Words.{Lengths-fit}
+
+-- Four lengths and the sizes that they should be: scope's `state-sizes` of any state with lists of these lengths.
+abbrev pub sizes : Geometry → ℕ → ℕ → ℕ → ℕ → List Size
+sizes g chip spare directory cache =
+    record { has = chip; should = chip-size g }
+    ∷ record { has = spare; should = spare-size g }
+    ∷ record { has = directory; should = directory-size g }
+    ∷ record { has = cache; should = cache-size g }
+    ∷ []
+
+-- Where they are right, the lists have 01's sizes.
+pub sizes-fit : (g : Geometry) (chip spare directory cache : List ℕ)
+    → right-sizes (sizes g (length chip) (length spare) (length directory) (length cache)) ≡ true → Lengths-fit g chip spare directory cache
+unfolding right-sizes
+sizes-fit g chip spare directory cache h =
+    let c = and-true (eqb (length chip) (chip-size g)) _ h in
+    let s = and-true (eqb (length spare) (spare-size g)) _ (c .1) in
+    let d = and-true (eqb (length directory) (directory-size g)) _ (s .1) in
+    let e = and-true (eqb (length cache) (cache-size g)) _ (d .1) in
+    record {
+      chip-fits = eqb-true (length chip) (chip-size g) (c .0);
+      spare-fits = eqb-true (length spare) (spare-size g) (s .0);
+      directory-fits = eqb-true (length directory) (directory-size g) (d .0);
+      cache-fits = eqb-true (length cache) (cache-size g) (e .0);
+    }
+
+-- Of m pieces of w words one after the other, piece p lies within.
+pub piece-inside : (w m p : ℕ) → p < m → p * w + w ≤ m * w
+piece-inside w m p h = omega (arith, mul-le-mul-right w h, suc-mul p w)

@@ -1,0 +1,35 @@
+// Rule 4: the directory names, for each translation page number, the valid page with that owner, and none where there isn't one. Rule 2
+// of the translation region comes with it.
+ghost use mathlib.Core.Path.{_≡_};
+ghost use lib.ListN.{length};
+ghost use Rattle.scope.specs.Geometry.{Accepted};
+ghost use Rattle.scope.specs.Laws.Decides.{Decides};
+ghost use Rattle.scope.specs.Lent.{spare-size, directory-size};
+ghost use Rattle.scope.specs.Regions.{Translation};
+ghost use Rattle.scope.specs.Sound.{Owners-differ, Directory-names};
+ghost use Rattle.flash.specs.Owners.{Owners-fit, valid-in};
+ghost use Rattle.lent.specs.Model.{geometry};
+use crate::tally::Tally;
+use crate::tally::tally_words;
+use lent::Geometry;
+
+// By three counts: the words are none or name a valid page of their own, and of these there are as many as valid pages. What rule 1
+// says of the owners makes that both rules.
+pub fn directory_names(g: Geometry, spare: &[u32], directory: &[u32], valid: usize) -> bool
+    requires { ⌜ Accepted (geometry g) ⌝ }
+    requires { ⌜ length (now spare) ≡ spare-size (geometry g) ⌝ }
+    requires { ⌜ length (now directory) ≡ directory-size (geometry g) ⌝ }
+    requires { ⌜ Owners-fit (geometry g) Translation (now spare) ⌝ }
+    requires { ⌜ valid ≡ valid-in (geometry g) Translation (now spare) ⌝ }
+    ensures { λ r. ⌜ Decides r (Owners-differ (geometry g) Translation (now (spare .entry))
+        × Directory-names (geometry g) (now (spare .entry)) (now (directory .entry))) ⌝ }
+{
+    let p = g.p as usize;
+    let first = g.d as usize * p;
+    let n = g.t as usize * p;
+    let sum = tally_words(Tally { nones: 0, good: 0 }, directory, 0, spare, first, n);
+    if sum.nones + sum.good != directory.len() {
+        return false;
+    }
+    sum.good == valid
+}

@@ -1,0 +1,73 @@
+// Rule 5: used entries number at most C, have different logical pages below L and changed 0 or 1; unused entries are none throughout.
+// Any words may stand in the cache, and any number may come as used. The pages differ where each is new to the filter, which takes them one
+// after the other; where the rule holds, it is the filter of the cached pages.
+ghost use mathlib.Core.Path.{_≡_};
+ghost use mathlib.Core.Bool.{true};
+ghost use Prim.Native.Nat.{_+_, _*_, _≤_};
+ghost use lib.ListN.{length};
+ghost use Rattle.scope.specs.Geometry.{Accepted};
+ghost use Rattle.scope.specs.Laws.Decides.{Decides};
+ghost use Rattle.scope.specs.Lent.{cache-size, logical-at, entry-words};
+ghost use Rattle.scope.specs.Sound.{Entries-fit};
+ghost use Rattle.lent.specs.Model.{geometry};
+ghost use Rattle.words.specs.Bitmap.{has, put};
+ghost use Rattle.words.specs.Filter.{Filter};
+ghost use Rattle.mapping.specs.Entries.{entry-fits, used-fit};
+ghost use Rattle.mapping.specs.Seen.{Seen};
+use lent::Geometry;
+use words::bitmap;
+use words::erased::only_erased;
+
+// The entry at rank i has a logical page below l, changed 0 or 1, and the page is new to the filter, which takes it.
+fn entry_fits(cache: &[u32], l: u32, i: usize, filter: &mut [u64; 1024]) -> bool
+    requires { ⌜ (i * entry-words + entry-words ≤ length (now cache)) × (l ≤ 65536) ⌝ }
+    ensures { λ r. ⌜ r ≡ entry-fits (has (now (filter .entry))) (now (cache .entry)) l i ⌝ }
+    ensures { λ r. ⌜ (r ≡ true → now (filter .exit) ≡ put (now (filter .entry)) (logical-at i (now (cache .entry)))) ⌝ }
+{
+    let page = cache[i * 3];
+    if l <= page {
+        return false;
+    }
+    if 1 < cache[i * 3 + 2] {
+        return false;
+    }
+    let at = page as usize;
+    let new = !bitmap::has(filter, at);
+    bitmap::put(filter, at);
+    new
+}
+
+// So do the first n entries, each in its turn, from an empty filter on.
+fn used_fit(cache: &[u32], l: u32, n: usize, filter: &mut [u64; 1024]) -> bool
+    requires { ⌜ (n * entry-words ≤ length (now cache)) × (l ≤ 65536) ⌝ }
+    ensures { λ r. ⌜ r ≡ used-fit (now (cache .entry)) l n ⌝ }
+    ensures { λ r. ⌜ (r ≡ true → Seen (now (cache .entry)) n (now (filter .exit))) ⌝ }
+{
+    bitmap::clear(filter);
+    let mut i = 0;
+    while i < n {
+        if !entry_fits(cache, l, i, filter) {
+            return false;
+        }
+        i += 1;
+    }
+    true
+}
+
+// Rule 5.
+pub fn entries_fit(g: Geometry, cache: &[u32], used: u32, filter: &mut [u64; 1024]) -> bool
+    requires { ⌜ Accepted (geometry g) ⌝ }
+    requires { ⌜ length (now cache) ≡ cache-size (geometry g) ⌝ }
+    ensures { λ r. ⌜ Decides r (Entries-fit (geometry g) (now (cache .entry)) used) ⌝ }
+    ensures { λ r. ⌜ (r ≡ true → Filter (now (cache .entry)) used (now (filter .exit))) ⌝ }
+{
+    if g.c < used {
+        return false;
+    }
+    let n = used as usize;
+    if !used_fit(cache, g.l, n, filter) {
+        return false;
+    }
+    let behind = n * 3;
+    only_erased(&cache[behind..])
+}
