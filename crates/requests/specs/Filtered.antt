@@ -8,13 +8,12 @@ use Rattle.scope.specs.Geometry.{Geometry}
 use Rattle.scope.specs.Regions.{Data}
 use Rattle.scope.specs.Lent.{Entry, Place, Nowhere, State}
 use Rattle.scope.specs.Sound.{rank-of}
-use Rattle.scope.specs.Operations.{Counts, Erase, apply, give, look, perform, set-cache, set-small, _>>=_}
-use Rattle.scope.specs.Room.{read-page, program-next, open-lowest}
+use Rattle.scope.specs.Operations.{Erase, apply, give, look, perform, set-cache, set-small, _>>=_}
+use Rattle.scope.specs.Room.{read-page, program-next}
 use Rattle.scope.specs.Cache.{touch, forget, set-entry}
 use Rattle.scope.specs.Requests.{Replied, read-place}
 use Rattle.cache.specs.Ranks.{rank-found}
 use Rattle.lent.specs.declared.Work.{Work}
-use Rattle.lent.specs.Does.{Does}
 use Rattle.lent.specs.Shapes.{Does-flash, Does-by-chip, Does-cache}
 use Rattle.words.specs.Filter.{Filter}
 use Rattle.steps.specs.Filter.{filter-moved, filter-forgotten, filter-placed}
@@ -53,11 +52,6 @@ module _ {cache cache′ filter : List ℕ} {w : Work} (f : Filter cache (w .rec
       (filter-placed f i place)
 
 -- Flash's steps leave the number of entries in use.
-pub opened-keeps-used : (g : Geometry) {s s′ : State} {c c′ : Counts} → Does (open-lowest g Data) s c tt s′ c′
-    → s′ .small .used ≡ s .small .used
-unfolding open-lowest look set-small _>>=_
-opened-keeps-used g does = sym (ap (λ (s : State). s .small .used) (does .after))
-
 module _ (g : Geometry) {chip spare chip′ spare′ : List ℕ} {w w′ : Work} where
   pub program-keeps-used : (l : ℕ) (words : List ℕ) {q : ℕ} → Does-flash (program-next g Data l words) chip spare w q chip′ spare′ w′
       → w′ .rec .used ≡ w .rec .used

@@ -2,7 +2,7 @@
 use native.Mathlib.Omega.{arith}
 use borrow.Author.Needs.{needs}
 use Rattle.lent.specs.Model.{geometry}
-use Rattle.update.specs.Index.{less-room}
+use Rattle.copying.specs.Copies.{less-room}
 use Rattle.requests.specs.Translating.{hit-does, miss-does, fetch-ready}
 use Rattle.requests.specs.Filtered.{found-in-use, touched-filter}
 use Rattle.requests.proofs.translation.translate.Statement.{statement}

@@ -1,10 +1,10 @@
--- `requests::copying::wait` meets its contract: the words behind those that wait are stored.
+-- `requests::following::wait` meets its contract: the words behind those that wait are stored.
 use native.Mathlib.Omega.{arith}
 use Prim.Native.Nat.{_/_}
 use borrow.Author.Needs.{needs}
-use Rattle.requests.specs.Waiting.{wait-more, still-waits-in}
-use Rattle.requests.proofs.copying.wait.Statement.{statement}
-use Rattle.requests.proofs.copying.wait.Tie as tie
+use Rattle.requests.specs.Following.{wait-more, still-waits-in, one-ahead}
+use Rattle.requests.proofs.following.wait.Statement.{statement}
+use Rattle.requests.proofs.following.wait.Tie as tie
 
 mul-waiting : tie.Need-mul-waiting
 mul-waiting c = search needs
@@ -52,7 +52,7 @@ returns c =
     let waits = start .pre .1 in
     let few = start .pre .0 .1 in (
       wait-more (a .waiting .now) (a .n) (a .logical) (a .physical) (a .logical / a .g .w) (omega (arith, waits .long, few)),
-      still-waits-in waits few (a .logical) (a .physical),
+      (still-waits-in waits few (a .logical) (a .physical), one-ahead (a .waiting .now) (a .n) (a .logical) (a .physical) (a .logical / a .g .w)),
     )
 
 pub wait-spec : {M : Type 1} → statement M

@@ -1,11 +1,11 @@
--- `requests::copying::follow` meets its contract: the code's test is the definition's.
+-- `requests::following::follow` meets its contract: the code's test is the definition's.
 use native.Mathlib.Omega.{arith}
 use borrow.Author.Needs.{needs}
 use Rattle.lent.specs.Model.{geometry}
-use Rattle.requests.specs.Waiting.{entry-follows, page-waits}
+use Rattle.requests.specs.Following.{entry-follows, page-waits, all-ahead}
 use Rattle.requests.specs.Filtered.{placed-filter}
-use Rattle.requests.proofs.copying.follow.Statement.{statement}
-use Rattle.requests.proofs.copying.follow.Tie as tie
+use Rattle.requests.proofs.following.follow.Statement.{statement}
+use Rattle.requests.proofs.following.follow.Tie as tie
 
 rank-of-requires : tie.Need-rank-of-requires
 rank-of-requires c κs = let start = c .before .before .before in (start .pre .0 .1, start .pre .1 .0)
@@ -28,8 +28,8 @@ returns c =
     let is-rank = found .rank-of .ensures .1 in
     let below = c .before .before .before .before .if1 .taken in
     let sets = c .before .before .set-entry .ensures (a .work) in (
-      λ chip spare directory. entry-follows (geometry (a .g)) (a .l) (a .page) is-rank below sets,
-      (placed-filter (start .pre .1 .0) (found .rank-of .result) (a .page) sets, start .pre .1 .1),
+      entry-follows (geometry (a .g)) (a .l) (a .page) is-rank below sets,
+      (placed-filter (start .pre .1 .0) (found .rank-of .result) (a .page) sets, (start .pre .1 .1, all-ahead)),
     )
 
 wait-requires : tie.Need-wait-requires
@@ -44,7 +44,7 @@ returns-2 : tie.Need-returns-2
 returns-2 c =
     let start = c .before .before .before .before .before .before .before .before in
     let a = start .args in (
-      λ chip spare directory. page-waits (geometry (a .g)) (a .l) (a .page) (c .before .before .before .before .rank-of .ensures .1) (c .before .before .if1 .left)
+      page-waits (geometry (a .g)) (a .l) (a .page) (c .before .before .before .before .rank-of .ensures .1) (c .before .before .if1 .left)
           (c .wait .ensures .0),
       (start .pre .1 .0, c .wait .ensures .1),
     )
