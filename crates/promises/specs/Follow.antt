@@ -131,9 +131,12 @@ module _ {g : Geometry} (ok : Accepted g) (l i : ℕ) where
   pub cache-follower : Follower g Data (cache-follows g) (update-bound g) (place-while g) (Follows g l i)
   cache-follower =
       record {
-        moved = moved-law;
+        mover =
+            record {
+              moved = moved-law;
+              kept = λ w s s′ len len′ same inv. follows-kept w s s′ len len′ same inv;
+              seen = λ w s s′ len len′ same inv k h. ap (latest w k) (same-places w s s′ len len′ same inv .places k h);
+            };
         settled = λ w s len inv. after-settled w s len inv (update-all g w s)
             (settle-law ok w (inv .waiting .below-L) s len (inv .index));
-        kept = λ w s s′ len len′ same inv. follows-kept w s s′ len len′ same inv;
-        seen = λ w s s′ len len′ same inv k h. ap (latest w k) (same-places w s s′ len len′ same inv .places k h);
       }

@@ -89,7 +89,7 @@ module _ {g : Geometry} (ok : Accepted g) (l i : ℕ) (buffer : List ℕ) (s : S
       elsewhere = written-elsewhere w
 
       follows : Follows g l i [] (o .after)
-      follows = cache-follower ok l i .kept [] s (o .after) len (w .lengths) elsewhere inv
+      follows = cache-follower ok l i .mover .kept [] s (o .after) len (w .lengths) elsewhere inv
 
       set : Ranks-kept g (o .after) (set-entry i (q .value) (o .after)) (updated (cached g (o .after)) l (Hit (q .value) 1))
       set = set-entry-law g (o .after) (cached g (o .after)) (cache-holds g (o .after) (w .lengths) (follows .cache)) l i
@@ -104,7 +104,7 @@ module _ {g : Geometry} (ok : Accepted g) (l i : ℕ) (buffer : List ℕ) (s : S
           record {
             there = places .here ∙ w .value;
             elsewhere = λ k h apart. places .elsewhere k h apart
-                ∙ cache-follower ok l i .seen [] s (o .after) len (w .lengths) elsewhere inv k h;
+                ∙ cache-follower ok l i .mover .seen [] s (o .after) len (w .lengths) elsewhere inv k h;
           }
 
   -- The page that is marked is the one that the entry names now.

@@ -8,34 +8,27 @@ use native.Mathlib.Omega.{arith}
 use native.Mathlib.Nat.{mul-le-mul-left}
 use lib.ListN.{length}
 use Rattle.scope.specs.Geometry.{Geometry, Accepted}
-use Rattle.scope.specs.Regions.{Region, owners, page-in, Has-block}
+use Rattle.scope.specs.Regions.{Region, page-in, Has-block}
 use Rattle.scope.specs.SmallRecord.{open-block, next-offset, opened}
-use Rattle.scope.specs.Lent.{erased, valid, decode, State, Mapping, with-small, state-of}
-use Rattle.scope.specs.Blocks.{valid-pages}
-use Rattle.scope.specs.Sound.{Wholly-erased}
+use Rattle.scope.specs.Lent.{valid, decode, State, Mapping, state-of}
 use Rattle.scope.specs.Operations.{Erase, Outcome, apply, look, perform, set-small, _>>=_}
-use Rattle.scope.specs.Room.{Following, erased-blocks, lowest-erased, victim, move-pages, open-lowest, collect}
+use Rattle.scope.specs.Room.{Following, erased-blocks, victim, move-pages, open-lowest, collect}
 use Rattle.scope.specs.Laws.Applied.{Same-flash}
 use Rattle.flash.specs.Words.{Lengths}
 use Rattle.flash.specs.Pages.{erase-block}
 use Rattle.flash.specs.Kept.{apply-keeps-lengths, apply-keeps-beside}
 use Rattle.flash.specs.Places.{block-on-chip, page-in-region}
-use Rattle.flash.specs.Heads.{opened-rest, rest-same}
-use Rattle.flash.specs.SamePages.{same-refl, erase-elsewhere}
+use Rattle.flash.specs.Heads.{rest-same}
+use Rattle.flash.specs.SamePages.{erase-elsewhere}
 use Rattle.flash.specs.Listed.{cost, cost-first, cost-++, cost-none}
-use Rattle.region.specs.Holds.{Region-fits, Besides, Maps, Holds, contents}
+use Rattle.region.specs.Holds.{Region-fits, Besides, Holds, contents}
 use Rattle.region.specs.Carried.{region-fits-same, maps-same, maps-viewed, contents-same}
-use Rattle.region.specs.Room.{Victim-law, Crowded, is-crowded, victim-of-crowded}
-use Rattle.region.specs.Blocks.{open-law, erase-law}
-use Rattle.region.specs.Elsewhere.{Same-elsewhere, open-with, offset-with}
+use Rattle.region.specs.Blocks.{erase-law}
 use Rattle.region.specs.Done.{done-none, done-one, done-then}
 use Rattle.region.specs.Follower.{View, Invariant, After-settled, Follower, Room-made}
 use Rattle.region.specs.Moving.{Copying, Keeps}
-use Rattle.region.specs.Copied.{Copied, move-pages-law}
-
--- The lowest erased block is opened: of the state the open block and the offset alone change.
-abbrev pub opened-lowest : Geometry → Region → State → State
-opened-lowest g r s = with-small (opened r (lowest-erased g r s) (s .small)) s
+use Rattle.region.specs.Copied.{Copied, few-moved}
+use Rattle.region.specs.Starts.{Starts, opened-lowest, within-region, copied-since, collection-starts}
 
 -- What collect does: its parts one after the other.
 abbrev collects : (g : Geometry) (v : ℕ) → Outcome (List Mapping) → Outcome (Unit {0}) → Outcome (Unit {0})
@@ -49,23 +42,6 @@ collect-is g r follow s = refl
 
 module _ {g : Geometry} {r : Region} {follow : Following} {settling : ℕ} {view : View} {Inv : Invariant}
     (F : Follower g r follow settling view Inv) where
-  -- A step that changes only the region's own keeps all, if it keeps the region, and map and words as the view was before.
-  within-region : (w : List Mapping) (s s′ : State) → Copying g r view Inv w s → Same-elsewhere g r s s′ → Lengths g s′
-      → Region-fits g r (s′ .chip) (s′ .spare) (open-block r (s′ .small)) (next-offset r (s′ .small))
-      → Maps g r (s′ .spare) (view w s)
-      → ((k : ℕ) → k < owners g r → contents g (s′ .chip) (decode (view w s k)) ≡ contents g (s .chip) (decode (view w s k)))
-      → Copying g r view Inv w s′ × Keeps g r view w s w s′
-  within-region w s s′ copying elsewhere lengths fits maps keeps =
-      let sees = F .seen w s s′ (copying .lengths) lengths elsewhere (copying .inv) in (
-        record {
-          fits = fits;
-          maps = maps-viewed sees maps;
-          inv = F .kept w s s′ (copying .lengths) lengths elsewhere (copying .inv);
-          lengths = lengths;
-        },
-        λ k h. ap (λ x. contents g (s′ .chip) (decode x)) (sees k h) ∙ keeps k h,
-      )
-
   -- What waited is settled.
   settle : (w : List Mapping) (s : State) (o : Outcome (Unit {0})) → Copying g r view Inv w s → After-settled g r settling view Inv w s o
       → Copying g r view Inv [] (o .after) × Keeps g r view w s [] (o .after)
@@ -81,17 +57,6 @@ module _ {g : Geometry} {r : Region} {follow : Following} {settling : ℕ} {view
         ∙ contents-same (settled .pages) k (decode (view w s k)) (copying .maps .names k h),
   )
 
-  -- The lowest erased block is opened.
-  pub open-lowest-keeps : (s : State) → Copying g r view Inv [] s → g .P ≤ next-offset r (s .small)
-      → Has-block g r (lowest-erased g r s) → Wholly-erased g (s .spare) (lowest-erased g r s)
-      → Copying g r view Inv [] (opened-lowest g r s) × Keeps g r view [] s [] (opened-lowest g r s)
-  open-lowest-keeps s copying full here empty =
-      within-region [] s (opened-lowest g r s) copying
-      (record { pages = same-refl; directory = refl; cache = refl; rest = opened-rest r (lowest-erased g r s) (s .small) }) (copying .lengths)
-      (subst₂ (Region-fits g r _ _) (sym (open-with r _ _ (s .small))) (sym (offset-with r _ _ (s .small)))
-      (open-law (lowest-erased g r s) (copying .fits) full here empty))
-      (copying .maps) (λ k h. refl)
-
   -- The victim, without a valid page, is erased.
   erase-keeps : (v : ℕ) (s : State) → Copying g r view Inv [] s → Has-block g r v → v ≢ open-block r (s .small)
       → ((i : ℕ) → i < g .P → state-of (page-in g v i) (s .spare) ≢ valid)
@@ -102,7 +67,7 @@ module _ {g : Geometry} {r : Region} {follow : Following} {settling : ℕ} {view
       let erasure = erase-law g r s (apply g (Erase v) s) _ _ v (copying .fits) here closed none-valid did in
       let beside = apply-keeps-beside g (Erase v) s in
       let same-open = ap (open-block r) (beside .small) in
-      let (copying′, keeps) = within-region [] s (apply g (Erase v) s) copying
+      let (copying′, keeps) = within-region (F .mover) [] s (apply g (Erase v) s) copying
       (record {
         pages = erase-elsewhere r here did;
         directory = beside .directory;
@@ -115,13 +80,14 @@ module _ {g : Geometry} {r : Region} {follow : Following} {settling : ℕ} {view
       (copying′, keeps, subst (Besides g r (apply g (Erase v) s .spare)) (sym same-open) (erasure .besides))
 
   -- The parts of a collection of block v, from the state with a wholly erased block opened.
-  collected : (v : ℕ) (s : State) (o : Outcome (List Mapping)) (o′ : Outcome (Unit {0})) → Has-block g r v → v ≢ open-block r (s .small)
-      → valid-pages g (s .spare) v < g .P → Copied g r view Inv v (g .P) s o → After-settled g r settling view Inv (o .value) (o .after) o′
+  collected : (v : ℕ) (s : State) (o : Outcome (List Mapping)) (o′ : Outcome (Unit {0})) → Starts g r view Inv v s
+      → Copied g r view Inv v (g .P) s o → After-settled g r settling view Inv (o .value) (o .after) o′
       → Room-made g r settling view Inv s (collects g v o o′)
-  collected v s o o′ here closed room copied settled =
+  collected v s o o′ starts copied settled =
+      let here = starts .in-region in
       let (copying, keeps) = settle (o .value) (o .after) o′ (copied .copying) settled in
       let (copying′, keeps′, besides) = erase-keeps v (o′ .after) copying here
-      (λ e. closed (e ∙ settled .opened ∙ copied .opened))
+      (λ e. starts .closed (e ∙ settled .opened ∙ copied .opened))
       (λ i h e. copied .emptied i h (sym (settled .pages .page _ (page-in-region g r v i here h) .state) ∙ e)) in
       record {
         holds = record { fits = copying′ .fits; besides = besides; maps = copying′ .maps };
@@ -134,7 +100,7 @@ module _ {g : Geometry} {r : Region} {follow : Following} {settling : ℕ} {view
       }
     where
       few : next-offset r (o .after .small) < g .P
-      few = omega (arith, copied .offset)
+      few = few-moved (omega arith) (starts .some-invalid) copied
 
       waited : settling * length (o .value) ≤ settling * (g .P - 1)
       waited = mul-le-mul-left settling (omega (arith, copied .waiting, few))
@@ -176,29 +142,15 @@ module _ {g : Geometry} {r : Region} {follow : Following} {settling : ℕ} {view
       s₁ : State
       s₁ = opened-lowest g r s
 
-      crowded : Crowded g r (s .spare) (lowest-erased g r s)
-      crowded = is-crowded g r s _ _ (holds .fits) (holds .besides) full few
-
-      law : Victim-law g r (s .spare) v
-      law = victim-of-crowded g r s _ _ _ accepted (holds .fits) crowded
-
-      start : Copying g r view Inv [] s₁ × Keeps g r view [] s [] s₁
-      start = open-lowest-keeps s (record { fits = holds .fits; maps = holds .maps; inv = inv; lengths = lengths }) full
-          (crowded .in-region) (crowded .wholly-erased)
-
-      closed : v ≢ open-block r (s₁ .small)
-      closed e = law .full 0 (accepted .P-from)
-          (subst (λ b. state-of (page-in g b 0) (s .spare) ≡ erased) (sym (e ∙ open-with r (lowest-erased g r s) 0 (s .small)))
-          (crowded .wholly-erased 0 (accepted .P-from)))
+      start : Starts g r view Inv v s₁ × Keeps g r view [] s [] s₁
+      start = collection-starts (F .mover) s accepted lengths holds inv full few
 
       o : Outcome (List Mapping)
       o = move-pages g r follow v (g .P) s₁
 
       copied : Copied g r view Inv v (g .P) s₁ o
-      copied = move-pages-law F accepted v s₁ (law .in-region) closed (law .some-invalid) (g .P) (omega arith) (start .0)
-          (offset-with r (lowest-erased g r s) 0 (s .small))
+      copied = copied-since (F .mover) accepted (start .0) (g .P) (omega arith)
 
       made : Room-made g r settling view Inv s (collects g v o (follow .settled (o .value) (o .after)))
       made = room-made-after s s₁ _ (record { chip = refl; spare = refl }) (start .1)
-          (collected v s₁ o _ (law .in-region) closed (law .some-invalid) copied
-          (F .settled (o .value) (o .after) (copied .copying .lengths) (copied .copying .inv)))
+          (collected v s₁ o _ (start .0) copied (F .settled (o .value) (o .after) (copied .copying .lengths) (copied .copying .inv)))

@@ -21,7 +21,7 @@ use Rattle.flash.specs.Counting.{count-upto}
 use Rattle.flash.specs.Places.{page-in-region, page-in-same}
 use Rattle.flash.specs.Listed.{cost, cost-none, cost-++}
 use Rattle.region.specs.Done.{Done, done-none, done-then}
-use Rattle.region.specs.Follower.{View, Invariant, Follower}
+use Rattle.region.specs.Follower.{View, Invariant, Mover}
 use Rattle.region.specs.NextPage.{next-page}
 use Rattle.region.specs.Moving.{Copying, Keeps, Page-moved, move-if-valid-law}
 
@@ -44,8 +44,8 @@ pub few-moved : {g : Geometry} {r : Region} {view : View} {Inv : Invariant} {v n
 few-moved {g} {v = v} {n} {s} h room copied =
     omega (arith, copied .offset, count-upto n (g .P) (λ i. is-valid (page-in g v i) (s .spare)) h)
 
-module _ {g : Geometry} {r : Region} {follow : Following} {settling : ℕ} {view : View} {Inv : Invariant}
-    (F : Follower g r follow settling view Inv) (accepted : Accepted g) (v : ℕ) (s : State)
+module _ {g : Geometry} {r : Region} {follow : Following} {view : View} {Inv : Invariant}
+    (F : Mover g r follow view Inv) (accepted : Accepted g) (v : ℕ) (s : State)
     (here : Has-block g r v) (closed : v ≢ open-block r (s .small)) (room : valid-pages g (s .spare) v < g .P) where
   copied-none : Copying g r view Inv [] s → next-offset r (s .small) ≡ 0
       → Copied g r view Inv v 0 s (record { value = []; after = s; did = [] })

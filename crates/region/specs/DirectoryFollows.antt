@@ -45,22 +45,30 @@ pub directory-follower : (g : Geometry) (s₀ : State) → Follower g Translatio
 unfolding directory-names-it _>>=_ set-directory give
 directory-follower g s₀ =
     record {
-      moved = λ w k q s lengths inv owned here. record {
-        no-operation = refl;
-        flash = record { chip = refl; spare = refl };
-        head = head-same Translation refl;
-        lengths = record {
-          chip-fits = lengths .chip-fits;
-          spare-fits = lengths .spare-fits;
-          directory-fits = length-set (s .directory) k q ∙ lengths .directory-fits;
-          cache-fits = lengths .cache-fits;
+      mover = record {
+        moved = λ w k q s lengths inv owned here. record {
+          no-operation = refl;
+          flash = record { chip = refl; spare = refl };
+          head = head-same Translation refl;
+          lengths = record {
+            chip-fits = lengths .chip-fits;
+            spare-fits = lengths .spare-fits;
+            directory-fits = length-set (s .directory) k q ∙ lengths .directory-fits;
+            cache-fits = lengths .cache-fits;
+          };
+          at-most-one = omega arith;
+          inv = record { data-pages = inv .data-pages; cache = inv .cache; rest = inv .rest };
+          renames = record {
+            there = getD-set-same (s .directory) k q none (omega (arith, lengths .directory-fits));
+            elsewhere = λ j h apart. getD-set-other (s .directory) k j q none apart;
+          };
         };
-        at-most-one = omega arith;
-        inv = record { data-pages = inv .data-pages; cache = inv .cache; rest = inv .rest };
-        renames = record {
-          there = getD-set-same (s .directory) k q none (omega (arith, lengths .directory-fits));
-          elsewhere = λ j h apart. getD-set-other (s .directory) k j q none apart;
+        kept = λ w s s′ lengths lengths′ same inv. record {
+          data-pages = same-trans (inv .data-pages) (same .pages);
+          cache = same .cache ∙ inv .cache;
+          rest = rest-trans (inv .rest) (same .rest);
         };
+        seen = λ w s s′ lengths lengths′ same inv k h. ap (λ d. in-directory d k) (same .directory);
       };
       settled = λ w s lengths inv. record {
         pages = same-refl;
@@ -72,12 +80,6 @@ directory-follower g s₀ =
         done = done-none g flash-refl;
         costs = omega (arith, cost-none);
       };
-      kept = λ w s s′ lengths lengths′ same inv. record {
-        data-pages = same-trans (inv .data-pages) (same .pages);
-        cache = same .cache ∙ inv .cache;
-        rest = rest-trans (inv .rest) (same .rest);
-      };
-      seen = λ w s s′ lengths lengths′ same inv k h. ap (λ d. in-directory d k) (same .directory);
     }
 
 -- After room has been made in the translation region.
@@ -102,7 +104,8 @@ translation-room-law g s accepted lengths holds =
       room = made .room;
       only = made .inv;
       keeps = made .keeps;
-      stores = stored-same g (s .chip) (s .directory) (s′ .chip) (s′ .directory) (accepted .W-from) (lengths .directory-fits) (made .lengths .directory-fits) (made .keeps);
+      stores = stored-same g (s .chip) (s .directory) (s′ .chip) (s′ .directory) (accepted .W-from) (lengths .directory-fits)
+          (made .lengths .directory-fits) (made .keeps);
       lengths = made .lengths;
       done = made .done;
       costs = omega (arith, made .costs);

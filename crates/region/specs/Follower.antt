@@ -51,16 +51,19 @@ pub record After-settled (g : Geometry) (r : Region) (settling : ℕ) (view : Vi
   pub done : Done g s (o .did) (o .after)
   pub costs : cost (o .did) ≤ settling * length w
 
--- The laws. `settling` bounds what settling costs for each entry that waits.
-pub record Follower (g : Geometry) (r : Region) (follow : Following) (settling : ℕ) (view : View) (Inv : Invariant) : Type 0 where
+-- The laws that the copies rest on. Neither view nor invariant rests on the region's own pages, open block or offset.
+pub record Mover (g : Geometry) (r : Region) (follow : Following) (view : View) (Inv : Invariant) : Type 0 where
   pub moved : (w : List Mapping) (k q : ℕ) (s : State) → Lengths g s → Inv w s → k < owners g r → Has-page g r q
       → After-moved g r view Inv w k q s (follow .moved k q s)
-  pub settled : (w : List Mapping) (s : State) → Lengths g s → Inv w s
-      → After-settled g r settling view Inv w s (follow .settled w s)
-  -- Neither rests on the region's own pages, open block or offset.
   pub kept : (w : List Mapping) (s s′ : State) → Lengths g s → Lengths g s′ → Same-elsewhere g r s s′ → Inv w s → Inv w s′
   pub seen : (w : List Mapping) (s s′ : State) → Lengths g s → Lengths g s′ → Same-elsewhere g r s s′ → Inv w s
       → (k : ℕ) → k < owners g r → view w s′ k ≡ view w s k
+
+-- All laws. `settling` bounds what settling costs for each entry that waits.
+pub record Follower (g : Geometry) (r : Region) (follow : Following) (settling : ℕ) (view : View) (Inv : Invariant) : Type 0 where
+  pub mover : Mover g r follow view Inv
+  pub settled : (w : List Mapping) (s : State) → Lengths g s → Inv w s
+      → After-settled g r settling view Inv w s (follow .settled w s)
 
 -- What make room promises (MakeRoom.antt): rules 1 to 3 and the map of the region hold again, its open block has room, each owner's
 -- words are as they were, and the follower's own invariant holds: all that is known of what is elsewhere, for make room itself leaves

@@ -21,7 +21,8 @@ use Rattle.region.specs.Room.{lowest-is-erased, two-erased}
 use Rattle.region.specs.Elsewhere.{open-with, offset-with}
 use Rattle.region.specs.Done.{done-none}
 use Rattle.region.specs.Follower.{View, Invariant, Follower, Room-made}
-use Rattle.region.specs.Collect.{opened-lowest, open-lowest-keeps, collect-law}
+use Rattle.region.specs.Starts.{opened-lowest, open-lowest-keeps}
+use Rattle.region.specs.Collect.{collect-law}
 
 -- "If the open block's offset is below P, nothing."
 pub make-room-idle : (g : Geometry) (r : Region) (follow : Following) (s : State) → next-offset r (s .small) < g .P
@@ -60,7 +61,7 @@ module _ {g : Geometry} {r : Region} {follow : Following} {settling : ℕ} {view
   open-lowest-law full two =
       let (b, here, _, empty) = holds .besides in
       let (in-region, is-empty) = lowest-is-erased g r s b here empty in
-      let (copying, keeps) = open-lowest-keeps F s (record { fits = holds .fits; maps = holds .maps; inv = inv; lengths = lengths })
+      let (copying, keeps) = open-lowest-keeps (F .mover) s (record { fits = holds .fits; maps = holds .maps; inv = inv; lengths = lengths })
       full in-region is-empty in
       record {
         holds = record {

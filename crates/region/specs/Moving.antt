@@ -24,7 +24,7 @@ use Rattle.region.specs.Carried.{flash-pages, region-fits-same, maps-sam
 use Rattle.region.specs.Elsewhere.{Same-elsewhere}
 use Rattle.region.specs.Done.{Done, done-none, done-read, done-then}
 use Rattle.region.specs.NextPage.{next-page, Page-written, written-elsewhere, page-written}
-use Rattle.region.specs.Follower.{View, Invariant, After-moved, Follower}
+use Rattle.region.specs.Follower.{View, Invariant, After-moved, Mover}
 
 -- While a collection copies, with w waiting: the region but for the erased block besides, its map, and the follower's invariant.
 pub record Copying (g : Geometry) (r : Region) (view : View) (Inv : Invariant) (w : List Mapping) (s : State) : Type 0 where
@@ -79,8 +79,8 @@ move-page-is : (g : Geometry) (r : Region) (follow : Following) (p : ℕ) (s : S
 unfolding move-page read-page mark-old _>>=_ look perform apply
 move-page-is g r follow p s = refl
 
-module _ {g : Geometry} {r : Region} {follow : Following} {settling : ℕ} {view : View} {Inv : Invariant}
-    (F : Follower g r follow settling view Inv) (accepted : Accepted g) where
+module _ {g : Geometry} {r : Region} {follow : Following} {view : View} {Inv : Invariant}
+    (F : Mover g r follow view Inv) (accepted : Accepted g) where
   -- The parts as variables: page p was k's, and what follows has been told.
   moved-so : (p k : ℕ) (w : List Mapping) (s : State) (o : Outcome ℕ) (o′ : Outcome (Unit {0})) (m : Outcome (List Mapping))
       → decode (view w s k) ≡ Place p → Page-written g r k (words-of g p (s .chip)) (view w s) s o o′

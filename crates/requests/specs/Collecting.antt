@@ -7,29 +7,31 @@ use native.Mathlib.Omega.{arith}
 use lib.ListN.{length}
 use Rattle.scope.specs.Geometry.{Geometry, blocks}
 use Rattle.scope.specs.Regions.{Data}
-use Rattle.scope.specs.SmallRecord.{next-offset}
+use Rattle.scope.specs.SmallRecord.{SmallRecord}
 use Rattle.scope.specs.Lent.{State, Mapping, logical-at}
-use Rattle.scope.specs.Sound.{Sound}
-use Rattle.scope.specs.Room.{erased-blocks, victim, open-lowest, move-pages}
+use Rattle.scope.specs.Sound.{Sound, current}
+use Rattle.scope.specs.Operations.{look, set-small, _>>=_}
+use Rattle.scope.specs.Room.{open-lowest, move-pages}
 use Rattle.scope.specs.Steps.{update-all, cache-follows}
-use Rattle.flash.specs.Listed.{cost-none}
-use Rattle.flash.specs.Places.{block-on-chip}
+use Rattle.flash.specs.Listed.{cost}
 use Rattle.flash.specs.Words.{Lengths}
-use Rattle.region.specs.Collect.{opened-lowest}
-use Rattle.promises.specs.Parts.{index-of, data-of, cache-of}
-use Rattle.promises.specs.Follow.{Follows, none-waits, cache-follower}
+use Rattle.cache.specs.Waiting.{Waits}
+use Rattle.region.specs.Copied.{Copied, few-moved}
+use Rattle.region.specs.Starts.{Starts, opened-lowest, copied-since, collection-starts}
+use Rattle.promises.specs.Parts.{Index-fits, index-of, data-of, cache-of}
+use Rattle.promises.specs.Follow.{place-while, Follows, none-waits, cache-follower}
 use Rattle.promises.specs.Settle.{Index-settled, settle-law}
 use Rattle.promises.specs.Update.{update-bound}
 use Rattle.lent.specs.declared.Counts.{Counts as Counted}
 use Rattle.lent.specs.declared.Work.{Work}
 use Rattle.lent.specs.Model.{state}
-use Rattle.lent.specs.Shapes.{Room-to-count, room-after}
+use Rattle.lent.specs.Shapes.{Room-to-count}
 use Rattle.steps.specs.Lies.{Chip-lent, Spare-lent}
-use Rattle.update.specs.Index.{Index-ready, less-room}
-use Rattle.update.specs.Starts.{collection-starts}
-use Rattle.update.specs.Room.{opened-is, opening-counts}
+use Rattle.copying.specs.Choice.{To-collect, start-collect}
+use Rattle.copying.specs.Copies.{less-room}
+use Rattle.copying.specs.Starting.{Collect-ready}
+use Rattle.update.specs.Index.{Index-ready}
 use Rattle.requests.specs.Ready.{Does-all, Ready, countable-after}
-use Rattle.requests.specs.Copying.{Copies, Copies-lent, After-copying, after-copying, all-copied-costs}
 
 -- The most that room in the data region costs.
 abbrev pub room-bound : Geometry → ℕ
@@ -40,87 +42,107 @@ pub record Room-ready (g : Geometry) (s : State) (c : Counted) : Type 0 where
   pub ready : Ready g s (room-bound g) c
   pub some-used : 1 ≤ s .small .used
 
--- A block may be collected: the open one is full, and one alone is erased.
-pub record Collect-ready (g : Geometry) (s : State) (c : Counted) : Type 0 where
-  pub room-ready : Room-ready g s c
-  pub full : g .P ≤ next-offset Data (s .small)
-  pub few : erased-blocks g Data s < 2
-
 -- Something is cached: the foremost entry, say.
 follows-first : {g : Geometry} {s : State} → Sound g s → 1 ≤ s .small .used → Follows g (logical-at 0 (s .cache)) 0 [] s
 follows-first sound some =
     record { index = index-of sound; cache = cache-of sound; waiting = none-waits; rank = record { in-use = some; is-l = refl } }
 
-copying-begins : {g : Geometry} {s : State} {c : Counted} → Collect-ready g s c → Copies g (victim g Data s) (opened-lowest g Data s)
-copying-begins {s = s} a =
-    let ready = a .room-ready .ready in
-    record {
-      accepted = ready .accepted;
-      l = logical-at 0 (s .cache);
-      i = 0;
-      starts = collection-starts (cache-follower (ready .accepted) _ _) s (ready .accepted) (ready .lengths) (data-of (ready .sound))
-          (follows-first (ready .sound) (a .room-ready .some-used)) (a .full) (a .few);
-    }
+-- All pages have been copied and followed: what settling then asks for.
+record After-copying (g : Geometry) (waiting : List Mapping) (s : State) : Type 0 where
+  index : Index-fits g s
+  below-L : (l : ℕ) → Waits waiting l → l < g .L
+  lengths : Lengths g s
+  few : length waiting < g .P
 
 -- The parts one after the other.
-module _ {g : Geometry} {chip spare directory cache : List ℕ} {w w₁ : Work}
-    (a : Collect-ready g (state chip spare directory cache (w .rec)) (w .counts))
-    {v : ℕ} (is-v : victim g Data (state chip spare directory cache (w .rec)) ≡ v)
-    (opens : Does-all (open-lowest g Data) (state chip spare directory cache (w .rec)) w tt
-    (state chip spare directory cache (w₁ .rec)) w₁) where
-  copies : Copies g v (state chip spare directory cache (w₁ .rec))
-  copies = subst₂ (Copies g) is-v (opened-is g Data opens) (copying-begins a)
+module _ {g : Geometry} {chip spare directory cache : List ℕ} {w : Work}
+    (room-ready : Room-ready g (state chip spare directory cache (w .rec)) (w .counts)) {v : ℕ} (chosen : To-collect g Data spare w v) where
+  abbrev s : State
+  s = state chip spare directory cache (w .rec)
 
-  countable : Room-to-count (room-bound g) (w₁ .counts)
-  countable = room-after (room-bound g) 0 (w .counts) (w₁ .counts) [] (less-room (omega arith) (a .room-ready .ready .countable))
-      (omega (arith, cost-none)) (opening-counts g Data opens)
+  ready : Ready g s (room-bound g) (w .counts)
+  ready = room-ready .ready
 
-  pub copy-ready : Copies-lent g v chip spare cache w₁
-  copy-ready = record { directory = directory; copies = copies; countable = less-room (omega arith) countable }
+  pub start-ready : Collect-ready g Data v chip spare w
+  start-ready =
+      record {
+        accepted = ready .accepted;
+        chip-fits = ready .lengths .chip-fits;
+        spare-fits = ready .lengths .spare-fits;
+        places = current g s;
+        holds = data-of (ready .sound);
+        chosen = chosen;
+        countable = less-room (omega arith) (ready .countable);
+      }
 
-  module _ {chip₂ spare₂ cache₂ : List ℕ} {waiting : List Mapping} {w₂ : Work}
-      (moves : Does-all (move-pages g Data (cache-follows g) v (g .P)) (state chip spare directory cache (w₁ .rec)) w₁ waiting
-      (state chip₂ spare₂ directory cache₂ (w₂ .rec)) w₂) where
-    after : After-copying g waiting (state chip₂ spare₂ directory cache₂ (w₂ .rec))
-    after = subst₂ (After-copying g) (moves .value) (moves .after) (after-copying copies)
+  abbrev l : ℕ
+  l = logical-at 0 cache
+
+  starts : Starts g Data (place-while g) (Follows g l 0) v (opened-lowest g Data s)
+  starts = subst (λ (x : ℕ). Starts g Data (place-while g) (Follows g l 0) x (opened-lowest g Data s)) (chosen .found s refl)
+      (collection-starts (cache-follower (ready .accepted) l 0 .mover) s (ready .accepted) (ready .lengths) (data-of (ready .sound))
+      (follows-first (ready .sound) (room-ready .some-used)) (chosen .full) (chosen .few s refl) .0)
+
+  copied : Copied g Data (place-while g) (Follows g l 0) v (g .P) (opened-lowest g Data s)
+      (move-pages g Data (cache-follows g) v (g .P) (opened-lowest g Data s))
+  copied = copied-since (cache-follower (ready .accepted) l 0 .mover) (ready .accepted) starts (g .P) (omega arith)
+
+  after-copying : let o = start-collect g Data (cache-follows g) v s in After-copying g (o .value) (o .after)
+  unfolding start-collect open-lowest look set-small _>>=_
+  after-copying =
+      record {
+        index = copied .copying .inv .index;
+        below-L = copied .copying .inv .waiting .below-L;
+        lengths = copied .copying .lengths;
+        few = omega (arith, copied .waiting, few-moved (omega arith) (starts .some-invalid) copied);
+      }
+
+  copying-costs : cost (start-collect g Data (cache-follows g) v s .did) ≤ 2 * (g .P - 1)
+  unfolding start-collect open-lowest look set-small _>>=_
+  copying-costs = omega (arith, copied .costs, few-moved (omega arith) (starts .some-invalid) copied)
+
+  module _ {chip₁ spare₁ cache₁ : List ℕ} {waiting : List Mapping} {w₁ : Work}
+      (copies : Does-all (start-collect g Data (cache-follows g) v) s w waiting (state chip₁ spare₁ directory cache₁ (w₁ .rec)) w₁) where
+    after : After-copying g waiting (state chip₁ spare₁ directory cache₁ (w₁ .rec))
+    after = subst₂ (After-copying g) (copies .value) (copies .after) after-copying
 
     waited : update-bound g * length waiting ≤ update-bound g * (g .P - 1)
     waited = mul-le-mul-left (update-bound g) (omega (arith, after .few))
 
-    pub settle-ready : Index-ready g chip₂ spare₂ directory w₂ waiting
+    pub settle-ready : Index-ready g chip₁ spare₁ directory w₁ waiting
     settle-ready =
         record {
           lent = record {
-            accepted = copies .accepted;
+            accepted = ready .accepted;
             chip-fits = after .lengths .chip-fits;
             spare-fits = after .lengths .spare-fits;
             directory-fits = after .lengths .directory-fits;
           };
           index = after .index;
           below-L = after .below-L;
-          counting = countable-after _ (2 * (g .P - 1)) (less-room (omega (arith, waited)) countable) (all-copied-costs copies) moves;
+          counting = countable-after _ (2 * (g .P - 1)) (less-room (omega (arith, waited)) (ready .countable)) copying-costs copies;
         }
 
-    module _ {chip₃ spare₃ directory₃ : List ℕ} {w₃ : Work}
-        (settles : Does-all (update-all g waiting) (state chip₂ spare₂ directory cache₂ (w₂ .rec)) w₂ tt
-        (state chip₃ spare₃ directory₃ cache₂ (w₃ .rec)) w₃) where
-      settled : Index-settled g waiting (state chip₂ spare₂ directory cache₂ (w₂ .rec))
-          (update-all g waiting (state chip₂ spare₂ directory cache₂ (w₂ .rec)))
-      settled = settle-law (copies .accepted) waiting (after .below-L) _ (after .lengths) (after .index)
+    module _ {chip₂ spare₂ directory₂ : List ℕ} {w₂ : Work}
+        (settles : Does-all (update-all g waiting) (state chip₁ spare₁ directory cache₁ (w₁ .rec)) w₁ tt
+        (state chip₂ spare₂ directory₂ cache₁ (w₂ .rec)) w₂) where
+      settled : Index-settled g waiting (state chip₁ spare₁ directory cache₁ (w₁ .rec))
+          (update-all g waiting (state chip₁ spare₁ directory cache₁ (w₁ .rec)))
+      settled = settle-law (ready .accepted) waiting (after .below-L) _ (after .lengths) (after .index)
 
-      pub settled-keeps-used : w₃ .rec .used ≡ w₂ .rec .used
+      pub settled-keeps-used : w₂ .rec .used ≡ w₁ .rec .used
       settled-keeps-used =
           sym (ap (λ (s : State). s .small .used) (settles .after)) ∙ settled .only .rest .used
 
-      pub erase-ready : Chip-lent g chip₃ × Spare-lent g spare₃ × (v < blocks g) × Room-to-count 1 (w₃ .counts)
-      erase-ready =
-          let lengths : Lengths g (state chip₃ spare₃ directory₃ cache₂ (w₃ .rec)) =
+      pub erase-ready : v < blocks g → Chip-lent g chip₂ × Spare-lent g spare₂ × (v < blocks g) × Room-to-count 1 (w₂ .counts)
+      erase-ready on-chip =
+          let lengths : Lengths g (state chip₂ spare₂ directory₂ cache₁ (w₂ .rec)) =
           subst (Lengths g) (settles .after) (settled .lengths) in (
-            record { accepted = copies .accepted; chip-fits = lengths .chip-fits },
-            record { accepted = copies .accepted; spare-fits = lengths .spare-fits },
-            block-on-chip g Data v (copies .starts .in-region),
+            record { accepted = ready .accepted; chip-fits = lengths .chip-fits },
+            record { accepted = ready .accepted; spare-fits = lengths .spare-fits },
+            on-chip,
             countable-after 1 (update-bound g * (g .P - 1))
-                (countable-after (1 + update-bound g * (g .P - 1)) (2 * (g .P - 1)) (less-room (omega arith) countable)
-                (all-copied-costs copies) moves)
+                (countable-after (1 + update-bound g * (g .P - 1)) (2 * (g .P - 1)) (less-room (omega arith) (ready .countable))
+                copying-costs copies)
                 (omega (arith, settled .costs, waited)) settles,
           )

@@ -1,27 +1,39 @@
 -- The filter of the cached pages from step to step: only translate changes the number of entries in use, and the others change no more of
 -- an entry than the place that it names.
-use Prim.Native.Nat.{ℕ, _<_}
-use mathlib.Core.Path.{_≡_, sym, ap, subst}
+use Prim.Native.Nat.{ℕ, _+_, _<_}
+use mathlib.Core.Path.{_≡_, sym, ap, subst, subst₂}
 use mathlib.Core.List.{List, []}
 use native.Mathlib.Omega.{arith}
 use Rattle.scope.specs.Geometry.{Geometry}
 use Rattle.scope.specs.Regions.{Data}
 use Rattle.scope.specs.Lent.{Entry, Place, Nowhere, State}
 use Rattle.scope.specs.Sound.{rank-of}
-use Rattle.scope.specs.Operations.{Counts, Erase, apply, give, look, perform, set-cache, set-small, _>>=_}
-use Rattle.scope.specs.Room.{read-page, program-next, open-lowest}
-use Rattle.scope.specs.Cache.{touch, set-entry}
+use Rattle.scope.specs.Operations.{Erase, apply, give, look, perform, set-cache, set-small, _>>=_}
+use Rattle.scope.specs.Room.{read-page, program-next}
+use Rattle.scope.specs.Cache.{touch, forget, set-entry}
 use Rattle.scope.specs.Requests.{Replied, read-place}
 use Rattle.cache.specs.Ranks.{rank-found}
 use Rattle.lent.specs.declared.Work.{Work}
-use Rattle.lent.specs.Does.{Does}
 use Rattle.lent.specs.Shapes.{Does-flash, Does-by-chip, Does-cache}
 use Rattle.words.specs.Filter.{Filter}
-use Rattle.steps.specs.Filter.{filter-moved, filter-placed}
+use Rattle.steps.specs.Filter.{filter-moved, filter-forgotten, filter-placed}
 
 -- A page that was found is cached.
 pub found-in-use : (g : Geometry) (cache : List ℕ) (used l : ℕ) {i : ℕ} → rank-of g cache used l ≡ i → i < g .C → i < used
 found-in-use g cache used l is h = omega (arith, is, rank-found g cache used l (omega (arith, is)) .in-use)
+
+-- The filter of what was cached is one of what is cached now.
+abbrev pub Keeps-filters : List ℕ → ℕ → List ℕ → ℕ → Type 0
+Keeps-filters cache used cache′ used′ = (filter : List ℕ) → Filter cache used filter → Filter cache′ used′ filter
+
+-- The last entry is dropped.
+pub forgotten-filter : {cache cache′ : List ℕ} {w w′ : Work} (i : ℕ) → i + 1 ≡ w .rec .used → Does-cache (forget i) cache w tt cache′ w′
+    → Keeps-filters cache (w .rec .used) cache′ (w′ .rec .used)
+unfolding forget set-cache set-small _>>=_
+forgotten-filter {cache} {cache′} {w} {w′} i last does filter f =
+    let after = does [] [] [] .after in
+    subst₂ (λ (x : List ℕ) (n : ℕ). Filter x n filter) (ap (λ (s : State). s .cache) after)
+    (omega (arith, ap (λ (s : State). s .small .used) after)) (filter-forgotten f i (omega arith))
 
 -- As many are in use.
 pub filter-still : {cache filter : List ℕ} {n m : ℕ} → m ≡ n → Filter cache n filter → Filter cache m filter
@@ -40,11 +52,6 @@ module _ {cache cache′ filter : List ℕ} {w : Work} (f : Filter cache (w .rec
       (filter-placed f i place)
 
 -- Flash's steps leave the number of entries in use.
-pub opened-keeps-used : (g : Geometry) {s s′ : State} {c c′ : Counts} → Does (open-lowest g Data) s c tt s′ c′
-    → s′ .small .used ≡ s .small .used
-unfolding open-lowest look set-small _>>=_
-opened-keeps-used g does = sym (ap (λ (s : State). s .small .used) (does .after))
-
 module _ (g : Geometry) {chip spare chip′ spare′ : List ℕ} {w w′ : Work} where
   pub program-keeps-used : (l : ℕ) (words : List ℕ) {q : ℕ} → Does-flash (program-next g Data l words) chip spare w q chip′ spare′ w′
       → w′ .rec .used ≡ w .rec .used

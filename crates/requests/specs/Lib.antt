@@ -2,8 +2,7 @@
 pub mod Fresh
 pub mod Ready
 pub mod Translating
-pub mod Waiting
 pub mod Filtered
-pub mod Copying
+pub mod Following
 pub mod Collecting
 pub mod Answering

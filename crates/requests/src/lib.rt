@@ -1,6 +1,6 @@
 // Translate, room in the data region, read, write and format in code: each does its definition.
 pub mod answers;
-pub mod copying;
+pub mod following;
 pub mod fresh;
 pub mod room;
 pub mod translation;

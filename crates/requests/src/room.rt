@@ -1,28 +1,29 @@
-// Room in the data region: nothing is done, a block is opened, or one is collected, the cache following each moved page or the
-// translation pages, once all are copied.
-use crate::copying::move_pages;
+// Room in the data region: where a block is to be collected, its valid pages are copied, their moves followed by the cache or left to
+// wait, and what waits is settled in the translation pages.
+use crate::following::follow_moves;
+use copying::choice::Choice;
+use copying::choice::choose;
+use copying::copies::start;
 use lent::Geometry;
 use lent::Region;
 use lent::Work;
-use steps::blocks::erased_blocks;
-use steps::blocks::open_lowest;
-use steps::blocks::victim;
 use steps::chip::erase;
 use update::settle;
-ghost use Prim.Native.Nat.{_≤_};
 ghost use Rattle.lent.specs.Model.{geometry};
 ghost use Rattle.scope.specs.Regions.{Data};
-ghost use Rattle.scope.specs.Room.{collect, open-or-collect, make-room};
+ghost use Rattle.scope.specs.Room.{make-room};
 ghost use Rattle.scope.specs.Steps.{cache-follows};
 ghost use Rattle.words.specs.Census.{Census};
 ghost use Rattle.words.specs.Filter.{Filter};
+ghost use Rattle.copying.specs.Choice.{To-collect};
 ghost use Rattle.requests.specs.Ready.{lent, Does-all};
-ghost use Rattle.requests.specs.Collecting.{Room-ready, Collect-ready};
+ghost use Rattle.requests.specs.Collecting.{Room-ready};
 
-// The block with the fewest valid pages is emptied into the one erased block, and erased.
+// Block v is emptied into the one erased block, and erased.
 fn collect(
     work: Work,
     g: Geometry,
+    v: u32,
     chip: &mut [u32],
     spare: &mut [u32],
     census: &mut [u32],
@@ -30,60 +31,22 @@ fn collect(
     cache: &mut [u32],
     filter: &[u64; 1024],
 ) -> Work
-    requires { ⌜ Collect-ready (geometry g) (lent chip spare directory cache work) (work .counts) ⌝ }
+    requires { ⌜ Room-ready (geometry g) (lent chip spare directory cache work) (work .counts) × To-collect (geometry g) Data (now spare) work v ⌝ }
     requires { ⌜ Census (geometry g) (now spare) (now census) ⌝ }
     requires { ⌜ Filter (now cache) (work .rec .used) (now filter) ⌝ }
-    ensures { λ r. ⌜ Does-all (collect (geometry g) Data (cache-follows (geometry g)))
+    ensures { λ r. ⌜ Does-all (make-room (geometry g) Data (cache-follows (geometry g)))
         (lent (chip .entry) (spare .entry) (directory .entry) (cache .entry) work) work tt
         (lent (chip .exit) (spare .exit) (directory .exit) (cache .exit) r) r ⌝ }
     ensures { λ _. ⌜ Census (geometry g) (now (spare .exit)) (now (census .exit)) ⌝ }
     ensures { λ r. ⌜ Filter (now (cache .exit)) (r .rec .used) (now (filter .entry)) ⌝ }
 {
-    let v = victim(g, Region::Data, spare, census);
-    let opened = open_lowest(work, g, Region::Data, spare, census);
-    let mut waiting = [0u32; 192];
-    let copied = move_pages(
-        opened,
-        g,
-        v,
-        chip,
-        spare,
-        census,
-        cache,
-        filter,
-        &mut waiting,
-    );
+    let mut moves = [0u32; 192];
+    let copied = start(work, g, Region::Data, v, chip, spare, census, &mut moves);
     let moved = copied.work;
     let n = copied.n;
-    let settled = settle(moved, g, n, &waiting, chip, spare, census, directory);
+    let waiting = follow_moves(n, g, moved, cache, filter, &mut moves);
+    let settled = settle(moved, g, waiting, &moves, chip, spare, census, directory);
     erase(settled, g, v, chip, spare, census)
-}
-
-// The open block is full.
-fn open_or_collect(
-    work: Work,
-    g: Geometry,
-    chip: &mut [u32],
-    spare: &mut [u32],
-    census: &mut [u32],
-    directory: &mut [u32],
-    cache: &mut [u32],
-    filter: &[u64; 1024],
-) -> Work
-    requires { ⌜ Room-ready (geometry g) (lent chip spare directory cache work) (work .counts)
-        × (g .p ≤ work .rec .«data_offset») ⌝ }
-    requires { ⌜ Census (geometry g) (now spare) (now census) ⌝ }
-    requires { ⌜ Filter (now cache) (work .rec .used) (now filter) ⌝ }
-    ensures { λ r. ⌜ Does-all (open-or-collect (geometry g) Data (cache-follows (geometry g)))
-        (lent (chip .entry) (spare .entry) (directory .entry) (cache .entry) work) work tt
-        (lent (chip .exit) (spare .exit) (directory .exit) (cache .exit) r) r ⌝ }
-    ensures { λ _. ⌜ Census (geometry g) (now (spare .exit)) (now (census .exit)) ⌝ }
-    ensures { λ r. ⌜ Filter (now (cache .exit)) (r .rec .used) (now (filter .entry)) ⌝ }
-{
-    if 2 <= erased_blocks(g, Region::Data, spare, census) {
-        return open_lowest(work, g, Region::Data, spare, census);
-    }
-    collect(work, g, chip, spare, census, directory, cache, filter)
 }
 
 // Room for the next data page.
@@ -106,8 +69,9 @@ pub fn make_room(
     ensures { λ _. ⌜ Census (geometry g) (now (spare .exit)) (now (census .exit)) ⌝ }
     ensures { λ r. ⌜ Filter (now (cache .exit)) (r .rec .used) (now (filter .entry)) ⌝ }
 {
-    if work.rec.data_offset < g.p {
-        return work;
+    let choice = choose(work, g, Region::Data, spare, census);
+    match choice {
+        Choice::Made(made) => made,
+        Choice::Victim(v) => collect(work, g, v, chip, spare, census, directory, cache, filter),
     }
-    open_or_collect(work, g, chip, spare, census, directory, cache, filter)
 }

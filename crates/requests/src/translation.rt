@@ -23,6 +23,7 @@ ghost use Rattle.promises.specs.Translate.{translate-bound};
 ghost use Rattle.words.specs.Census.{Census};
 ghost use Rattle.words.specs.Filter.{Filter};
 ghost use Rattle.requests.specs.Ready.{lent, Does-all, Ready, Ready-for};
+ghost use Rattle.requests.specs.Filtered.{Keeps-filters};
 ghost use Rattle.requests.specs.Translating.{Fetches, Does-fetch};
 
 // The entry at rank i is written back, if it is changed.
@@ -61,21 +62,19 @@ fn drop_entry(
     census: &mut [u32],
     directory: &mut [u32],
     cache: &mut [u32],
-    filter: &mut [u64; 1024],
 ) -> Work
     requires { ⌜ Ready (geometry g) (lent chip spare directory cache work) (update-bound (geometry g)) (work .counts)
         × (1 ≤ work .rec .used) ⌝ }
     requires { ⌜ Census (geometry g) (now spare) (now census) ⌝ }
-    requires { ⌜ Filter (now cache) (work .rec .used) (now filter) ⌝ }
     ensures { λ r. ⌜ Does-all (drop-entry (geometry g))
         (lent (chip .entry) (spare .entry) (directory .entry) (cache .entry) work) work tt
         (lent (chip .exit) (spare .exit) (directory .exit) (cache .exit) r) r ⌝ }
     ensures { λ _. ⌜ Census (geometry g) (now (spare .exit)) (now (census .exit)) ⌝ }
-    ensures { λ r. ⌜ Filter (now (cache .exit)) (r .rec .used) (now (filter .exit)) ⌝ }
+    ensures { λ r. ⌜ Keeps-filters (now (cache .entry)) (work .rec .used) (now (cache .exit)) (r .rec .used) ⌝ }
 {
     let i = (work.rec.used - 1) as usize;
     let written = write_back_if_changed(work, g, i, chip, spare, census, directory, cache);
-    forget(g, i, cache, filter, written)
+    forget(i, cache, written)
 }
 
 // It is, where all are used.
@@ -87,21 +86,19 @@ fn drop_if_full(
     census: &mut [u32],
     directory: &mut [u32],
     cache: &mut [u32],
-    filter: &mut [u64; 1024],
 ) -> Work
     requires { ⌜ Ready (geometry g) (lent chip spare directory cache work) (update-bound (geometry g)) (work .counts) ⌝ }
     requires { ⌜ Census (geometry g) (now spare) (now census) ⌝ }
-    requires { ⌜ Filter (now cache) (work .rec .used) (now filter) ⌝ }
     ensures { λ r. ⌜ Does-all (drop-if-full (geometry g))
         (lent (chip .entry) (spare .entry) (directory .entry) (cache .entry) work) work tt
         (lent (chip .exit) (spare .exit) (directory .exit) (cache .exit) r) r ⌝ }
     ensures { λ _. ⌜ Census (geometry g) (now (spare .exit)) (now (census .exit)) ⌝ }
-    ensures { λ r. ⌜ Filter (now (cache .exit)) (r .rec .used) (now (filter .exit)) ⌝ }
+    ensures { λ r. ⌜ Keeps-filters (now (cache .entry)) (work .rec .used) (now (cache .exit)) (r .rec .used) ⌝ }
 {
     if work.rec.used < g.c {
         return work;
     }
-    drop_entry(work, g, chip, spare, census, directory, cache, filter)
+    drop_entry(work, g, chip, spare, census, directory, cache)
 }
 
 // What l's translation page holds for l enters the cache, in front.
@@ -153,7 +150,7 @@ pub fn translate(
         touch(i, cache);
         return Handed { value: 0, work };
     }
-    let freed = drop_if_full(work, g, chip, spare, census, directory, cache, filter);
+    let freed = drop_if_full(work, g, chip, spare, census, directory, cache);
     let fetched = fetch(freed, g, l, chip, directory, cache, filter);
     Handed {
         value: 0,

@@ -1,25 +1,24 @@
 -- The filter of the cached pages from step to step: what each leaf does to the cache and to the filter keeps every entry in use its bit.
-use Prim.Native.Nat.{ℕ, zero, suc, _+_, _-_, _*_, _≤_, _<_}
+use Prim.Native.Nat.{ℕ, zero, suc, _+_, _*_, _≤_, _<_}
 use mathlib.Core.Path.{_≡_, sym, ap, _∙_}
 use mathlib.Core.Logic.{_≢_}
 use mathlib.Core.Bool.{true, false}
 use mathlib.Core.List.{List, [], _∷_}
-use native.Mathlib.Nat.{mod-lt, mod-eq-of-lt, mul-le-mul-right}
+use native.Mathlib.Nat.{mod-lt}
 use native.Mathlib.Numerals.{add-one}
 use native.Mathlib.Omega.{arith}
 use lib.Dec.{eqb, ltb}
 use lib.ListN.{length}
 use lib.Seq.{sets, length-sets}
 use borrow.Author.Tests.{eqb-true, ltb-true, lt-ltb, le-ltb}
-use Rattle.scope.specs.Geometry.{Geometry, Accepted}
+use Rattle.scope.specs.Geometry.{Geometry}
 use Rattle.scope.specs.Lent.{none, entry-words, logical-at}
-use Rattle.scope.specs.Sound.{Entries-fit, rank-of}
+use Rattle.scope.specs.Sound.{rank-of}
 use Rattle.scope.specs.Cache.{without}
 use Rattle.flash.specs.Stores.{getD-sets-outside}
-use Rattle.flash.specs.Cases.{same?, below?, last, and-true, clash, is-false}
+use Rattle.flash.specs.Cases.{same?, below?, and-true, clash, is-false}
 use Rattle.cache.specs.Entries.{CacheEntry, entry, put as put-entry, to-front, placed, put-stores, rank-before, length-to-front, to-front-entry, new-in-front}
-use Rattle.steps.specs.Lies.{few-pages}
-use Rattle.words.specs.Bitmap.{has, put, flip, length-put, length-flip, has-put-same, has-put-other, has-flip-other}
+use Rattle.words.specs.Bitmap.{has, put, length-put, has-put-same, has-put-other}
 use Rattle.words.specs.Filter.{Filter, bit-of}
 use Rattle.words.specs.Searches.{lowest-fails}
 
@@ -86,28 +85,18 @@ module _ {cache filter : List ℕ} {used : ℕ} (f : Filter cache used filter) w
       (stored f (suc used) used e room room (length-put filter (bit-of l) ∙ f .filter-fits) (put-there filter l (f .filter-fits))
       (λ j h q. still filter l (f .filter-fits) (logical-at j cache) (f .each j (omega arith)))) used (omega arith))
 
-  -- The last is dropped: the pages differ, and there are fewer than bits, so that no other page's bit goes with it.
-  pub filter-forgotten : (g : Geometry) (i : ℕ) → g .L ≤ 65536 → Entries-fit g cache used → suc i ≡ used
-      → Filter (sets cache (i * entry-words) (none ∷ none ∷ none ∷ [])) i (flip filter (bit-of (logical-at i cache)))
-  filter-forgotten g i few fits last =
+  -- The last is dropped: fewer entries keep the filter.
+  pub filter-forgotten : (i : ℕ) → suc i ≡ used → Filter (sets cache (i * entry-words) (none ∷ none ∷ none ∷ [])) i filter
+  filter-forgotten i last =
       let stores = put-stores (f .ranks) cache (f .cache-fits) i (omega (arith, f .used-to)) (record { logical = none; physical = none; changed = none }) in
       record {
         ranks = f .ranks;
         cache-fits = stores .long;
         used-to = omega (arith, f .used-to);
-        filter-fits = length-flip filter (bit-of (logical-at i cache)) ∙ f .filter-fits;
+        filter-fits = f .filter-fits;
         each = λ j h.
-            ap (λ (x : CacheEntry). has (flip filter (bit-of (logical-at i cache))) (bit-of (x .logical))) (stores .elsewhere j (λ q. omega arith))
-            ∙ has-flip-other filter (bit-of (logical-at i cache)) (bit-of (logical-at j cache)) (λ q. omega (arith, apart j h q))
-            ∙ f .each j (omega arith);
+            ap (λ (x : CacheEntry). has filter (bit-of (x .logical))) (stores .elsewhere j (λ q. omega arith)) ∙ f .each j (omega arith);
       }
-    where
-      own-bit : (k : ℕ) → k < used → bit-of (logical-at k cache) ≡ logical-at k cache
-      own-bit k h = mod-eq-of-lt (omega (arith, fits .below-L k h))
-
-      apart : (j : ℕ) → j < i → bit-of (logical-at j cache) ≡ bit-of (logical-at i cache) → j ≡ i
-      apart j h q =
-          fits .different j i (omega arith) (omega arith) (sym (own-bit j (omega arith)) ∙ q ∙ own-bit i (omega arith))
 
 -- An entry takes another place, whether it is in use or not: no entry's page is another.
 pub filter-placed : {cache filter : List ℕ} {used : ℕ} → Filter cache used filter → (i place : ℕ) → Filter (placed i place cache) used filter
@@ -129,16 +118,3 @@ pub filter-gains : {cache filter cache′ filter′ : List ℕ} {used used′ b 
     → cache′ ≡ l ∷ place ∷ 0 ∷ without used cache → Filter cache′ used′ filter′
 filter-gains f l place room more is-bit is-put stored =
     rw (more, is-put, is-bit, stored) (filter-entered f l place (omega (arith, f .cache-fits)))
-
-pub filter-loses : {cache filter cache′ filter′ : List ℕ} {used used′ b : ℕ} → Filter cache used filter → (g : Geometry) (i : ℕ)
-    → Accepted g → Entries-fit g cache used → i + 1 ≡ used → used′ ≡ used - 1 → b ≡ bit-of (logical-at i cache) → filter′ ≡ flip filter b
-    → cache′ ≡ sets cache (i * 3) (none ∷ none ∷ none ∷ []) → Filter cache′ used′ filter′
-filter-loses {used = used} {used′} f g i ok fits last less is-bit is-flip stored =
-    let is-i : used′ ≡ i = omega (arith, less, last) in
-    rw (is-i, is-flip, is-bit, stored) (filter-forgotten f g i (logical-few ok) fits (omega (arith, last)))
-  where
-    fewer : (d t : ℕ) → d - 1 ≤ d + t
-    fewer d t = omega arith
-
-    logical-few : {g : Geometry} → Accepted g → g .L ≤ 65536
-    logical-few {g} ok = omega (arith, ok .L-to, few-pages ok, mul-le-mul-right (g .P) (fewer (g .D) (g .T)))

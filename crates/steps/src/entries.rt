@@ -12,8 +12,7 @@ use words::runs::store_two;
 ghost use mathlib.Core.Path.{_≡_};
 ghost use Prim.Native.Nat.{_+_, _*_, _≤_, _<_};
 ghost use lib.ListN.{length};
-ghost use Rattle.scope.specs.Geometry.{Accepted};
-ghost use Rattle.scope.specs.Sound.{Entries-fit, rank-of};
+ghost use Rattle.scope.specs.Sound.{rank-of};
 ghost use Rattle.scope.specs.Cache.{is-changed, touch, enter, forget, set-entry};
 ghost use Rattle.scope.specs.Lent.{entry-words, logical-at, physical-at};
 ghost use Rattle.lent.specs.declared.Work.{Work};
@@ -90,21 +89,11 @@ pub fn enter(work: Work, l: u32, place: u32, cache: &mut [u32], filter: &mut [u6
 }
 
 // The entry at rank i, the last, is dropped.
-pub fn forget(
-    g: Geometry,
-    i: usize,
-    cache: &mut [u32],
-    filter: &mut [u64; 1024],
-    work: Work,
-) -> Work
+pub fn forget(i: usize, cache: &mut [u32], work: Work) -> Work
     requires { ⌜ (i * 3 + 3 ≤ length (now cache)) × (i + 1 ≡ work .rec .used) ⌝ }
-    requires { ⌜ Accepted (geometry g) × Entries-fit (geometry g) (now cache) (work .rec .used) ⌝ }
-    requires { ⌜ Filter (now cache) (work .rec .used) (now filter) ⌝ }
     ensures { λ r. ⌜ Does-cache (forget i) (now (cache .entry)) work tt (now (cache .exit)) r ⌝ }
-    ensures { λ r. ⌜ Filter (now (cache .exit)) (r .rec .used) (now (filter .exit)) ⌝ }
 {
     let mut next = work;
-    bitmap::flip(filter, bit_of(cache[i * 3]));
     store_three(cache, i * 3, NONE, NONE, NONE);
     let less = work.rec.used - 1;
     next.rec.used = less;

@@ -1,89 +1,78 @@
--- A collection of the translation region, from a full open block and one erased block: what each of its parts asks for, from what the
--- parts before it did.
-use Prim.Native.Nat.{ℕ, _*_, _≤_, _<_}
-use mathlib.Core.Path.{_≡_, refl, subst, subst₂}
+-- A collection of the translation region: what each of its parts asks for, from what the parts before it did, and that together they make
+-- room.
+use Prim.Native.Nat.{ℕ, _+_, _*_, _≤_, _<_}
+use mathlib.Core.Path.{_≡_, refl, _∙_}
 use mathlib.Core.List.{List, []}
 use native.Mathlib.Omega.{arith}
-use Rattle.scope.specs.Geometry.{Geometry, blocks}
+use lib.ListN.{length, getD}
+use Rattle.scope.specs.Geometry.{Geometry}
 use Rattle.scope.specs.Regions.{Translation}
-use Rattle.scope.specs.Lent.{State}
-use Rattle.scope.specs.Room.{erased-blocks, victim, move-pages, open-lowest}
-use Rattle.scope.specs.Steps.{directory-follows}
-use Rattle.flash.specs.Listed.{cost-none}
-use Rattle.flash.specs.Places.{block-on-chip}
-use Rattle.flash.specs.Heads.{rest-sym, opened-rest}
-use Rattle.flash.specs.SamePages.{same-refl}
-use Rattle.region.specs.DirectoryFollows.{directory-view, Translation-only, since, directory-follower}
-use Rattle.region.specs.Collect.{opened-lowest}
+use Rattle.scope.specs.Lent.{Mapping}
+use Rattle.scope.specs.Operations.{Erase, perform}
+use Rattle.scope.specs.Room.{make-room}
+use Rattle.scope.specs.Steps.{directory-names-it, directory-follows}
+use Rattle.region.specs.DirectoryFollows.{in-directory}
+use Rattle.region.specs.Apart.{waits-all, follow-each, directory-apart}
 use Rattle.lent.specs.declared.Work.{Work}
-use Rattle.lent.specs.Model.{small}
-use Rattle.lent.specs.Shapes.{Does-by-spare, Room-to-count, room-after}
-use Rattle.update.specs.Index.{Does-index, no-cache, index-state, Index-lent, index-lengths, less-room, Room-ready}
-use Rattle.update.specs.Starts.{Starts, collection-starts}
-use Rattle.update.specs.Room.{opened-is, opening-counts}
-use Rattle.update.specs.Moving.{Copy-ready, Copied-upto, still-lent, still-counting}
+use Rattle.lent.specs.DoesLaws.{does-give, does-bind}
+use Rattle.lent.specs.Shapes.{Does-flash, Does-directory}
+use Rattle.copying.specs.Moves.{move-at, first-moves, no-moves, one-more}
+use Rattle.copying.specs.Choice.{To-collect, start-collect, follow-none-does, follow-more-does, start-follows-does, collect-does}
+use Rattle.copying.specs.Copies.{less-room}
+use Rattle.copying.specs.Starting.{Collect-ready}
+use Rattle.update.specs.Index.{Does-index, Room-ready}
 
--- Room where the open block is full: of two erased blocks one is opened, and else one is collected.
-pub record Full-ready (g : Geometry) (chip spare directory : List ℕ) (w : Work) : Type 0 where
-  pub ready : Room-ready g chip spare directory w
-  pub full : g .P ≤ w .rec .«translation_offset»
+-- ---- the directory follows
 
-pub record Collect-ready (g : Geometry) (chip spare directory : List ℕ) (w : Work) : Type 0 where
-  pub full : Full-ready g chip spare directory w
-  pub few : erased-blocks g Translation (index-state g chip spare directory w) < 2
+-- The first i of the moves are followed.
+pub record Named-upto (moves : List ℕ) (n i : ℕ) (directory₀ directory : List ℕ) : Type 0 where
+  pub upto : i ≤ n
+  pub as-long : length directory ≡ length directory₀
+  pub does : (w : Work) → Does-directory (follow-each directory-follows (first-moves i moves)) directory₀ w [] directory w
 
-pub collect-ready : {g : Geometry} {chip spare directory : List ℕ} {w : Work} {n : ℕ} → Full-ready g chip spare directory w
-    → ((s : State) → s .spare ≡ spare → erased-blocks g Translation s ≡ n) → n < 2 → Collect-ready g chip spare directory w
-collect-ready {g} {chip} {spare} {directory} {w} full found one =
-    record { full = full; few = omega (arith, found (index-state g chip spare directory w) refl) }
+pub none-named : (moves : List ℕ) (n : ℕ) {directory : List ℕ} → Named-upto moves n 0 directory directory
+none-named moves n =
+    record {
+      upto = omega arith;
+      as-long = refl;
+      does = λ w chip spare cache. rw (no-moves moves) (follow-none-does directory-follows);
+    }
 
--- The erased block is opened, and the victim found.
-module _ {g : Geometry} {chip spare directory : List ℕ} {w w₁ : Work} {v : ℕ} (h : Collect-ready g chip spare directory w)
-    (found : (s : State) → s .spare ≡ spare → victim g Translation s ≡ v)
-    (opened : Does-by-spare (open-lowest g Translation) spare w tt w₁) where
-  abbrev s : State
-  s = index-state g chip spare directory w
+pub one-named : {moves : List ℕ} {n i : ℕ} {directory₀ directory directory′ : List ℕ} → Named-upto moves n i directory₀ directory → i < n
+    → length directory′ ≡ length directory
+    → ((w : Work) → Does-directory (directory-names-it (getD moves (i * 3) 0) (getD moves (i * 3 + 1) 0)) directory w tt directory′ w)
+    → Named-upto moves n (i + 1) directory₀ directory′
+one-named {moves} {i = i} before more long names =
+    record {
+      upto = omega arith;
+      as-long = long ∙ before .as-long;
+      does = λ w chip spare cache. rw (one-more moves i)
+          (follow-more-does directory-apart (first-moves i moves) (move-at i moves) (before .does w chip spare cache)
+          (does-bind _ (names w chip spare cache) (does-give [])));
+    }
 
-  abbrev s₁ : State
-  s₁ = index-state g chip spare directory w₁
+-- ---- the collection
 
-  is-opened : opened-lowest g Translation s ≡ s₁
-  is-opened = opened-is g Translation (opened chip directory (no-cache g))
-
-  since-opened : Translation-only g s₁ s
-  since-opened = subst (λ x. Translation-only g x s) is-opened
-      (record { data-pages = same-refl; cache = refl; rest = rest-sym (opened-rest Translation _ (s .small)) })
-
-  pub copy-ready : Copy-ready g chip spare directory w₁ v
-  copy-ready =
+module _ {g : Geometry} {chip spare directory : List ℕ} {w : Work} {v : ℕ} (ready : Room-ready g chip spare directory w)
+    (chosen : To-collect g Translation spare w v) where
+  pub start-ready : Collect-ready g Translation v chip spare w
+  start-ready =
       record {
-        lent = lent;
-        starts = subst₂ (Starts g Translation directory-view (since g s₁)) (found s refl) is-opened
-            (collection-starts (directory-follower g s₁) s (lent .accepted) (index-lengths w lent) (h .full .ready .holds) since-opened
-            (h .full .full) (h .few));
-        counting = room-after (2 * g .P) 0 (w .counts) (w₁ .counts) [] (less-room (omega arith) (h .full .ready .counting))
-            (omega (arith, cost-none)) (opening-counts g Translation (opened chip directory (no-cache g)));
+        accepted = ready .lent .accepted;
+        chip-fits = ready .lent .chip-fits;
+        spare-fits = ready .lent .spare-fits;
+        places = in-directory directory;
+        holds = ready .holds;
+        chosen = chosen;
+        countable = less-room (omega arith) (ready .counting);
       }
-    where
-      lent : Index-lent g chip spare directory
-      lent = h .full .ready .lent
 
--- The victim is erased after the copies.
-module _ {g : Geometry} {chip spare directory chip₁ spare₁ directory₁ : List ℕ} {w w₁ : Work} {v : ℕ}
-    (ready : Copy-ready g chip spare directory w v)
-    (moved : Does-index (move-pages g Translation directory-follows v (g .P)) chip spare directory w [] chip₁ spare₁ directory₁ w₁) where
-  all-copied : Copied-upto g chip spare directory w v (g .P) chip₁ spare₁ directory₁ w₁
-  all-copied = record { upto = omega arith; does = moved }
-
-  pub record Erase-ready : Type 0 where
-    pub lent : Index-lent g chip₁ spare₁ directory₁
-    pub on-chip : v < blocks g
-    pub counting : Room-to-count 1 (w₁ .counts)
-
-  pub erase-ready : Erase-ready
-  erase-ready =
-      record {
-        lent = still-lent ready all-copied;
-        on-chip = block-on-chip g Translation v (ready .starts .in-region);
-        counting = less-room (omega arith) (still-counting ready all-copied);
-      }
+  pub collected-does : {moves : List Mapping} {chip₁ spare₁ directory₁ chip₂ spare₂ : List ℕ} {w₁ w₂ : Work}
+      → Does-flash (start-collect g Translation waits-all v) chip spare w moves chip₁ spare₁ w₁
+      → ((w : Work) → Does-directory (follow-each directory-follows moves) directory w [] directory₁ w)
+      → Does-flash (perform g (Erase v)) chip₁ spare₁ w₁ tt chip₂ spare₂ w₂
+      → Does-index (make-room g Translation directory-follows) chip spare directory w tt chip₂ spare₂ directory₁ w₂
+  collected-does {chip₁ = chip₁} {spare₁} {directory₁} {w₁ = w₁} starts names erases cache =
+      collect-does directory-follows chosen
+      (start-follows-does directory-apart g Translation v (starts directory cache) (names w₁ chip₁ spare₁ cache))
+      (does-give tt) (erases directory₁ cache)

@@ -1,9 +1,8 @@
 -- The index, chip, spare and directory, as the steps of this crate are lent it: they do their definitions whatever the cache holds. The
 -- laws of the theory are of whole states, so they are asked of one with a cache of *none* throughout.
-use Prim.Native.Nat.{ℕ, _*_, _≤_, _<_}
+use Prim.Native.Nat.{ℕ, _*_, _<_}
 use mathlib.Core.Path.{_≡_}
 use mathlib.Core.List.{List}
-use native.Mathlib.Omega.{arith}
 use lib.ListN.{length, replicate, length-replicate}
 use Rattle.scope.specs.Geometry.{Geometry, Accepted}
 use Rattle.scope.specs.Regions.{Translation}
@@ -15,7 +14,6 @@ use Rattle.region.specs.DirectoryFollows.{in-directory}
 use Rattle.cache.specs.Waiting.{Waits}
 use Rattle.promises.specs.Parts.{Index-holds}
 use Rattle.promises.specs.Update.{update-bound}
-use Rattle.lent.specs.declared.Counts.{Counts as Counted}
 use Rattle.lent.specs.declared.Work.{Work}
 use Rattle.lent.specs.Model.{state, counts}
 use Rattle.lent.specs.Does.{Does}
@@ -84,12 +82,3 @@ pub record Room-ready (g : Geometry) (chip spare directory : List ℕ) (w : Work
   pub lent : Index-lent g chip spare directory
   pub holds : Region-holds g Translation chip spare (w .rec .«open_translation») (w .rec .«translation_offset») (in-directory directory)
   pub counting : Room-to-count (2 * g .P) (w .counts)
-
--- Room for more is room for less.
-pub less-room : {n m : ℕ} {c : Counted} → n ≤ m → Room-to-count m c → Room-to-count n c
-less-room h room =
-    record {
-      reads = omega (arith, room .reads);
-      programs = omega (arith, room .programs);
-      erases = omega (arith, room .erases);
-    }

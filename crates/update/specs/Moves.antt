@@ -1,10 +1,9 @@
 -- What waits as a list of mappings, and by translation pages: the words that it sets in one of them, and the next one that it touches.
-use Prim.Native.Nat.{ℕ, zero, suc, _+_, _*_, _≤_, _<_}
+use Prim.Native.Nat.{ℕ, _+_, _*_, _≤_, _<_}
 use mathlib.Core.Path.{_≡_, refl, sym, ap, _∙_}
 use mathlib.Core.Logic.{_≢_}
 use mathlib.Core.Bool.{cond}
 use mathlib.Core.List.{List, [], _∷_, _++_, append-nil}
-use native.Mathlib.Numerals.{add-one}
 use native.Mathlib.Omega.{arith}
 use lib.Dec.{eqb, ltb}
 use lib.ListN.{length, getD, set, length-append, length-set}
@@ -20,28 +19,12 @@ use Rattle.promises.specs.Stored.{length-set-words}
 use Rattle.steps.specs.Lies.{Chip-lent, words-lie}
 use Rattle.steps.specs.Chip.{one-word-set}
 
--- The first n mappings of a list that has three words for each: the logical page, the physical page, and the translation page, which is
--- reckoned once for all the times that it is looked at.
-unfoldable pub first-moves : ℕ → List ℕ → List Mapping
-first-moves zero waiting = []
-first-moves (suc n) waiting =
-    first-moves n waiting ++ record { logical = getD waiting (n * 3) 0; physical = getD waiting (n * 3 + 1) 0 } ∷ []
-
+-- The first n mappings of the lent array wait: the third word of each is its translation page, which is reckoned once for all the times
+-- that it is looked at.
 pub record Waits-in (g : Geometry) (n : ℕ) (waiting : List ℕ) : Type 0 where
   pub long : length waiting ≡ 192
   pub few : n ≤ 64
   pub of-pages : (i : ℕ) → i < n → getD waiting (i * 3 + 2) 0 ≡ translation-page g (getD waiting (i * 3) 0)
-
-module _ (waiting : List ℕ) where
-  pub no-moves : first-moves 0 waiting ≡ []
-  unfolding first-moves
-  no-moves = refl
-
-  pub one-more : (n : ℕ)
-      → first-moves (n + 1) waiting
-      ≡ first-moves n waiting ++ record { logical = getD waiting (n * 3) 0; physical = getD waiting (n * 3 + 1) 0 } ∷ []
-  unfolding first-moves
-  one-more n = rw add-one
 
 -- ---- the mappings of one translation page
 

@@ -18,7 +18,8 @@ use Rattle.promises.specs.Update.{update-bound, Updated, update-law}
 use Rattle.lent.specs.declared.Work.{Work}
 use Rattle.lent.specs.DoesLaws.{does-give, does-for-none, does-for-more}
 use Rattle.lent.specs.Shapes.{Room-to-count, room-after}
-use Rattle.update.specs.Index.{Does-index, no-cache, index-state, Index-lent, index-lengths, lengths-lent, less-room, Index-ready}
+use Rattle.copying.specs.Copies.{less-room}
+use Rattle.update.specs.Index.{Does-index, no-cache, index-state, Index-lent, index-lengths, lengths-lent, Index-ready}
 use Rattle.update.specs.Moves.{Next-touched}
 use Rattle.update.specs.Writing.{Page-ready}
 

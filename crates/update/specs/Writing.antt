@@ -29,7 +29,8 @@ use Rattle.steps.specs.Lies.{Spare-lent, words-lie, next-page, Has-next, next-s
 use Rattle.steps.specs.Chip.{marked, Claimed, program-does, mark-old-does}
 use Rattle.steps.specs.Chip.{begun-words, Begun, begun-does, length-begun, room-after-begun, no-word-set, one-word-set}
 use Rattle.update.specs.Index.{Does-index, no-cache, index-state, Index-lent, chip-of, spare-of, index-lengths, lengths-lent}
-use Rattle.update.specs.Index.{less-room, Index-ready, Room-ready}
+use Rattle.copying.specs.Copies.{less-room}
+use Rattle.update.specs.Index.{Index-ready, Room-ready}
 
 -- What an update of translation page t asks for.
 pub record Page-ready (g : Geometry) (chip spare directory : List ℕ) (w : Work) (t : ℕ) : Type 0 where

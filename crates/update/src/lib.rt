@@ -13,7 +13,8 @@ ghost use Rattle.scope.specs.Lent.{translation-page};
 ghost use Rattle.scope.specs.Steps.{of-page, update, update-all};
 ghost use Rattle.lent.specs.Model.{geometry};
 ghost use Rattle.words.specs.Census.{Census};
-ghost use Rattle.update.specs.Moves.{first-moves, Waits-in};
+ghost use Rattle.copying.specs.Moves.{first-moves};
+ghost use Rattle.update.specs.Moves.{Waits-in};
 ghost use Rattle.update.specs.Index.{Does-index, Index-ready};
 ghost use Rattle.update.specs.Writing.{Page-ready};
 

@@ -13,7 +13,8 @@ ghost use Rattle.scope.specs.Lent.{words-of, translation-page, translation-word
 ghost use Rattle.scope.specs.Steps.{of-page, set-words};
 ghost use Rattle.lent.specs.Model.{geometry};
 ghost use Rattle.steps.specs.Lies.{Chip-lent};
-ghost use Rattle.update.specs.Moves.{first-moves, Waits-in, Next-touched, nearer};
+ghost use Rattle.copying.specs.Moves.{first-moves};
+ghost use Rattle.update.specs.Moves.{Waits-in, Next-touched, nearer};
 
 // In the translation page at q, the word of logical page l, where l's translation page is t.
 fn set_if_of(g: Geometry, q: u32, t: u32, page: u32, l: u32, place: u32, chip: &mut [u32])

@@ -6,7 +6,7 @@ use mathlib.Core.Bool.{Bool, true, false}
 use mathlib.Core.List.{List}
 use native.Mathlib.Nat.{mod-lt, mul-mod-left, pow-suc, div-eq-of-lt, div-self, zero-div}
 use native.Mathlib.Omega.{arith}
-use lib.Bits.{bitOr, bitXor, or-shr, or-mod, or-zero-r, xor-shr, xor-mod, xor-zero-r}
+use lib.Bits.{bitOr, or-shr, or-mod, or-zero-r}
 use lib.Dec.{eqb}
 use lib.ListN.{length, getD, set, replicate, length-set}
 use lib.Pow.{pow-pos, pow-lt, pow-add, shl-shr}
@@ -20,10 +20,6 @@ has map i = eqb (getD map (i / 64) 0 / 2 ^ (i % 64) % 2) 1
 -- The set with i.
 unfoldable pub put : List ℕ → ℕ → List ℕ
 put map i = set map (i / 64) (bitOr (getD map (i / 64) 0) (2 ^ (i % 64)))
-
--- The set with i where it was without, and the other way round.
-unfoldable pub flip : List ℕ → ℕ → List ℕ
-flip map i = set map (i / 64) (bitXor (getD map (i / 64) 0) (2 ^ (i % 64)))
 
 -- The set with nothing in it, for the numbers below 65,536.
 abbrev pub empty : List ℕ
@@ -65,13 +61,6 @@ bit-kept : (m j k : ℕ) → j ≢ k → bitOr m (2 ^ j) / 2 ^ k % 2 ≡ m / 2 ^
 bit-kept m j k ne =
     or-bit m (2 ^ j) k ∙ ap (bitOr (m / 2 ^ k % 2)) (power-other j k ne) ∙ or-zero-r (m / 2 ^ k % 2)
 
-flipped-kept : (m j k : ℕ) → j ≢ k → bitXor m (2 ^ j) / 2 ^ k % 2 ≡ m / 2 ^ k % 2
-flipped-kept m j k ne =
-    ap (λ (x : ℕ). x % 2) (xor-shr m (2 ^ j) k)
-    ∙ xor-mod (m / 2 ^ k) (2 ^ j / 2 ^ k) 1
-    ∙ ap (bitXor (m / 2 ^ k % 2)) (power-other j k ne)
-    ∙ xor-zero-r (m / 2 ^ k % 2)
-
 -- ---- the set
 
 zero-at : (n j : ℕ) → _≡_ {A = ℕ} (getD (replicate n 0) j 0) 0
@@ -96,27 +85,14 @@ has-put-same map i h =
     ap (λ (x : ℕ). eqb (x / 2 ^ (i % 64) % 2) 1) (getD-set-same map (i / 64) (bitOr m (2 ^ (i % 64))) 0 h)
     ∙ ap (λ (x : ℕ). eqb x 1) (bit-put m (i % 64))
 
--- A number beside the one that changes: `kept` says that its bit stays where they share a word.
-beside : (map : List ℕ) (i j x : ℕ) → j ≢ i → (j % 64 ≢ i % 64 → x / 2 ^ (j % 64) % 2 ≡ getD map (i / 64) 0 / 2 ^ (j % 64) % 2)
-    → has (set map (i / 64) x) j ≡ has map j
-unfolding has
-beside map i j x ne kept =
+-- A number beside the one that is put in.
+pub has-put-other : (map : List ℕ) (i j : ℕ) → j ≢ i → has (put map i) j ≡ has map j
+unfolding has put
+has-put-other map i j ne =
+    let m : ℕ = getD map (i / 64) 0 in
+    let x : ℕ = bitOr m (2 ^ (i % 64)) in
     same? (j / 64) (i / 64)
     (λ e. below? (i / 64) (length map)
-    (λ h. rw (e, getD-set-same map (i / 64) x 0 h, kept (λ f. ne (omega arith))))
+    (λ h. rw (e, getD-set-same map (i / 64) x 0 h, bit-kept m (i % 64) (j % 64) (λ f. ne (omega arith))))
     (λ h. rw (set-out map (i / 64) x h)))
     (λ d. ap (λ (y : ℕ). eqb (y / 2 ^ (j % 64) % 2) 1) (getD-set-other map (i / 64) (j / 64) x 0 d))
-
-pub has-put-other : (map : List ℕ) (i j : ℕ) → j ≢ i → has (put map i) j ≡ has map j
-unfolding put
-has-put-other map i j ne =
-    beside map i j (bitOr (getD map (i / 64) 0) (2 ^ (i % 64))) ne (λ d. bit-kept (getD map (i / 64) 0) (i % 64) (j % 64) (λ e. d (sym e)))
-
-pub has-flip-other : (map : List ℕ) (i j : ℕ) → j ≢ i → has (flip map i) j ≡ has map j
-unfolding flip
-has-flip-other map i j ne =
-    beside map i j (bitXor (getD map (i / 64) 0) (2 ^ (i % 64))) ne (λ d. flipped-kept (getD map (i / 64) 0) (i % 64) (j % 64) (λ e. d (sym e)))
-
-pub length-flip : (map : List ℕ) (i : ℕ) → length (flip map i) ≡ length map
-unfolding flip
-length-flip map i = simp length-set

@@ -1,5 +1,5 @@
 -- The filter: a bit for each logical page, set where the page is cached, so that a page that isn't is known without a search. A set bit
--- says nothing, so all that is kept is that each entry in use has its bit.
+-- says nothing, so all that is kept is that each entry in use has its bit, and no bit is ever cleared.
 use Prim.Native.Nat.{ℕ, _*_, _%_, _≤_, _<_}
 use mathlib.Core.Path.{_≡_}
 use mathlib.Core.Bool.{true}

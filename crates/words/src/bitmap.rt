@@ -1,7 +1,7 @@
 // A set of the numbers below 65,536, a bit for each, in 8 KiB of stack: the cached logical pages.
 ghost use mathlib.Core.Path.{_≡_};
 ghost use Prim.Native.Nat.{_<_};
-ghost use Rattle.words.specs.Bitmap.{has, put, flip, empty};
+ghost use Rattle.words.specs.Bitmap.{has, put, empty};
 
 // The set with nothing in it, whatever it was.
 pub fn clear(map: &mut [u64; 1024])
@@ -26,13 +26,4 @@ pub fn put(map: &mut [u64; 1024], i: usize)
 {
     let word = map[i / 64];
     map[i / 64] = word | (1u64 << (i % 64));
-}
-
-// The set with i where it was without, and without i where it was with it.
-pub fn flip(map: &mut [u64; 1024], i: usize)
-    requires { ⌜ i < 65536 ⌝ }
-    ensures { λ _. ⌜ now (map .exit) ≡ flip (now (map .entry)) i ⌝ }
-{
-    let word = map[i / 64];
-    map[i / 64] = word ^ (1u64 << (i % 64));
 }

@@ -5,7 +5,7 @@ use Prim.Native.Nat.{_-_}
 use lib.ListN.{length}
 use Rattle.lent.specs.Model.{geometry}
 use Rattle.words.specs.Census.{Census}
-use Rattle.update.specs.Moves.{first-moves}
+use Rattle.copying.specs.Moves.{first-moves}
 use Rattle.update.specs.Settling.{M-small, Settling, settle-starts, settle-next, settle-goes-on, settle-ends}
 use Rattle.update.proofs.settle.Statement.{statement}
 use Rattle.update.proofs.settle.Tie as tie

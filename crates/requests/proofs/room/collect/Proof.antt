@@ -3,96 +3,105 @@ use mathlib.Core.Path.{refl, _∙_}
 use native.Mathlib.Omega.{arith}
 use Rattle.scope.specs.Regions.{Data}
 use Rattle.scope.specs.Steps.{cache-follows}
+use Rattle.region.specs.Apart.{cache-apart}
 use Rattle.lent.specs.Model.{geometry}
-use Rattle.update.specs.Room.{collect-does}
-use Rattle.requests.specs.Collecting.{copy-ready, settle-ready, settled-keeps-used, erase-ready}
-use Rattle.requests.specs.Filtered.{filter-still, opened-keeps-used, erase-keeps-used}
+use Rattle.copying.specs.Choice.{start-keeps-used, start-follows-does, collect-does}
+use Rattle.requests.specs.Collecting.{start-ready, settle-ready, settled-keeps-used, erase-ready}
+use Rattle.requests.specs.Filtered.{filter-still, erase-keeps-used}
 use Rattle.requests.proofs.room.collect.Statement.{statement}
 use Rattle.requests.proofs.room.collect.Tie as tie
 
-victim-requires : tie.Need-victim-requires
-victim-requires c κs =
-    let start = c .before .before .before .before .before .before .before in
-    (start .pre .0 .room-ready .ready .accepted, start .pre .1 .0)
+-- The places: where all begins, the pages copied, the moves followed, and what waits settled.
+abbrev begun : tie.After-start → tie.Start
+begun c = c .before .before .before .before .before .before .before .before .before .before
 
-open-lowest-requires : tie.Need-open-lowest-requires
-open-lowest-requires c κs =
-    let start = c .before .before .before .before .before .before .before .before .before .before in
-    (start .pre .0 .room-ready .ready .accepted, start .pre .1 .0)
+abbrev copied : tie.After-follow-moves → tie.After-start
+copied c = c .before .before .before .before .before .before .before .before .before .before
 
-move-pages-requires : tie.Need-move-pages-requires
-move-pages-requires c κs =
-    let opened = c .before .before .before .before .before in
-    let chosen = opened .before .before .before in
-    let start = chosen .before .before .before .before .before .before .before .before in
-    let opens = opened .open-lowest .ensures _ _ _ in (
-      copy-ready (start .pre .0) (chosen .victim .ensures _ refl) opens,
-      (start .pre .1 .0, (filter-still (opened-keeps-used (geometry (start .args .g)) opens) (start .pre .1 .1), refl)),
+abbrev followed : tie.After-settle → tie.After-follow-moves
+followed c = c .before .before .before .before .before .before .before .before
+
+abbrev erased : tie.After-slice-known16 → tie.After-erase
+erased c = c .before .before .before .before .before .before
+
+abbrev settled : tie.After-erase → tie.After-settle
+settled c = c .before .before .before .before .before .before .before .before .before .before .before .before
+
+start-requires : tie.Need-start-requires
+start-requires c κs = let pre = c .before .before .before .before .before .before .before .before .before .pre in (start-ready (pre .0 .0) (pre .0 .1), (pre .1 .0, refl))
+
+follow-moves-requires : tie.Need-follow-moves-requires
+follow-moves-requires c κs =
+    let done = c .before .before .before .before .before .before .before .before .before in
+    let pre = begun done .pre in
+    let ready = pre .0 .0 .ready in
+    let used = start-keeps-used _ _ _ (done .start .ensures .0) in (
+      (
+        ready .accepted,
+        record { cache-fits = ready .lengths .cache-fits; used-to = omega (arith, used, ready .sound .rule-5 .at-most) },
+        omega (arith, done .start .ensures .1 .0 .few, ready .accepted .P-to),
+      ),
+      (filter-still used (pre .1 .1), done .start .ensures .1 .1 .1),
     )
 
 settle-requires : tie.Need-settle-requires
 settle-requires c κs =
-    let copied = c .before .before .before .before .before .before .before .before .before .before .before .before .before .before in
-    let opened = copied .before .before .before .before .before .before in
-    let chosen = opened .before .before .before in
-    let start = chosen .before .before .before .before .before .before .before .before in
-    let is-v = chosen .victim .ensures _ refl in
-    let opens = opened .open-lowest .ensures _ _ _ in
-    let moves = copied .move-pages .ensures .0 (start .args .directory .now) in
-    (settle-ready (start .pre .0) is-v opens moves, (copied .move-pages .ensures .1 .0, copied .move-pages .ensures .1 .1 .1))
+    let moved = c .before .before .before .before .before .before .before in
+    let done = copied moved in
+    let start = begun done in
+    let g = geometry (start .args .g) in
+    let copies = start-follows-does (cache-apart g) g Data (start .args .v) (done .start .ensures .0 (start .args .directory .now) (start .args .cache .now))
+    (moved .follow-moves .ensures .0 _ _ (start .args .directory .now)) in
+    (settle-ready (start .pre .0 .0) (start .pre .0 .1) copies, (done .start .ensures .1 .1 .0, moved .follow-moves .ensures .1 .1))
 
 erase-requires : tie.Need-erase-requires
 erase-requires c κs =
-    let settled = c .before .before .before .before .before .before .before .before .before .before .before in
-    let copied = settled .before .before .before .before .before .before .before .before .before .before .before .before .before .before .before in
-    let opened = copied .before .before .before .before .before .before in
-    let chosen = opened .before .before .before in
-    let start = chosen .before .before .before .before .before .before .before .before in (
-      erase-ready (start .pre .0) (chosen .victim .ensures _ refl) (opened .open-lowest .ensures _ _ _)
-          (copied .move-pages .ensures .0 (start .args .directory .now)) (settled .settle .ensures .0 _),
-      settled .settle .ensures .1,
-    )
-
--- What has been done at the return, in order.
-abbrev erased : tie.After-slice-known16 → tie.After-erase
-erased c = c .before .before .before .before .before .before
-
-abbrev settled : tie.After-slice-known16 → tie.After-settle
-settled c = erased c .before .before .before .before .before .before .before .before .before .before .before .before
-
-abbrev copied : tie.After-slice-known16 → tie.After-move-pages
-copied c = settled c .before .before .before .before .before .before .before .before .before .before .before .before .before .before .before
+    let last = c .before .before .before .before .before .before .before .before .before .before .before in
+    let moved = followed last in
+    let done = copied moved in
+    let start = begun done in
+    let g = geometry (start .args .g) in
+    let copies = start-follows-does (cache-apart g) g Data (start .args .v) (done .start .ensures .0 (start .args .directory .now) (start .args .cache .now))
+    (moved .follow-moves .ensures .0 _ _ (start .args .directory .now)) in
+    (erase-ready (start .pre .0 .0) (start .pre .0 .1) copies (last .settle .ensures .0 _) (done .start .ensures .1 .0 .on-chip), last .settle .ensures .1)
 
 same-length : tie.Need-same-length
-same-length c = omega (arith, erased c .erase .kept, settled c .settle .kept, copied c .move-pages .kept)
+same-length c =
+    let done = settled (erased c) in
+    omega (arith, erased c .erase .kept, done .settle .kept, copied (followed done) .start .kept)
 
 same-length-2 : tie.Need-same-length-2
-same-length-2 c = omega (arith, erased c .erase .kept, settled c .settle .kept, copied c .move-pages .kept)
+same-length-2 c =
+    let done = settled (erased c) in
+    omega (arith, erased c .erase .kept, done .settle .kept, copied (followed done) .start .kept)
 
 same-length-3 : tie.Need-same-length-3
-same-length-3 c = omega (arith, erased c .erase .kept, settled c .settle .kept, copied c .move-pages .kept)
+same-length-3 c =
+    let done = settled (erased c) in
+    omega (arith, erased c .erase .kept, done .settle .kept, copied (followed done) .start .kept)
 
 same-length-4 : tie.Need-same-length-4
-same-length-4 c = omega (arith, settled c .settle .kept)
+same-length-4 c = omega (arith, settled (erased c) .settle .kept)
 
 same-length-5 : tie.Need-same-length-5
-same-length-5 c = omega (arith, copied c .move-pages .kept)
+same-length-5 c = omega (arith, followed (settled (erased c)) .follow-moves .kept)
 
 returns : tie.Need-returns
 returns c =
-    let opened = copied c .before .before .before .before .before .before in
-    let chosen = opened .before .before .before in
-    let start = chosen .before .before .before .before .before .before .before .before in
+    let erases = erased c .erase in
+    let last = settled (erased c) in
+    let moved = followed last in
+    let done = copied moved in
+    let start = begun done in
     let g = geometry (start .args .g) in
-    let is-v = chosen .victim .ensures _ refl in
-    let opens = opened .open-lowest .ensures _ _ _ in
-    let moves = copied c .move-pages .ensures .0 (start .args .directory .now) in
-    let settles = settled c .settle .ensures .0 _ in (
-      collect-does g Data (cache-follows g) is-v opens moves settles (erased c .erase .ensures .0 _ _),
+    let copies = start-follows-does (cache-apart g) g Data (start .args .v) (done .start .ensures .0 (start .args .directory .now) (start .args .cache .now))
+    (moved .follow-moves .ensures .0 _ _ (start .args .directory .now)) in
+    let settles = last .settle .ensures .0 _ in (
+      collect-does (cache-follows g) (start .pre .0 .1) copies settles (erases .ensures .0 _ _),
       (
-        erased c .erase .ensures .1,
-        filter-still (erase-keeps-used g (chosen .victim .result) (erased c .erase .ensures .0) ∙ settled-keeps-used (start .pre .0) is-v opens moves settles)
-            (copied c .move-pages .ensures .1 .1 .0),
+        erases .ensures .1,
+        filter-still (erase-keeps-used g (start .args .v) (erases .ensures .0) ∙ settled-keeps-used (start .pre .0 .0) (start .pre .0 .1) copies settles)
+            (moved .follow-moves .ensures .1 .0),
       ),
     )
 
@@ -100,9 +109,8 @@ pub collect-spec : {M : Type 1} → statement M
 collect-spec =
     tie.close
     (tie.spec
-    victim-requires
-    open-lowest-requires
-    move-pages-requires
+    start-requires
+    follow-moves-requires
     settle-requires
     erase-requires
     same-length

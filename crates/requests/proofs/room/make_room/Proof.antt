@@ -1,29 +1,53 @@
--- `requests::room::make_room` meets its contract: the code's test is the definition's.
+-- `requests::room::make_room` meets its contract: room was made by the choice, or is by a collection.
+use mathlib.Core.Path.{subst}
 use borrow.Author.Needs.{needs}
 use Rattle.scope.specs.Regions.{Data}
 use Rattle.scope.specs.Steps.{cache-follows}
 use Rattle.lent.specs.Model.{geometry}
-use Rattle.update.specs.Room.{has-room-does, makes-room-does}
+use Rattle.copying.specs.Choice.{Chosen}
+use Rattle.requests.specs.Filtered.{filter-still}
 use Rattle.requests.proofs.room.make_room.Statement.{statement}
 use Rattle.requests.proofs.room.make_room.Tie as tie
 
-returns : tie.Need-returns
-returns c =
-    let start = c .before .before .before .before .before .before .before .before in
-    let g = geometry (start .args .g) in
-    (has-room-does g Data (cache-follows g) (c .if1 .taken), start .pre .1)
+-- Where all begins.
+abbrev start : tie.After-choose → tie.Start
+start c = c .before .before .before .before .before .before .before .before
 
-open-or-collect-requires : tie.Need-open-or-collect-requires
-open-or-collect-requires c κs =
-    let tested = c .before .before .before .before .before in
-    let start = tested .before .before .before .before .before .before .before .before in
-    ((start .pre .0, tested .if1 .left), start .pre .1)
+choose-requires : tie.Need-choose-requires
+choose-requires c κs = let begun = c .before .before .before .before .before .before .before in (begun .pre .0 .ready .accepted, begun .pre .1 .0)
+
+enum-known-choice : tie.Need-enum-known-choice
+enum-known-choice c = search needs
+
+enum-known-choice-2 : tie.Need-enum-known-choice-2
+enum-known-choice-2 c = search needs
+
+collect-requires : tie.Need-collect-requires
+collect-requires c κs =
+    let known = c .before .before .before .before .before .before in
+    let chosen = known .before .before in
+    let begun = start chosen in
+    let a = begun .args in (
+      (begun .pre .0, subst (Chosen (geometry (a .g)) Data (a .spare .now) (a .work)) (known .choice2 .given .1) (chosen .choose .ensures)),
+      begun .pre .1,
+    )
 
 same-length : tie.Need-same-length
 same-length c = search needs
 
 same-length-2 : tie.Need-same-length-2
 same-length-2 c = search needs
+
+returns : tie.Need-returns
+returns c =
+    let known = c .before in
+    let chosen = known .before .before in
+    let begun = start chosen in
+    let a = begun .args in
+    let made = subst (Chosen (geometry (a .g)) Data (a .spare .now) (a .work)) (known .choice .given .1) (chosen .choose .ensures) in (
+      made .does (cache-follows (geometry (a .g))) _ _ _,
+      (begun .pre .1 .0, filter-still (made .keeps-used) (begun .pre .1 .1)),
+    )
 
 same-length-3 : tie.Need-same-length-3
 same-length-3 c = search needs
@@ -34,22 +58,29 @@ same-length-4 c = search needs
 same-length-5 : tie.Need-same-length-5
 same-length-5 c = search needs
 
+same-length-6 : tie.Need-same-length-6
+same-length-6 c = search needs
+
+same-length-7 : tie.Need-same-length-7
+same-length-7 c = search needs
+
 returns-2 : tie.Need-returns-2
-returns-2 c =
-    let made = c .before .before .before .before .before .before .before .before .before .before in
-    let tested = made .before .before .before .before .before .before in
-    let g = geometry (tested .before .before .before .before .before .before .before .before .args .g) in
-    (makes-room-does g Data (cache-follows g) (tested .if1 .left) (made .open-or-collect .ensures .0), made .open-or-collect .ensures .1)
+returns-2 c = c .before .before .before .before .before .before .before .before .before .before .collect .ensures
 
 pub make-room-spec : {M : Type 1} → statement M
 make-room-spec =
     tie.close
     (tie.spec
-    returns
-    open-or-collect-requires
+    choose-requires
+    enum-known-choice
+    enum-known-choice-2
+    collect-requires
     same-length
     same-length-2
+    returns
     same-length-3
     same-length-4
     same-length-5
+    same-length-6
+    same-length-7
     returns-2)

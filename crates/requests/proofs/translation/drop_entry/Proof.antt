@@ -1,12 +1,11 @@
 -- `requests::translation::drop_entry` meets its contract: the write-back leaves the cache and the number of used entries as they were.
-use Prim.Native.Nat.{ℕ, _-_}
-use mathlib.Core.Path.{refl, sym, subst}
+use Prim.Native.Nat.{_-_}
+use mathlib.Core.Path.{refl}
 use native.Mathlib.Omega.{arith}
 use borrow.Author.Needs.{needs}
-use Rattle.scope.specs.Sound.{Entries-fit}
 use Rattle.lent.specs.Model.{geometry}
 use Rattle.requests.specs.Translating.{written-keeps-used, drop-entry-does}
-use Rattle.requests.specs.Filtered.{filter-still}
+use Rattle.requests.specs.Filtered.{filter-still, forgotten-filter}
 use Rattle.requests.proofs.translation.drop_entry.Statement.{statement}
 use Rattle.requests.proofs.translation.drop_entry.Tie as tie
 
@@ -19,20 +18,15 @@ cast-i c = search needs
 write-back-if-changed-requires : tie.Need-write-back-if-changed-requires
 write-back-if-changed-requires c κs =
     let start = c .before .before .before .before .before .before .before .before .before .before .before in
-    ((start .pre .0 .0, omega (arith, start .pre .0 .1)), start .pre .1 .0)
+    ((start .pre .0 .0, omega (arith, start .pre .0 .1)), start .pre .1)
 
 forget-requires : tie.Need-forget-requires
 forget-requires c κs =
-    let written = c .before .before .before .before .before .before .before .before .before .before in
+    let written = c .before .before .before .before .before .before .before .before .before in
     let start = written .before .before .before .before .before .before .before .before .before .before .before .before in
     let (ready, some) = start .pre .0 in
-    let used = written-keeps-used ready (start .args .work .rec .used - 1) (omega (arith, some)) (written .write-back-if-changed .ensures .0) in (
-      (omega (arith, some, ready .sound .rule-5 .at-most, ready .lengths .cache-fits), omega (arith, some, used)),
-      (
-        (ready .accepted, subst (λ (n : ℕ). Entries-fit (geometry (start .args .g)) (start .args .cache .now) n) (sym used) (ready .sound .rule-5)),
-        filter-still used (start .pre .1 .1),
-      ),
-    )
+    let used = written-keeps-used ready (start .args .work .rec .used - 1) (omega (arith, some)) (written .write-back-if-changed .ensures .0) in
+    (omega (arith, some, ready .sound .rule-5 .at-most, ready .lengths .cache-fits), omega (arith, some, used))
 
 same-length : tie.Need-same-length
 same-length c = search needs
@@ -51,10 +45,15 @@ same-length-5 c = search needs
 
 returns : tie.Need-returns
 returns c =
-    let written = c .before .before .before .before .before .before .before .before .before .before .before .before .before in
-    let g = geometry (written .before .before .before .before .before .before .before .before .before .before .before .before .args .g) in (
-      drop-entry-does g _ refl refl (written .write-back-if-changed .ensures .0) (c .before .before .forget .ensures .0 _ _ _),
-      (written .write-back-if-changed .ensures .1, c .before .before .forget .ensures .1),
+    let written = c .before .before .before .before .before .before .before .before .before .before .before .before in
+    let start = written .before .before .before .before .before .before .before .before .before .before .before .before in
+    let (ready, some) = start .pre .0 in
+    let used = written-keeps-used ready (start .args .work .rec .used - 1) (omega (arith, some)) (written .write-back-if-changed .ensures .0) in (
+      drop-entry-does (geometry (start .args .g)) _ refl refl (written .write-back-if-changed .ensures .0) (c .before .before .forget .ensures _ _ _),
+      (
+        written .write-back-if-changed .ensures .1,
+        λ filter f. forgotten-filter _ (omega (arith, some, used)) (c .before .before .forget .ensures) filter (filter-still used f),
+      ),
     )
 
 pub drop-entry-spec : {M : Type 1} → statement M

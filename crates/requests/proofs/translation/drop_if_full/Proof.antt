@@ -9,11 +9,11 @@ use Rattle.requests.proofs.translation.drop_if_full.Tie as tie
 returns : tie.Need-returns
 returns c =
     let start = c .before .before .before .before .before .before .before .before in
-    (drop-none-does (geometry (start .args .g)) (c .if1 .taken), start .pre .1)
+    (drop-none-does (geometry (start .args .g)) (c .if1 .taken), (start .pre .1, λ filter f. f))
 
 drop-entry-requires : tie.Need-drop-entry-requires
 drop-entry-requires c κs =
-    let tested = c .before .before .before .before .before .before in
+    let tested = c .before .before .before .before .before in
     let start = tested .before .before .before .before .before .before .before .before in
     let ready = start .pre .0 in
     ((ready, omega (arith, tested .if1 .left, ready .accepted .C-from)), start .pre .1)
@@ -36,7 +36,7 @@ same-length-5 c = search needs
 returns-2 : tie.Need-returns-2
 returns-2 c =
     let dropped = c .before .before .before .before .before .before .before .before .before .before in
-    let tested = dropped .before .before .before .before .before .before .before in
+    let tested = dropped .before .before .before .before .before .before in
     let g = geometry (tested .before .before .before .before .before .before .before .before .args .g) in
     (drop-last-does g (tested .if1 .left) (dropped .drop-entry .ensures .0), dropped .drop-entry .ensures .1)
 

@@ -2,7 +2,7 @@
 use native.Mathlib.Omega.{arith}
 use borrow.Author.Needs.{needs}
 use Rattle.lent.specs.Model.{geometry}
-use Rattle.update.specs.Index.{less-room}
+use Rattle.copying.specs.Copies.{less-room}
 use Rattle.requests.specs.Translating.{hit-does, miss-does, fetch-ready}
 use Rattle.requests.specs.Filtered.{found-in-use, touched-filter}
 use Rattle.requests.proofs.translation.translate.Statement.{statement}
@@ -42,7 +42,7 @@ returns c =
 
 drop-if-full-requires : tie.Need-drop-if-full-requires
 drop-if-full-requires c κs =
-    let start = c .before .before .before .before .before .before .before .before .before .before .before .before .before .before .before .before .before in
+    let start = c .before .before .before .before .before .before .before .before .before .before .before .before .before .before .before .before in
     let ready = start .pre .0 .ready in (
       record {
         accepted = ready .accepted;
@@ -50,15 +50,15 @@ drop-if-full-requires c κs =
         sound = ready .sound;
         countable = less-room (omega arith) (ready .countable);
       },
-      start .pre .1,
+      start .pre .1 .0,
     )
 
 fetch-requires : tie.Need-fetch-requires
 fetch-requires c κs =
     let freed = c .before .before .before .before .before .before .before .before .before .before .before .before .before .before in
-    let found = freed .before .before .before .before .before .before .before .before .before in
+    let found = freed .before .before .before .before .before .before .before .before in
     let start = found .before .before .before .before .before .before .before .before .before in
-    (fetch-ready (start .args .l) (start .pre .0) (freed .drop-if-full .ensures .0), freed .drop-if-full .ensures .1 .1)
+    (fetch-ready (start .args .l) (start .pre .0) (freed .drop-if-full .ensures .0), freed .drop-if-full .ensures .1 .1 _ (start .pre .1 .1))
 
 same-length-2 : tie.Need-same-length-2
 same-length-2 c = search needs
@@ -78,7 +78,7 @@ same-length-6 c = search needs
 returns-2 : tie.Need-returns-2
 returns-2 c =
     let freed = c .before .before .before .before .before .before .before .before .before .before .before .before .before .before .before .before .before in
-    let tested = freed .before .before .before .before .before .before .before in
+    let tested = freed .before .before .before .before .before .before in
     let missed = tested .before .before in
     let a = missed .before .before .before .before .before .before .before .before .before .args in (
       miss-does (geometry (a .g)) (a .l) (missed .rank-of .ensures .1) (tested .if1 .left) (freed .drop-if-full .ensures .0)

@@ -2,7 +2,8 @@
 use native.Mathlib.Omega.{arith}
 use mathlib.Core.Path.{sym, _∙_}
 use borrow.Author.Needs.{needs}
-use Rattle.update.specs.Index.{chip-of, less-room}
+use Rattle.copying.specs.Copies.{less-room}
+use Rattle.update.specs.Index.{chip-of}
 use Rattle.update.specs.Writing.{room-ready, roomy, begins-so}
 use Rattle.update.proofs.page.begin.Statement.{statement}
 use Rattle.update.proofs.page.begin.Tie as tie

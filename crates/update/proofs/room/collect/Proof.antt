@@ -1,41 +1,41 @@
 -- `update::room::collect` meets its contract: its parts are the definition's, each with what it asks for by the law of the part before.
 use mathlib.Core.Path.{refl}
+use native.Mathlib.Omega.{arith}
 use borrow.Author.Needs.{needs}
-use Rattle.scope.specs.Regions.{Translation}
-use Rattle.scope.specs.Steps.{directory-follows}
-use Rattle.lent.specs.Model.{geometry}
-use Rattle.lent.specs.DoesLaws.{does-give}
-use Rattle.update.specs.Index.{chip-of, spare-of}
-use Rattle.update.specs.Collecting.{copy-ready, erase-ready}
-use Rattle.update.specs.Room.{collect-does}
+use Rattle.copying.specs.Copies.{less-room}
+use Rattle.update.specs.Collecting.{start-ready, collected-does}
 use Rattle.update.proofs.room.collect.Statement.{statement}
 use Rattle.update.proofs.room.collect.Tie as tie
 
-victim-requires : tie.Need-victim-requires
-victim-requires c κs =
-    let start = c .before .before .before .before .before .before in
-    (start .pre .0 .full .ready .lent .accepted, start .pre .1)
+-- The places: where all begins, the pages copied, and the directory told.
+abbrev begun : tie.After-start → tie.Start
+begun c = c .before .before .before .before .before .before .before .before .before
 
-open-lowest-requires : tie.Need-open-lowest-requires
-open-lowest-requires c κs =
-    let start = c .before .before .before .before .before .before .before .before .before in
-    (start .pre .0 .full .ready .lent .accepted, start .pre .1)
+abbrev copied : tie.After-names-moved → tie.After-start
+copied c = c .before .before .before .before .before .before .before .before .before .before
 
-move-pages-requires : tie.Need-move-pages-requires
-move-pages-requires c κs =
-    let opened = c .before .before .before .before in
-    let chosen = opened .before .before .before in
-    let start = chosen .before .before .before .before .before .before .before in
-    (copy-ready (start .pre .0) (chosen .victim .ensures) (opened .open-lowest .ensures), start .pre .1)
+start-requires : tie.Need-start-requires
+start-requires c κs =
+    let pre = c .before .before .before .before .before .before .before .before .pre in
+    (start-ready (pre .0 .0) (pre .0 .1), (pre .1, refl))
+
+names-moved-requires : tie.Need-names-moved-requires
+names-moved-requires c κs =
+    let done = c .before .before .before .before .before .before .before .before .before in
+    let lent = begun done .pre .0 .0 .lent in
+    let after = done .start .ensures .1 .0 in (
+      (omega (arith, after .few, lent .accepted .P-to), done .start .ensures .1 .1 .1),
+      λ i h. omega (arith, after .owned i h, lent .directory-fits),
+    )
 
 erase-requires : tie.Need-erase-requires
 erase-requires c κs =
-    let copied = c .before .before .before .before .before .before .before .before .before .before .before in
-    let opened = copied .before .before .before .before .before in
-    let chosen = opened .before .before .before in
-    let before = copy-ready (chosen .before .before .before .before .before .before .before .pre .0) (chosen .victim .ensures) (opened .open-lowest .ensures) in
-    let ready = erase-ready before (copied .move-pages .ensures .0) in
-    ((chip-of (ready .lent), spare-of (ready .lent), ready .on-chip, ready .counting), copied .move-pages .ensures .1)
+    let done = copied (c .before .before .before .before .before) in
+    let ready = begun done .pre .0 .0 in
+    let after = done .start .ensures .1 .0 in (
+      (after .chip-lent, after .spare-lent, after .on-chip, after .room 1 (less-room (omega (arith, ready .lent .accepted .P-from)) (ready .counting))),
+      done .start .ensures .1 .1 .0,
+    )
 
 same-length : tie.Need-same-length
 same-length c = search needs
@@ -52,13 +52,10 @@ same-length-4 c = search needs
 returns : tie.Need-returns
 returns c =
     let erased = c .before .before .before .before .before .before in
-    let copied = erased .before .before .before .before .before .before .before .before .before .before .before .before in
-    let opened = copied .before .before .before .before .before in
-    let chosen = opened .before .before .before in
-    let a = chosen .before .before .before .before .before .before .before .args in (
-      λ cache. collect-does (geometry (a .g)) Translation directory-follows (chosen .victim .ensures _ refl)
-          (opened .open-lowest .ensures (a .chip .now) (a .directory .now) cache) (copied .move-pages .ensures .0 cache) (does-give tt)
-          (erased .erase .ensures .0 _ cache),
+    let named = erased .before .before .before .before .before .before in
+    let done = copied named in
+    let pre = begun done .pre .0 in (
+      collected-does (pre .0) (pre .1) (done .start .ensures .0) (named .names-moved .ensures) (erased .erase .ensures .0),
       erased .erase .ensures .1,
     )
 
@@ -66,9 +63,8 @@ pub collect-spec : {M : Type 1} → statement M
 collect-spec =
     tie.close
     (tie.spec
-    victim-requires
-    open-lowest-requires
-    move-pages-requires
+    start-requires
+    names-moved-requires
     erase-requires
     same-length
     same-length-2

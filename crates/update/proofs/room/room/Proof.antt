@@ -1,22 +1,38 @@
--- `update::room::room` meets its contract: the open block's offset decides, in code and definition alike.
+-- `update::room::room` meets its contract: room was made by the choice, or is by a collection.
+use mathlib.Core.Path.{subst}
 use borrow.Author.Needs.{needs}
 use Rattle.scope.specs.Regions.{Translation}
 use Rattle.scope.specs.Steps.{directory-follows}
 use Rattle.lent.specs.Model.{geometry}
-use Rattle.update.specs.Room.{has-room-does, makes-room-does}
+use Rattle.copying.specs.Choice.{Chosen}
 use Rattle.update.proofs.room.room.Statement.{statement}
 use Rattle.update.proofs.room.room.Tie as tie
 
-returns : tie.Need-returns
-returns c =
-    let start = c .before .before .before .before .before .before in
-    (λ cache. has-room-does (geometry (start .args .g)) Translation directory-follows (c .if1 .taken), start .pre .1)
+-- Where all begins.
+abbrev start : tie.After-choose → tie.Start
+start c = c .before .before .before .before .before .before .before
 
-open-or-collect-requires : tie.Need-open-or-collect-requires
-open-or-collect-requires c κs =
-    let tested = c .before .before .before .before in
-    let start = tested .before .before .before .before .before .before in
-    (record { ready = start .pre .0; full = tested .if1 .left }, start .pre .1)
+choose-requires : tie.Need-choose-requires
+choose-requires c κs = let begun = c .before .before .before .before .before .before in (begun .pre .0 .lent .accepted, begun .pre .1)
+
+enum-known-choice : tie.Need-enum-known-choice
+enum-known-choice c = search needs
+
+enum-known-choice-2 : tie.Need-enum-known-choice-2
+enum-known-choice-2 c = search needs
+
+collect-requires : tie.Need-collect-requires
+collect-requires c κs =
+    let known = c .before .before .before .before .before in
+    let chosen = known .before .before in
+    let begun = start chosen in (
+      (
+        begun .pre .0,
+        subst (Chosen (geometry (begun .args .g)) Translation (begun .args .spare .now) (begun .args .work)) (known .choice2 .given .1)
+            (chosen .choose .ensures),
+      ),
+      begun .pre .1,
+    )
 
 same-length : tie.Need-same-length
 same-length c = search needs
@@ -24,29 +40,44 @@ same-length c = search needs
 same-length-2 : tie.Need-same-length-2
 same-length-2 c = search needs
 
+returns : tie.Need-returns
+returns c =
+    let known = c .before in
+    let chosen = known .before .before in
+    let begun = start chosen in (
+      λ cache. subst (Chosen (geometry (begun .args .g)) Translation (begun .args .spare .now) (begun .args .work)) (known .choice .given .1)
+          (chosen .choose .ensures) .does directory-follows _ _ cache,
+      begun .pre .1,
+    )
+
 same-length-3 : tie.Need-same-length-3
 same-length-3 c = search needs
 
 same-length-4 : tie.Need-same-length-4
 same-length-4 c = search needs
 
+same-length-5 : tie.Need-same-length-5
+same-length-5 c = search needs
+
+same-length-6 : tie.Need-same-length-6
+same-length-6 c = search needs
+
 returns-2 : tie.Need-returns-2
-returns-2 c =
-    let made = c .before .before .before .before .before .before .before .before in
-    let tested = made .before .before .before .before .before in
-    let g = geometry (tested .before .before .before .before .before .before .args .g) in (
-      λ cache. makes-room-does g Translation directory-follows (tested .if1 .left) (made .open-or-collect .ensures .0 cache),
-      made .open-or-collect .ensures .1,
-    )
+returns-2 c = c .before .before .before .before .before .before .before .before .collect .ensures
 
 pub room-spec : {M : Type 1} → statement M
 room-spec =
     tie.close
     (tie.spec
-    returns
-    open-or-collect-requires
+    choose-requires
+    enum-known-choice
+    enum-known-choice-2
+    collect-requires
     same-length
     same-length-2
+    returns
     same-length-3
     same-length-4
+    same-length-5
+    same-length-6
     returns-2)

@@ -5,7 +5,8 @@ use Prim.Native.Nat.{_-_, _≤_}
 use borrow.Author.Needs.{needs}
 use Rattle.lent.specs.declared.Geometry.{Geometry}
 use Rattle.lent.specs.Model.{geometry}
-use Rattle.update.specs.Moves.{first-moves, Waits-in, no-moves, one-more, nearer, Next-touched, none-touched, one-touched}
+use Rattle.copying.specs.Moves.{first-moves, no-moves, one-more}
+use Rattle.update.specs.Moves.{Waits-in, nearer, Next-touched, none-touched, one-touched}
 use Rattle.update.proofs.touched.next_touched.Statement.{statement}
 use Rattle.update.proofs.touched.next_touched.Tie as tie
 

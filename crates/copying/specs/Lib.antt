@@ -1,0 +1,5 @@
+-- The modules of this crate.
+pub mod Moves
+pub mod Choice
+pub mod Copies
+pub mod Starting
