@@ -102,7 +102,8 @@ translation-room-law g s accepted lengths holds =
       room = made .room;
       only = made .inv;
       keeps = made .keeps;
-      stores = stored-same g (s .chip) (s .directory) (s′ .chip) (s′ .directory) (accepted .W-from) (lengths .directory-fits) (made .lengths .directory-fits) (made .keeps);
+      stores = stored-same g (s .chip) (s .directory) (s′ .chip) (s′ .directory) (accepted .W-from)
+          (lengths .directory-fits) (made .lengths .directory-fits) (made .keeps);
       lengths = made .lengths;
       done = made .done;
       costs = omega (arith, made .costs);
