@@ -65,7 +65,8 @@ put-in-front l l₁ l₂ n a b c h shifted stored =
     ∙ ap (λ (x : List ℕ). sets x 0 (a ∷ b ∷ c ∷ [])) shifted
     ∙ sets-eq (a ∷ b ∷ c ∷ []) (sets l entry-words (take n l)) 0 (simp length-sets (omega arith))
     ∙ ap (λ (x : List ℕ). a ∷ b ∷ c ∷ drop entry-words x) moved
-    ∙ ap (λ (x : List ℕ). a ∷ b ∷ c ∷ x) (drop-at (take entry-words l) (take n l ++ drop (n + entry-words) l) entry-words (length-take-le entry-words l (omega arith)))
+    ∙ ap (λ (x : List ℕ). a ∷ b ∷ c ∷ x)
+    (drop-at (take entry-words l) (take n l ++ drop (n + entry-words) l) entry-words (length-take-le entry-words l (omega arith)))
 
 -- The three words at a place, read one by one, in front of others.
 pub three-read : (l l₁ rest : List ℕ) (i : ℕ) → i + entry-words ≤ length l → l₁ ≡ getD l i 0 ∷ getD l (i + 1) 0 ∷ getD l (i + 2) 0 ∷ rest
