@@ -6,7 +6,7 @@ use mathlib.Core.Bool.{cond}
 use mathlib.Core.List.{List, _++_, append-assoc}
 use native.Mathlib.Omega.{arith}
 use lib.Dec.{eqb}
-use lib.ListN.{length, take, drop, set, take-append-drop}
+use lib.ListN.{length, take, drop, set}
 use lib.Seq.{sets, sets-eq, drop-drop}
 use borrow.Author.Tests.{eq-eqb, ne-eqb}
 use Rattle.lent.specs.Model.{counts}
@@ -19,7 +19,7 @@ use Rattle.scope.specs.Replies.{DONE, first-applying}
 use Rattle.scope.specs.Requests.{Replied, replied}
 use Rattle.scope.specs.Calls.{RunReplied, run-replied, request-tests, part, serve, answer-record, serve-record}
 use Rattle.running.specs.declared.Running.{Running}
-use Rattle.words.specs.Runs.{length-part}
+use Rattle.words.specs.Runs.{length-part, sets-own}
 use Rattle.admission.specs.Answers.{refuses, admits}
 use Rattle.admission.specs.Room.{most-cost}
 use Rattle.admission.specs.Noted.{Noted}
@@ -46,7 +46,7 @@ pub record Served (g : Geometry) (i : ℕ) (q : Request) (a : Running) (s : Stat
 
 -- ---- the part of the words that was lent
 
--- It comes back in its place; as it was, it changes nothing.
+-- It comes back in its place.
 pub part-back : (words : List ℕ) (at k : ℕ) (buffer : List ℕ) → at + k ≤ length words → length buffer ≡ k
     → take at words ++ (buffer ++ drop k (drop at words)) ≡ sets words at buffer
 part-back words at k buffer fits long =
@@ -54,12 +54,6 @@ part-back words at k buffer fits long =
     ∙ append-assoc (take at words) buffer (drop (at + length buffer) words)
     ∙ ap (λ (l : List ℕ). take at words ++ (buffer ++ l))
     (ap (λ (n : ℕ). drop (at + n) words) long ∙ sym (drop-drop k at words)))
-
-part-stays : (words : List ℕ) (at k : ℕ) → at + k ≤ length words → sets words at (take k (drop at words)) ≡ words
-part-stays words at k fits =
-    sym (part-back words at k (take k (drop at words)) fits (length-part words at k fits))
-    ∙ ap (λ (l : List ℕ). take at words ++ l) (take-append-drop k (drop at words))
-    ∙ take-append-drop at words
 
 -- ---- one request
 
@@ -87,7 +81,7 @@ module _ (g : Geometry) (i : ℕ) (q : Request) (a : Running) (s : State) (words
   unfolding answer-record
   request-refused {n} e h =
       subst (λ (l : List ℕ). Runs (serve-record g i q) a s words answers a s l (set answers i n))
-      (part-stays words (i * g .W) (g .W) fits)
+      (sets-own words (i * g .W) (g .W) fits)
       (stores admitted (refuses (λ s. request-tests g (s .small) q) (λ t. t) _ _ e h))
 
   pub request-served : {b : Running} {s′ : State} {buffer : List ℕ} {reply k : ℕ} → b .answer ≡ DONE → k ≡ g .W
