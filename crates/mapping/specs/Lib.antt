@@ -1,7 +1,7 @@
 -- The modules of this crate.
 pub mod Named
 pub mod Tally
-pub mod Directory
+pub mod Maps
 pub mod Seen
 pub mod Entries
 pub mod Stored

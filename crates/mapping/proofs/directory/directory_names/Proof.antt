@@ -10,7 +10,7 @@ use Rattle.scope.specs.Geometry.{most-pages}
 use Rattle.scope.specs.Regions.{Translation}
 use Rattle.lent.specs.Model.{geometry}
 use Rattle.geometry.specs.Bounds.{region-small, owners-small}
-use Rattle.mapping.specs.Directory.{directory-counts}
+use Rattle.mapping.specs.Maps.{map-decided}
 use Rattle.mapping.specs.Tally.{tallied-most}
 use Rattle.mapping.proofs.directory.directory_names.Statement.{statement}
 use Rattle.mapping.proofs.directory.directory_names.Tie as tie
@@ -59,7 +59,7 @@ returns c =
     let a = c .before .before .before .before .before .before .before .before .args in
     let pre = c .before .before .before .before .before .before .before .before .pre in
     rw (ne-eqb _ _ (c .if1 .taken)) at
-    (directory-counts (geometry (a .g)) (now (a .spare)) (now (a .directory)) (pre .0) (pre .1 .1 .1 .0) (pre .1 .1 .0)
+    (map-decided (geometry (a .g)) Translation (now (a .spare)) (now (a .directory)) (pre .0) (pre .1 .1 .1 .0) (pre .1 .1 .0)
     (c .before .before .tally-words .result) (c .before .before .tally-words .ensures) (a .valid) (pre .1 .1 .1 .1))
 
 returns-2 : tie.Need-returns-2
@@ -67,7 +67,7 @@ returns-2 c =
     let a = c .before .before .before .before .before .before .before .before .before .args in
     let pre = c .before .before .before .before .before .before .before .before .before .pre in
     rw (eq-eqb _ _ (c .before .if1 .left)) at
-    (directory-counts (geometry (a .g)) (now (a .spare)) (now (a .directory)) (pre .0) (pre .1 .1 .1 .0) (pre .1 .1 .0)
+    (map-decided (geometry (a .g)) Translation (now (a .spare)) (now (a .directory)) (pre .0) (pre .1 .1 .1 .0) (pre .1 .1 .0)
     (c .before .before .before .tally-words .result) (c .before .before .before .tally-words .ensures) (a .valid) (pre .1 .1 .1 .1))
 
 pub directory-names-spec : {M : Type 1} → statement M
