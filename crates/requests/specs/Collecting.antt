@@ -30,7 +30,7 @@ use Rattle.steps.specs.Lies.{Chip-lent, Spare-lent}
 use Rattle.copying.specs.Choice.{To-collect, start-collect}
 use Rattle.copying.specs.Copies.{less-room}
 use Rattle.copying.specs.Starting.{Collect-ready}
-use Rattle.update.specs.Index.{Index-ready}
+use Rattle.index.specs.Index.{Index-ready}
 use Rattle.requests.specs.Ready.{Does-all, Ready, countable-after}
 
 -- The most that room in the data region costs.
