@@ -29,7 +29,7 @@ use Rattle.copying.specs.Copies.{copied-chip, copied-spare, copied-few, 
 
 -- What opening a block leaves, and that it counts nothing.
 module _ (g : Geometry) (r : Region) {s s′ : State} {c c′ : Counts} (d : Does (open-lowest g r) s c tt s′ c′) where
-  pub opened-is : opened-lowest g r s ≡ s′
+  opened-is : opened-lowest g r s ≡ s′
   unfolding open-lowest look set-small _>>=_
   opened-is = d .after
 

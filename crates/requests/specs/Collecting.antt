@@ -10,12 +10,13 @@ use Rattle.scope.specs.Regions.{Data}
 use Rattle.scope.specs.SmallRecord.{SmallRecord}
 use Rattle.scope.specs.Lent.{State, Mapping, logical-at}
 use Rattle.scope.specs.Sound.{Sound, current}
-use Rattle.scope.specs.Operations.{look, set-small, _>>=_}
-use Rattle.scope.specs.Room.{open-lowest, move-pages}
+use Rattle.scope.specs.Operations.{Erase, look, perform, set-small, _>>=_}
+use Rattle.scope.specs.Room.{open-lowest, move-pages, make-room}
 use Rattle.scope.specs.Steps.{update-all, cache-follows}
 use Rattle.flash.specs.Listed.{cost}
 use Rattle.flash.specs.Words.{Lengths}
 use Rattle.cache.specs.Waiting.{Waits}
+use Rattle.region.specs.Apart.{waits-all, follow-each, cache-apart}
 use Rattle.region.specs.Copied.{Copied, few-moved}
 use Rattle.region.specs.Starts.{Starts, opened-lowest, copied-since, collection-starts}
 use Rattle.promises.specs.Parts.{Index-fits, index-of, data-of, cache-of}
@@ -25,12 +26,12 @@ use Rattle.promises.specs.Update.{update-bound}
 use Rattle.lent.specs.declared.Counts.{Counts as Counted}
 use Rattle.lent.specs.declared.Work.{Work}
 use Rattle.lent.specs.Model.{state}
-use Rattle.lent.specs.Shapes.{Room-to-count}
+use Rattle.lent.specs.Shapes.{Does-flash, Does-cache, Room-to-count}
 use Rattle.steps.specs.Lies.{Chip-lent, Spare-lent}
-use Rattle.copying.specs.Choice.{To-collect, start-collect}
+use Rattle.copying.specs.Choice.{To-collect, start-collect, start-follows-does, collect-does}
 use Rattle.copying.specs.Copies.{less-room}
 use Rattle.copying.specs.Starting.{Collect-ready}
-use Rattle.update.specs.Index.{Index-ready}
+use Rattle.index.specs.Index.{Index-ready}
 use Rattle.requests.specs.Ready.{Does-all, Ready, countable-after}
 
 -- The most that room in the data region costs.
@@ -78,14 +79,14 @@ module _ {g : Geometry} {chip spare directory cache : List ℕ} {w : Work}
   abbrev l : ℕ
   l = logical-at 0 cache
 
-  starts : Starts g Data (place-while g) (Follows g l 0) v (opened-lowest g Data s)
-  starts = subst (λ (x : ℕ). Starts g Data (place-while g) (Follows g l 0) x (opened-lowest g Data s)) (chosen .found s refl)
+  begins : Starts g Data (place-while g) (Follows g l 0) v (opened-lowest g Data s)
+  begins = subst (λ (x : ℕ). Starts g Data (place-while g) (Follows g l 0) x (opened-lowest g Data s)) (chosen .found s refl)
       (collection-starts (cache-follower (ready .accepted) l 0 .mover) s (ready .accepted) (ready .lengths) (data-of (ready .sound))
       (follows-first (ready .sound) (room-ready .some-used)) (chosen .full) (chosen .few s refl) .0)
 
   copied : Copied g Data (place-while g) (Follows g l 0) v (g .P) (opened-lowest g Data s)
       (move-pages g Data (cache-follows g) v (g .P) (opened-lowest g Data s))
-  copied = copied-since (cache-follower (ready .accepted) l 0 .mover) (ready .accepted) starts (g .P) (omega arith)
+  copied = copied-since (cache-follower (ready .accepted) l 0 .mover) (ready .accepted) begins (g .P) (omega arith)
 
   after-copying : let o = start-collect g Data (cache-follows g) v s in After-copying g (o .value) (o .after)
   unfolding start-collect open-lowest look set-small _>>=_
@@ -94,15 +95,20 @@ module _ {g : Geometry} {chip spare directory cache : List ℕ} {w : Work}
         index = copied .copying .inv .index;
         below-L = copied .copying .inv .waiting .below-L;
         lengths = copied .copying .lengths;
-        few = omega (arith, copied .waiting, few-moved (omega arith) (starts .some-invalid) copied);
+        few = omega (arith, copied .waiting, few-moved (omega arith) (begins .some-invalid) copied);
       }
 
   copying-costs : cost (start-collect g Data (cache-follows g) v s .did) ≤ 2 * (g .P - 1)
   unfolding start-collect open-lowest look set-small _>>=_
-  copying-costs = omega (arith, copied .costs, few-moved (omega arith) (starts .some-invalid) copied)
+  copying-costs = omega (arith, copied .costs, few-moved (omega arith) (begins .some-invalid) copied)
 
-  module _ {chip₁ spare₁ cache₁ : List ℕ} {waiting : List Mapping} {w₁ : Work}
-      (copies : Does-all (start-collect g Data (cache-follows g) v) s w waiting (state chip₁ spare₁ directory cache₁ (w₁ .rec)) w₁) where
+  -- The pages are copied, and their moves followed.
+  module _ {chip₁ spare₁ cache₁ : List ℕ} {moves waiting : List Mapping} {w₁ : Work}
+      (starts : Does-flash (start-collect g Data waits-all v) chip spare w moves chip₁ spare₁ w₁)
+      (follows : Does-cache (follow-each (cache-follows g) moves) cache w₁ waiting cache₁ w₁) where
+    copies : Does-all (start-collect g Data (cache-follows g) v) s w waiting (state chip₁ spare₁ directory cache₁ (w₁ .rec)) w₁
+    copies = start-follows-does (cache-apart g) g Data v (starts directory cache) (follows chip₁ spare₁ directory)
+
     after : After-copying g waiting (state chip₁ spare₁ directory cache₁ (w₁ .rec))
     after = subst₂ (After-copying g) (copies .value) (copies .after) after-copying
 
@@ -146,3 +152,8 @@ module _ {g : Geometry} {chip spare directory cache : List ℕ} {w : Work}
                 copying-costs copies)
                 (omega (arith, settled .costs, waited)) settles,
           )
+
+      -- Together they make room.
+      pub collected-does : {chip₃ spare₃ : List ℕ} {w₃ : Work} → Does-flash (perform g (Erase v)) chip₂ spare₂ w₂ tt chip₃ spare₃ w₃
+          → Does-all (make-room g Data (cache-follows g)) s w tt (state chip₃ spare₃ directory₂ cache₁ (w₃ .rec)) w₃
+      collected-does erases = collect-does (cache-follows g) chosen copies settles (erases directory₂ cache₁)

@@ -20,7 +20,7 @@ use Rattle.lent.specs.DoesLaws.{does-value, does-give, does-look-at, does-bind,
 use Rattle.lent.specs.Shapes.{Does-cache}
 use Rattle.copying.specs.Moves.{move-at, first-moves, no-moves, one-more, Stored-move, two-stored, third-stored, stored-more}
 use Rattle.copying.specs.Choice.{follow-none-does, follow-more-does}
-use Rattle.update.specs.Moves.{Waits-in}
+use Rattle.index.specs.Moves.{Waits-in}
 
 -- What is to wait of a step stands behind what waits already.
 pub record Does-waiting (m : Step (List Mapping)) (cache : List ℕ) (w : Work) (waiting waiting′ : List Mapping) (cache′ : List ℕ) : Type 0 where

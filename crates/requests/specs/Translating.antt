@@ -28,7 +28,7 @@ use Rattle.lent.specs.Does.{Does}
 use Rattle.lent.specs.DoesLaws.{does-give, does-look, does-look-at, does-bind, does-cond-true, does-cond-false}
 use Rattle.requests.specs.Ready.{Ready, Ready-for, countable-after}
 use Rattle.copying.specs.Copies.{less-room}
-use Rattle.update.specs.Index.{Index-ready}
+use Rattle.index.specs.Index.{Index-ready}
 use Rattle.lent.specs.Shapes.{Does-by-chip, Room-to-count}
 
 -- An entry for l may be fetched: there is room for it, and the translation page that is to be read lies on the chip.

@@ -1,5 +1,5 @@
 // What follows the moves of a collection in the data region: the entry of a cached owner takes the new place, and the others wait. These
-// are put together at the front of the array that holds the moves, behind which none has yet to be followed.
+// are gathered at the front of the array of moves, in the words of moves that have been followed.
 use lent::Geometry;
 use lent::Work;
 use steps::entries::rank_of;
@@ -16,7 +16,7 @@ ghost use Rattle.lent.specs.Shapes.{Does-cache};
 ghost use Rattle.words.specs.Filter.{Filter};
 ghost use Rattle.steps.specs.Entries.{Cache-lent};
 ghost use Rattle.copying.specs.Moves.{first-moves};
-ghost use Rattle.update.specs.Moves.{Waits-in};
+ghost use Rattle.index.specs.Moves.{Waits-in};
 ghost use Rattle.requests.specs.Following.{Does-waiting, Moves-ahead};
 
 // One more waits, behind n others, with its translation page.

@@ -1,4 +1,5 @@
 // Translate: l's entry comes to the front of the cache, from its rank or from l's translation page; the last one makes room for it.
+use index::update_one;
 use lent::Geometry;
 use lent::Handed;
 use lent::Work;
@@ -11,7 +12,6 @@ use steps::entries::logical;
 use steps::entries::physical;
 use steps::entries::rank_of;
 use steps::entries::touch;
-use update::update_one;
 ghost use mathlib.Core.Bool.{cond};
 ghost use Prim.Native.Nat.{_<_, _≤_};
 ghost use Rattle.lent.specs.Model.{geometry};

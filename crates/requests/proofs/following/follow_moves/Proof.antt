@@ -6,7 +6,7 @@ use lib.ListN.{length}
 use borrow.Author.Needs.{needs}
 use Rattle.words.specs.Filter.{Filter}
 use Rattle.lent.specs.Model.{geometry}
-use Rattle.update.specs.Moves.{Waits-in}
+use Rattle.index.specs.Moves.{Waits-in}
 use Rattle.requests.specs.Following.{Followed-upto, none-followed, one-followed, none-wait-in}
 use Rattle.requests.proofs.following.follow_moves.Statement.{statement}
 use Rattle.requests.proofs.following.follow_moves.Tie as tie

@@ -1,12 +1,9 @@
 -- `requests::room::collect` meets its contract: each part asks for what the law of the parts before it gives.
 use mathlib.Core.Path.{refl, _∙_}
 use native.Mathlib.Omega.{arith}
-use Rattle.scope.specs.Regions.{Data}
-use Rattle.scope.specs.Steps.{cache-follows}
-use Rattle.region.specs.Apart.{cache-apart}
 use Rattle.lent.specs.Model.{geometry}
-use Rattle.copying.specs.Choice.{start-keeps-used, start-follows-does, collect-does}
-use Rattle.requests.specs.Collecting.{start-ready, settle-ready, settled-keeps-used, erase-ready}
+use Rattle.copying.specs.Choice.{start-keeps-used}
+use Rattle.requests.specs.Collecting.{start-ready, settle-ready, settled-keeps-used, erase-ready, collected-does}
 use Rattle.requests.specs.Filtered.{filter-still, erase-keeps-used}
 use Rattle.requests.proofs.room.collect.Statement.{statement}
 use Rattle.requests.proofs.room.collect.Tie as tie
@@ -48,22 +45,21 @@ settle-requires : tie.Need-settle-requires
 settle-requires c κs =
     let moved = c .before .before .before .before .before .before .before in
     let done = copied moved in
-    let start = begun done in
-    let g = geometry (start .args .g) in
-    let copies = start-follows-does (cache-apart g) g Data (start .args .v) (done .start .ensures .0 (start .args .directory .now) (start .args .cache .now))
-    (moved .follow-moves .ensures .0 _ _ (start .args .directory .now)) in
-    (settle-ready (start .pre .0 .0) (start .pre .0 .1) copies, (done .start .ensures .1 .1 .0, moved .follow-moves .ensures .1 .1))
+    let pre = begun done .pre .0 in (
+      settle-ready (pre .0) (pre .1) (done .start .ensures .0) (moved .follow-moves .ensures .0),
+      (done .start .ensures .1 .1 .0, moved .follow-moves .ensures .1 .1),
+    )
 
 erase-requires : tie.Need-erase-requires
 erase-requires c κs =
     let last = c .before .before .before .before .before .before .before .before .before .before .before in
     let moved = followed last in
     let done = copied moved in
-    let start = begun done in
-    let g = geometry (start .args .g) in
-    let copies = start-follows-does (cache-apart g) g Data (start .args .v) (done .start .ensures .0 (start .args .directory .now) (start .args .cache .now))
-    (moved .follow-moves .ensures .0 _ _ (start .args .directory .now)) in
-    (erase-ready (start .pre .0 .0) (start .pre .0 .1) copies (last .settle .ensures .0 _) (done .start .ensures .1 .0 .on-chip), last .settle .ensures .1)
+    let pre = begun done .pre .0 in (
+      erase-ready (pre .0) (pre .1) (done .start .ensures .0) (moved .follow-moves .ensures .0) (last .settle .ensures .0 _)
+          (done .start .ensures .1 .0 .on-chip),
+      last .settle .ensures .1,
+    )
 
 same-length : tie.Need-same-length
 same-length c =
@@ -88,19 +84,19 @@ same-length-5 c = omega (arith, followed (settled (erased c)) .follow-moves .kep
 
 returns : tie.Need-returns
 returns c =
-    let erases = erased c .erase in
+    let erases = erased c .erase .ensures in
     let last = settled (erased c) in
+    let settles = last .settle .ensures .0 _ in
     let moved = followed last in
+    let follows = moved .follow-moves .ensures .0 in
     let done = copied moved in
-    let start = begun done in
-    let g = geometry (start .args .g) in
-    let copies = start-follows-does (cache-apart g) g Data (start .args .v) (done .start .ensures .0 (start .args .directory .now) (start .args .cache .now))
-    (moved .follow-moves .ensures .0 _ _ (start .args .directory .now)) in
-    let settles = last .settle .ensures .0 _ in (
-      collect-does (cache-follows g) (start .pre .0 .1) copies settles (erases .ensures .0 _ _),
+    let starts = done .start .ensures .0 in
+    let a = begun done .args in
+    let pre = begun done .pre .0 in (
+      collected-does (pre .0) (pre .1) starts follows settles (erases .0),
       (
-        erases .ensures .1,
-        filter-still (erase-keeps-used g (start .args .v) (erases .ensures .0) ∙ settled-keeps-used (start .pre .0 .0) (start .pre .0 .1) copies settles)
+        erases .1,
+        filter-still (erase-keeps-used (geometry (a .g)) (a .v) (erases .0) ∙ settled-keeps-used (pre .0) (pre .1) starts follows settles)
             (moved .follow-moves .ensures .1 .0),
       ),
     )

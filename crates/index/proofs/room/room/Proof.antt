@@ -1,0 +1,83 @@
+-- `index::room::room` meets its contract: room was made by the choice, or is by a collection.
+use mathlib.Core.Path.{subst}
+use borrow.Author.Needs.{needs}
+use Rattle.scope.specs.Regions.{Translation}
+use Rattle.scope.specs.Steps.{directory-follows}
+use Rattle.lent.specs.Model.{geometry}
+use Rattle.copying.specs.Choice.{Chosen}
+use Rattle.index.proofs.room.room.Statement.{statement}
+use Rattle.index.proofs.room.room.Tie as tie
+
+-- Where all begins.
+abbrev start : tie.After-choose → tie.Start
+start c = c .before .before .before .before .before .before .before
+
+choose-requires : tie.Need-choose-requires
+choose-requires c κs = let begun = c .before .before .before .before .before .before in (begun .pre .0 .lent .accepted, begun .pre .1)
+
+enum-known-choice : tie.Need-enum-known-choice
+enum-known-choice c = search needs
+
+enum-known-choice-2 : tie.Need-enum-known-choice-2
+enum-known-choice-2 c = search needs
+
+collect-requires : tie.Need-collect-requires
+collect-requires c κs =
+    let known = c .before .before .before .before .before in
+    let chosen = known .before .before in
+    let begun = start chosen in (
+      (
+        begun .pre .0,
+        subst (Chosen (geometry (begun .args .g)) Translation (begun .args .spare .now) (begun .args .work)) (known .choice2 .given .1)
+            (chosen .choose .ensures),
+      ),
+      begun .pre .1,
+    )
+
+same-length : tie.Need-same-length
+same-length c = search needs
+
+same-length-2 : tie.Need-same-length-2
+same-length-2 c = search needs
+
+returns : tie.Need-returns
+returns c =
+    let known = c .before in
+    let chosen = known .before .before in
+    let begun = start chosen in (
+      λ cache. subst (Chosen (geometry (begun .args .g)) Translation (begun .args .spare .now) (begun .args .work)) (known .choice .given .1)
+          (chosen .choose .ensures) .does directory-follows _ _ cache,
+      begun .pre .1,
+    )
+
+same-length-3 : tie.Need-same-length-3
+same-length-3 c = search needs
+
+same-length-4 : tie.Need-same-length-4
+same-length-4 c = search needs
+
+same-length-5 : tie.Need-same-length-5
+same-length-5 c = search needs
+
+same-length-6 : tie.Need-same-length-6
+same-length-6 c = search needs
+
+returns-2 : tie.Need-returns-2
+returns-2 c = c .before .before .before .before .before .before .before .before .collect .ensures
+
+pub room-spec : {M : Type 1} → statement M
+room-spec =
+    tie.close
+    (tie.spec
+    choose-requires
+    enum-known-choice
+    enum-known-choice-2
+    collect-requires
+    same-length
+    same-length-2
+    returns
+    same-length-3
+    same-length-4
+    same-length-5
+    same-length-6
+    returns-2)

@@ -1,0 +1,78 @@
+-- A collection of the translation region: what each of its parts asks for, from what the parts before it did, and that together they make
+-- room.
+use Prim.Native.Nat.{ℕ, _+_, _*_, _≤_, _<_}
+use mathlib.Core.Path.{_≡_, refl, _∙_}
+use mathlib.Core.List.{List, []}
+use native.Mathlib.Omega.{arith}
+use lib.ListN.{length, getD}
+use Rattle.scope.specs.Geometry.{Geometry}
+use Rattle.scope.specs.Regions.{Translation}
+use Rattle.scope.specs.Lent.{Mapping}
+use Rattle.scope.specs.Operations.{Erase, perform}
+use Rattle.scope.specs.Room.{make-room}
+use Rattle.scope.specs.Steps.{directory-names-it, directory-follows}
+use Rattle.region.specs.DirectoryFollows.{in-directory}
+use Rattle.region.specs.Apart.{waits-all, follow-each, directory-apart}
+use Rattle.lent.specs.declared.Work.{Work}
+use Rattle.lent.specs.DoesLaws.{does-give, does-bind}
+use Rattle.lent.specs.Shapes.{Does-flash, Does-directory}
+use Rattle.copying.specs.Moves.{move-at, first-moves, no-moves, one-more}
+use Rattle.copying.specs.Choice.{To-collect, start-collect, follow-none-does, follow-more-does, start-follows-does, collect-does}
+use Rattle.copying.specs.Copies.{less-room}
+use Rattle.copying.specs.Starting.{Collect-ready}
+use Rattle.index.specs.Index.{Does-index, Room-ready}
+
+-- ---- the directory follows
+
+-- The first i of the moves are followed.
+pub record Named-upto (moves : List ℕ) (n i : ℕ) (directory₀ directory : List ℕ) : Type 0 where
+  pub upto : i ≤ n
+  pub as-long : length directory ≡ length directory₀
+  pub does : (w : Work) → Does-directory (follow-each directory-follows (first-moves i moves)) directory₀ w [] directory w
+
+pub none-named : (moves : List ℕ) (n : ℕ) {directory : List ℕ} → Named-upto moves n 0 directory directory
+none-named moves n =
+    record {
+      upto = omega arith;
+      as-long = refl;
+      does = λ w chip spare cache. rw (no-moves moves) (follow-none-does directory-follows);
+    }
+
+pub one-named : {moves : List ℕ} {n i : ℕ} {directory₀ directory directory′ : List ℕ} → Named-upto moves n i directory₀ directory → i < n
+    → length directory′ ≡ length directory
+    → ((w : Work) → Does-directory (directory-names-it (getD moves (i * 3) 0) (getD moves (i * 3 + 1) 0)) directory w tt directory′ w)
+    → Named-upto moves n (i + 1) directory₀ directory′
+one-named {moves} {i = i} before more long names =
+    record {
+      upto = omega arith;
+      as-long = long ∙ before .as-long;
+      does = λ w chip spare cache. rw (one-more moves i)
+          (follow-more-does directory-apart (first-moves i moves) (move-at i moves) (before .does w chip spare cache)
+          (does-bind _ (names w chip spare cache) (does-give [])));
+    }
+
+-- ---- the collection
+
+module _ {g : Geometry} {chip spare directory : List ℕ} {w : Work} {v : ℕ} (ready : Room-ready g chip spare directory w)
+    (chosen : To-collect g Translation spare w v) where
+  pub start-ready : Collect-ready g Translation v chip spare w
+  start-ready =
+      record {
+        accepted = ready .lent .accepted;
+        chip-fits = ready .lent .chip-fits;
+        spare-fits = ready .lent .spare-fits;
+        places = in-directory directory;
+        holds = ready .holds;
+        chosen = chosen;
+        countable = less-room (omega arith) (ready .counting);
+      }
+
+  pub collected-does : {moves : List Mapping} {chip₁ spare₁ directory₁ chip₂ spare₂ : List ℕ} {w₁ w₂ : Work}
+      → Does-flash (start-collect g Translation waits-all v) chip spare w moves chip₁ spare₁ w₁
+      → ((w : Work) → Does-directory (follow-each directory-follows moves) directory w [] directory₁ w)
+      → Does-flash (perform g (Erase v)) chip₁ spare₁ w₁ tt chip₂ spare₂ w₂
+      → Does-index (make-room g Translation directory-follows) chip spare directory w tt chip₂ spare₂ directory₁ w₂
+  collected-does {chip₁ = chip₁} {spare₁} {directory₁} {w₁ = w₁} starts names erases cache =
+      collect-does directory-follows chosen
+      (start-follows-does directory-apart g Translation v (starts directory cache) (names w₁ chip₁ spare₁ cache))
+      (does-give tt) (erases directory₁ cache)

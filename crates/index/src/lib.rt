@@ -1,0 +1,105 @@
+// The index in code: update of a translation page, room in the translation region, what waits settled. Each does its definition.
+use lent::Geometry;
+use lent::Region;
+use lent::Work;
+use page::begin;
+use page::finish;
+use steps::chip::next_page;
+use steps::chip::set_word;
+use touched::next_touched;
+use touched::set_words;
+ghost use mathlib.Core.List.{[], _∷_};
+ghost use Rattle.scope.specs.Lent.{translation-page};
+ghost use Rattle.scope.specs.Steps.{of-page, update, update-all};
+ghost use Rattle.lent.specs.Model.{geometry};
+ghost use Rattle.words.specs.Census.{Census};
+ghost use Rattle.copying.specs.Moves.{first-moves};
+ghost use Rattle.index.specs.Moves.{Waits-in};
+ghost use Rattle.index.specs.Index.{Does-index, Index-ready};
+ghost use Rattle.index.specs.Writing.{Page-ready};
+
+pub mod page;
+pub mod room;
+pub mod touched;
+
+// The translation page of logical page l is updated with that one mapping.
+pub fn update_one(
+    work: Work,
+    g: Geometry,
+    l: u32,
+    place: u32,
+    chip: &mut [u32],
+    spare: &mut [u32],
+    census: &mut [u32],
+    directory: &mut [u32],
+) -> Work
+    requires { ⌜ Index-ready (geometry g) (now chip) (now spare) (now directory) work (record { logical = l; physical = place } ∷ []) ⌝ }
+    requires { ⌜ Census (geometry g) (now spare) (now census) ⌝ }
+    ensures { λ r. ⌜ Does-index (update (geometry g) (translation-page (geometry g) l) (record { logical = l; physical = place } ∷ []))
+        (now (chip .entry)) (now (spare .entry)) (now (directory .entry)) work tt
+        (now (chip .exit)) (now (spare .exit)) (now (directory .exit)) r ⌝ }
+    ensures { λ _. ⌜ Census (geometry g) (now (spare .exit)) (now (census .exit)) ⌝ }
+{
+    let t = l / g.w;
+    let begun = begin(work, g, t, chip, spare, census, directory);
+    let rec = begun.rec;
+    let q = next_page(rec, g, Region::Translation);
+    set_word(g, q, l, place, chip);
+    finish(begun, g, t, spare, census, directory)
+}
+
+// Translation page t is updated with all that waits for it.
+fn update_page(
+    work: Work,
+    g: Geometry,
+    t: u32,
+    n: usize,
+    waiting: &[u32; 192],
+    chip: &mut [u32],
+    spare: &mut [u32],
+    census: &mut [u32],
+    directory: &mut [u32],
+) -> Work
+    requires { ⌜ Page-ready (geometry g) (now chip) (now spare) (now directory) work t ⌝ }
+    requires { ⌜ Census (geometry g) (now spare) (now census) ⌝ }
+    requires { ⌜ Waits-in (geometry g) n (now waiting) ⌝ }
+    ensures { λ r. ⌜ Does-index (update (geometry g) t (of-page (geometry g) t (first-moves n (now (waiting .entry)))))
+        (now (chip .entry)) (now (spare .entry)) (now (directory .entry)) work tt
+        (now (chip .exit)) (now (spare .exit)) (now (directory .exit)) r ⌝ }
+    ensures { λ _. ⌜ Census (geometry g) (now (spare .exit)) (now (census .exit)) ⌝ }
+{
+    let begun = begin(work, g, t, chip, spare, census, directory);
+    let rec = begun.rec;
+    let q = next_page(rec, g, Region::Translation);
+    set_words(g, q, t, n, waiting, chip);
+    finish(begun, g, t, spare, census, directory)
+}
+
+// The first n mappings that wait are settled: each translation page that they touch, in rising number, is updated once.
+pub fn settle(
+    work: Work,
+    g: Geometry,
+    n: usize,
+    waiting: &[u32; 192],
+    chip: &mut [u32],
+    spare: &mut [u32],
+    census: &mut [u32],
+    directory: &mut [u32],
+) -> Work
+    requires { ⌜ Index-ready (geometry g) (now chip) (now spare) (now directory) work (first-moves n (now waiting)) ⌝ }
+    requires { ⌜ Census (geometry g) (now spare) (now census) ⌝ }
+    requires { ⌜ Waits-in (geometry g) n (now waiting) ⌝ }
+    ensures { λ r. ⌜ Does-index (update-all (geometry g) (first-moves n (now (waiting .entry))))
+        (now (chip .entry)) (now (spare .entry)) (now (directory .entry)) work tt
+        (now (chip .exit)) (now (spare .exit)) (now (directory .exit)) r ⌝ }
+    ensures { λ _. ⌜ Census (geometry g) (now (spare .exit)) (now (census .exit)) ⌝ }
+{
+    let m = directory.len() as u32;
+    let mut settled = work;
+    let mut t = next_touched(n, waiting, 0, m);
+    while t < m {
+        settled = update_page(settled, g, t, n, waiting, chip, spare, census, directory);
+        t = next_touched(n, waiting, t + 1, m);
+    }
+    settled
+}
