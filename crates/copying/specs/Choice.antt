@@ -19,7 +19,7 @@ use Rattle.lent.specs.Does.{Does}
 use Rattle.lent.specs.DoesLaws.{does-give, does-look, does-look-at, does-bind, does-cond-true, does-cond-false}
 use Rattle.lent.specs.Shapes.{Does-flash, Does-by-spare}
 use Rattle.copying.specs.declared.choice.Choice.{Choice}
-use Rattle.copying.specs.declared.choice.Choice.the-variants.{Made, Victim}
+use Rattle.copying.specs.declared.choice.Choice.the-variants.{There, Opened, Victim}
 
 -- A block is to be collected: the open one is full, and fewer than two are erased.
 pub record To-collect (g : Geometry) (r : Region) (spare : List ℕ) (w : Work) (v : ℕ) : Type 0 where
@@ -28,12 +28,13 @@ pub record To-collect (g : Geometry) (r : Region) (spare : List ℕ) (w : Work) 
   pub found : (s : State) → s .spare ≡ spare → victim g r s ≡ v
 
 -- Room is there, or is made by opening a block: whatever would follow a moved page, and with as many entries in use.
-pub record Room-made (g : Geometry) (r : Region) (spare : List ℕ) (w w′ : Work) : Type 0 where
+pub record Makes-room (g : Geometry) (r : Region) (spare : List ℕ) (w w′ : Work) : Type 0 where
   pub does : (follow : Following) → Does-by-spare (make-room g r follow) spare w tt w′
   pub keeps-used : w′ .rec .used ≡ w .rec .used
 
 abbrev pub Chosen : Geometry → Region → List ℕ → Work → Choice → Type 0
-Chosen g r spare w (Made w′) = Room-made g r spare w w′
+Chosen g r spare w There = Makes-room g r spare w w
+Chosen g r spare w (Opened w′) = Makes-room g r spare w w′
 Chosen g r spare w (Victim v) = To-collect g r spare w v
 
 -- Opening a block leaves the number of entries in use.
@@ -47,7 +48,7 @@ module _ (g : Geometry) (r : Region) {spare : List ℕ} {w : Work} where
   opens-keeps-used opens =
       sym (ap (λ (x : State). x .small .used) (opens [] [] [] .after)) ∙ opened-keeps-used r _ (small (w .rec))
 
-  pub room-chosen : next-offset r (small (w .rec)) < g .P → Chosen g r spare w (Made w)
+  pub room-chosen : next-offset r (small (w .rec)) < g .P → Chosen g r spare w There
   unfolding make-room
   room-chosen h =
       record {
@@ -57,7 +58,7 @@ module _ (g : Geometry) (r : Region) {spare : List ℕ} {w : Work} where
       }
 
   module _ (full : g .P ≤ next-offset r (small (w .rec))) {n : ℕ} (erased : (s : State) → s .spare ≡ spare → erased-blocks g r s ≡ n) where
-    pub open-chosen : {w′ : Work} → 2 ≤ n → Does-by-spare (open-lowest g r) spare w tt w′ → Chosen g r spare w (Made w′)
+    pub open-chosen : {w′ : Work} → 2 ≤ n → Does-by-spare (open-lowest g r) spare w tt w′ → Chosen g r spare w (Opened w′)
     unfolding make-room open-or-collect
     open-chosen two opens =
         record {

@@ -11,9 +11,11 @@ ghost use Rattle.lent.specs.Model.{geometry, region};
 ghost use Rattle.words.specs.Census.{Census};
 ghost use Rattle.copying.specs.Choice.{Chosen};
 
-// Room is there, or a block was opened; or a block is to be collected.
+// Room is there, or a block was opened for it; or a block is to be collected. Where room is there nothing is handed back, so that the
+// record isn't copied for it.
 pub enum Choice {
-    Made(Work),
+    There,
+    Opened(Work),
     Victim(u32),
 }
 
@@ -24,10 +26,10 @@ pub fn choose(work: Work, g: Geometry, r: Region, spare: &[u32], census: &[u32])
 {
     let rec = work.rec;
     if next_offset(rec, r) < g.p {
-        return Choice::Made(work);
+        return Choice::There;
     }
     if 2 <= erased_blocks(g, r, spare, census) {
-        return Choice::Made(open_lowest(work, g, r, spare, census));
+        return Choice::Opened(open_lowest(work, g, r, spare, census));
     }
     Choice::Victim(victim(g, r, spare, census))
 }

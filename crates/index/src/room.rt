@@ -89,7 +89,8 @@ pub fn room(
 {
     let choice = choose(work, g, Region::Translation, spare, census);
     match choice {
-        Choice::Made(made) => made,
+        Choice::There => work,
+        Choice::Opened(opened) => opened,
         Choice::Victim(v) => collect(work, g, v, chip, spare, census, directory),
     }
 }

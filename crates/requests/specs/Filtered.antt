@@ -16,7 +16,7 @@ use Rattle.cache.specs.Ranks.{rank-found}
 use Rattle.lent.specs.declared.Work.{Work}
 use Rattle.lent.specs.Shapes.{Does-flash, Does-by-chip, Does-cache}
 use Rattle.words.specs.Filter.{Filter}
-use Rattle.steps.specs.Filter.{filter-moved, filter-forgotten, filter-placed}
+use Rattle.entries.specs.Filter.{filter-moved, filter-forgotten, filter-placed}
 
 -- A page that was found is cached.
 pub found-in-use : (g : Geometry) (cache : List ℕ) (used l : ℕ) {i : ℕ} → rank-of g cache used l ≡ i → i < g .C → i < used

@@ -1,6 +1,8 @@
 // Read and write: what a call does once its tests have passed. The reply's number is handed back.
 use crate::room::make_room;
 use crate::translation::translate;
+use entries::physical;
+use entries::set_entry;
 use lent::Entry;
 use lent::Geometry;
 use lent::Handed;
@@ -10,8 +12,6 @@ use lent::decode;
 use steps::chip::mark_old;
 use steps::chip::program_next;
 use steps::chip::read_page;
-use steps::entries::physical;
-use steps::entries::set_entry;
 ghost use mathlib.Core.Path.{_≡_};
 ghost use mathlib.Core.List.{List};
 ghost use Prim.Native.Nat.{ℕ};

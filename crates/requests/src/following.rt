@@ -1,9 +1,9 @@
 // What follows the moves of a collection in the data region: the entry of a cached owner takes the new place, and the others wait. These
 // are gathered at the front of the array of moves, in the words of moves that have been followed.
+use entries::rank_of;
+use entries::set_entry;
 use lent::Geometry;
 use lent::Work;
-use steps::entries::rank_of;
-use steps::entries::set_entry;
 ghost use mathlib.Core.Path.{_≡_};
 ghost use mathlib.Core.List.{[], _∷_, _++_};
 ghost use Prim.Native.Nat.{_≤_, _<_};
@@ -14,7 +14,7 @@ ghost use Rattle.region.specs.Apart.{follow-each};
 ghost use Rattle.lent.specs.Model.{geometry};
 ghost use Rattle.lent.specs.Shapes.{Does-cache};
 ghost use Rattle.words.specs.Filter.{Filter};
-ghost use Rattle.steps.specs.Entries.{Cache-lent};
+ghost use Rattle.entries.specs.Entries.{Cache-lent};
 ghost use Rattle.copying.specs.Moves.{first-moves};
 ghost use Rattle.index.specs.Moves.{Waits-in};
 ghost use Rattle.requests.specs.Following.{Does-waiting, Moves-ahead};

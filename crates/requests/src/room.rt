@@ -71,7 +71,8 @@ pub fn make_room(
 {
     let choice = choose(work, g, Region::Data, spare, census);
     match choice {
-        Choice::Made(made) => made,
+        Choice::There => work,
+        Choice::Opened(opened) => opened,
         Choice::Victim(v) => collect(work, g, v, chip, spare, census, directory, cache, filter),
     }
 }

@@ -1,17 +1,17 @@
 // Translate: l's entry comes to the front of the cache, from its rank or from l's translation page; the last one makes room for it.
+use entries::enter;
+use entries::forget;
+use entries::is_changed;
+use entries::logical;
+use entries::physical;
+use entries::rank_of;
+use entries::touch;
 use index::update_one;
 use lent::Geometry;
 use lent::Handed;
 use lent::Work;
 use steps::chip::word_for;
 use steps::directory::named;
-use steps::entries::enter;
-use steps::entries::forget;
-use steps::entries::is_changed;
-use steps::entries::logical;
-use steps::entries::physical;
-use steps::entries::rank_of;
-use steps::entries::touch;
 ghost use mathlib.Core.Bool.{cond};
 ghost use Prim.Native.Nat.{_<_, _≤_};
 ghost use Rattle.lent.specs.Model.{geometry};

@@ -2,6 +2,4 @@
 pub mod Lies
 pub mod Chip
 pub mod Directory
-pub mod Entries
 pub mod Census
-pub mod Filter

@@ -1,4 +1,4 @@
--- `index::room::room` meets its contract: room was made by the choice, or is by a collection.
+-- `index::room::room` meets its contract: room is there or was made by the choice, or is by a collection.
 use mathlib.Core.Path.{subst}
 use borrow.Author.Needs.{needs}
 use Rattle.scope.specs.Regions.{Translation}
@@ -15,6 +15,9 @@ start c = c .before .before .before .before .before .before .before
 choose-requires : tie.Need-choose-requires
 choose-requires c κs = let begun = c .before .before .before .before .before .before in (begun .pre .0 .lent .accepted, begun .pre .1)
 
+enum-told : tie.Need-enum-told
+enum-told c = search needs
+
 enum-known-choice : tie.Need-enum-known-choice
 enum-known-choice c = search needs
 
@@ -25,12 +28,9 @@ collect-requires : tie.Need-collect-requires
 collect-requires c κs =
     let known = c .before .before .before .before .before in
     let chosen = known .before .before in
-    let begun = start chosen in (
-      (
-        begun .pre .0,
-        subst (Chosen (geometry (begun .args .g)) Translation (begun .args .spare .now) (begun .args .work)) (known .choice2 .given .1)
-            (chosen .choose .ensures),
-      ),
+    let begun = start chosen in
+    let a = begun .args in (
+      (begun .pre .0, subst (Chosen (geometry (a .g)) Translation (a .spare .now) (a .work)) (known .choice2 .given .1) (chosen .choose .ensures)),
       begun .pre .1,
     )
 
@@ -42,13 +42,11 @@ same-length-2 c = search needs
 
 returns : tie.Need-returns
 returns c =
-    let known = c .before in
-    let chosen = known .before .before in
-    let begun = start chosen in (
-      λ cache. subst (Chosen (geometry (begun .args .g)) Translation (begun .args .spare .now) (begun .args .work)) (known .choice .given .1)
-          (chosen .choose .ensures) .does directory-follows _ _ cache,
-      begun .pre .1,
-    )
+    let chosen = c .before .before in
+    let begun = start chosen in
+    let a = begun .args in
+    let room = subst (Chosen (geometry (a .g)) Translation (a .spare .now) (a .work)) (c .enum-told .given .1) (chosen .choose .ensures) in
+    (λ cache. room .does directory-follows _ _ cache, begun .pre .1)
 
 same-length-3 : tie.Need-same-length-3
 same-length-3 c = search needs
@@ -56,20 +54,36 @@ same-length-3 c = search needs
 same-length-4 : tie.Need-same-length-4
 same-length-4 c = search needs
 
+returns-2 : tie.Need-returns-2
+returns-2 c =
+    let known = c .before in
+    let chosen = known .before .before in
+    let begun = start chosen in
+    let a = begun .args in
+    let opens = subst (Chosen (geometry (a .g)) Translation (a .spare .now) (a .work)) (known .choice .given .1) (chosen .choose .ensures) in
+    (λ cache. opens .does directory-follows _ _ cache, begun .pre .1)
+
 same-length-5 : tie.Need-same-length-5
 same-length-5 c = search needs
 
 same-length-6 : tie.Need-same-length-6
 same-length-6 c = search needs
 
-returns-2 : tie.Need-returns-2
-returns-2 c = c .before .before .before .before .before .before .before .before .collect .ensures
+same-length-7 : tie.Need-same-length-7
+same-length-7 c = search needs
+
+same-length-8 : tie.Need-same-length-8
+same-length-8 c = search needs
+
+returns-3 : tie.Need-returns-3
+returns-3 c = c .before .before .before .before .before .before .before .before .collect .ensures
 
 pub room-spec : {M : Type 1} → statement M
 room-spec =
     tie.close
     (tie.spec
     choose-requires
+    enum-told
     enum-known-choice
     enum-known-choice-2
     collect-requires
@@ -78,6 +92,9 @@ room-spec =
     returns
     same-length-3
     same-length-4
+    returns-2
     same-length-5
     same-length-6
-    returns-2)
+    same-length-7
+    same-length-8
+    returns-3)

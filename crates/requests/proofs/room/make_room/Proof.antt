@@ -1,4 +1,4 @@
--- `requests::room::make_room` meets its contract: room was made by the choice, or is by a collection.
+-- `requests::room::make_room` meets its contract: room is there or was made by the choice, or is by a collection.
 use mathlib.Core.Path.{subst}
 use borrow.Author.Needs.{needs}
 use Rattle.scope.specs.Regions.{Data}
@@ -15,6 +15,9 @@ start c = c .before .before .before .before .before .before .before .before
 
 choose-requires : tie.Need-choose-requires
 choose-requires c κs = let begun = c .before .before .before .before .before .before .before in (begun .pre .0 .ready .accepted, begun .pre .1 .0)
+
+enum-told : tie.Need-enum-told
+enum-told c = search needs
 
 enum-known-choice : tie.Need-enum-known-choice
 enum-known-choice c = search needs
@@ -40,20 +43,28 @@ same-length-2 c = search needs
 
 returns : tie.Need-returns
 returns c =
-    let known = c .before in
-    let chosen = known .before .before in
+    let chosen = c .before .before in
     let begun = start chosen in
     let a = begun .args in
-    let made = subst (Chosen (geometry (a .g)) Data (a .spare .now) (a .work)) (known .choice .given .1) (chosen .choose .ensures) in (
-      made .does (cache-follows (geometry (a .g))) _ _ _,
-      (begun .pre .1 .0, filter-still (made .keeps-used) (begun .pre .1 .1)),
-    )
+    let room = subst (Chosen (geometry (a .g)) Data (a .spare .now) (a .work)) (c .enum-told .given .1) (chosen .choose .ensures) in
+    (room .does (cache-follows (geometry (a .g))) _ _ _, begun .pre .1)
 
 same-length-3 : tie.Need-same-length-3
 same-length-3 c = search needs
 
 same-length-4 : tie.Need-same-length-4
 same-length-4 c = search needs
+
+returns-2 : tie.Need-returns-2
+returns-2 c =
+    let known = c .before in
+    let chosen = known .before .before in
+    let begun = start chosen in
+    let a = begun .args in
+    let opens = subst (Chosen (geometry (a .g)) Data (a .spare .now) (a .work)) (known .choice .given .1) (chosen .choose .ensures) in (
+      opens .does (cache-follows (geometry (a .g))) _ _ _,
+      (begun .pre .1 .0, filter-still (opens .keeps-used) (begun .pre .1 .1)),
+    )
 
 same-length-5 : tie.Need-same-length-5
 same-length-5 c = search needs
@@ -64,14 +75,21 @@ same-length-6 c = search needs
 same-length-7 : tie.Need-same-length-7
 same-length-7 c = search needs
 
-returns-2 : tie.Need-returns-2
-returns-2 c = c .before .before .before .before .before .before .before .before .before .before .collect .ensures
+same-length-8 : tie.Need-same-length-8
+same-length-8 c = search needs
+
+same-length-9 : tie.Need-same-length-9
+same-length-9 c = search needs
+
+returns-3 : tie.Need-returns-3
+returns-3 c = c .before .before .before .before .before .before .before .before .before .before .collect .ensures
 
 pub make-room-spec : {M : Type 1} → statement M
 make-room-spec =
     tie.close
     (tie.spec
     choose-requires
+    enum-told
     enum-known-choice
     enum-known-choice-2
     collect-requires
@@ -80,7 +98,10 @@ make-room-spec =
     returns
     same-length-3
     same-length-4
+    returns-2
     same-length-5
     same-length-6
     same-length-7
-    returns-2)
+    same-length-8
+    same-length-9
+    returns-3)

@@ -1,4 +1,4 @@
--- `steps::entries::rank_of` meets its contract.
+-- `entries::rank_of` meets its contract.
 use mathlib.Core.Path.{sym, ap, _∙_}
 use denote.Ref.{now}
 use borrow.Author.Tests.{not-true}
@@ -8,9 +8,9 @@ use native.Mathlib.Omega.{arith}
 use borrow.Author.Needs.{needs}
 use Rattle.scope.specs.Sound.{rank-of}
 use Rattle.lent.specs.Model.{geometry}
-use Rattle.steps.specs.Filter.{filter-misses}
-use Rattle.steps.proofs.entries.rank_of.Statement.{statement}
-use Rattle.steps.proofs.entries.rank_of.Tie as tie
+use Rattle.entries.specs.Filter.{filter-misses}
+use Rattle.entries.proofs.rank_of.Statement.{statement}
+use Rattle.entries.proofs.rank_of.Tie as tie
 
 cast-n : tie.Need-cast-n
 cast-n c = search needs

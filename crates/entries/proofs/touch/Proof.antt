@@ -1,8 +1,8 @@
--- `steps::entries::touch` meets its contract.
+-- `entries::touch` meets its contract.
 use borrow.Author.Needs.{needs}
-use Rattle.steps.specs.Entries.{touch-does}
-use Rattle.steps.proofs.entries.touch.Statement.{statement}
-use Rattle.steps.proofs.entries.touch.Tie as tie
+use Rattle.entries.specs.Entries.{touch-does}
+use Rattle.entries.proofs.touch.Statement.{statement}
+use Rattle.entries.proofs.touch.Tie as tie
 
 to-front-requires : tie.Need-to-front-requires
 to-front-requires c κs = search needs

@@ -1,11 +1,11 @@
--- `steps::entries::logical` meets its contract.
+-- `entries::logical` meets its contract.
 use Prim.Native.Nat.{_*_}
 use native.Mathlib.Omega.{arith}
 use borrow.Author.Needs.{needs}
 use Rattle.scope.specs.Lent.{none, entry-words}
 use Rattle.words.specs.Runs.{getD-any}
-use Rattle.steps.proofs.entries.logical.Statement.{statement}
-use Rattle.steps.proofs.entries.logical.Tie as tie
+use Rattle.entries.proofs.logical.Statement.{statement}
+use Rattle.entries.proofs.logical.Tie as tie
 
 mul-result : tie.Need-mul-result
 mul-result c = search needs

@@ -1,8 +1,8 @@
--- `steps::entries::set_entry` meets its contract.
+-- `entries::set_entry` meets its contract.
 use borrow.Author.Needs.{needs}
-use Rattle.steps.specs.Entries.{set-entry-does}
-use Rattle.steps.proofs.entries.set_entry.Statement.{statement}
-use Rattle.steps.proofs.entries.set_entry.Tie as tie
+use Rattle.entries.specs.Entries.{set-entry-does}
+use Rattle.entries.proofs.set_entry.Statement.{statement}
+use Rattle.entries.proofs.set_entry.Tie as tie
 
 mul-store-two : tie.Need-mul-store-two
 mul-store-two c = search needs

@@ -18,7 +18,7 @@ ghost use Rattle.scope.specs.Lent.{entry-words, logical-at, physical-at};
 ghost use Rattle.lent.specs.declared.Work.{Work};
 ghost use Rattle.lent.specs.Model.{geometry};
 ghost use Rattle.lent.specs.Shapes.{Does-cache};
-ghost use Rattle.steps.specs.Entries.{Cache-lent};
+ghost use Rattle.entries.specs.Entries.{Cache-lent};
 ghost use Rattle.words.specs.Filter.{Filter, bit-of};
 
 // The bit of a logical page in the filter.

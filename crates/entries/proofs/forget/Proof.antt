@@ -1,10 +1,10 @@
--- `steps::entries::forget` meets its contract.
+-- `entries::forget` meets its contract.
 use mathlib.Core.Path.{refl}
 use native.Mathlib.Omega.{arith}
 use borrow.Author.Needs.{needs}
-use Rattle.steps.specs.Entries.{forget-does}
-use Rattle.steps.proofs.entries.forget.Statement.{statement}
-use Rattle.steps.proofs.entries.forget.Tie as tie
+use Rattle.entries.specs.Entries.{forget-does}
+use Rattle.entries.proofs.forget.Statement.{statement}
+use Rattle.entries.proofs.forget.Tie as tie
 
 mul-store-three : tie.Need-mul-store-three
 mul-store-three c = search needs

@@ -1,12 +1,12 @@
--- `steps::entries::enter` meets its contract.
+-- `entries::enter` meets its contract.
 use mathlib.Core.Path.{refl}
 use native.Mathlib.Nat.{mod-lt}
 use native.Mathlib.Omega.{arith}
 use borrow.Author.Needs.{needs}
-use Rattle.steps.specs.Entries.{enter-does}
-use Rattle.steps.specs.Filter.{filter-gains}
-use Rattle.steps.proofs.entries.enter.Statement.{statement}
-use Rattle.steps.proofs.entries.enter.Tie as tie
+use Rattle.entries.specs.Entries.{enter-does}
+use Rattle.entries.specs.Filter.{filter-gains}
+use Rattle.entries.proofs.enter.Statement.{statement}
+use Rattle.entries.proofs.enter.Tie as tie
 
 bit-of-requires : tie.Need-bit-of-requires
 bit-of-requires c κs = search needs
