@@ -58,6 +58,7 @@ copy-unseen g r p s = on (is-valid p (s .spare)) (λ e. rw e (moved r)) (λ e. r
     moved Data = record { directory = refl; cache = refl; used = refl }
     moved Translation = record { directory = refl; cache = refl; used = refl }
 
+-- So do all.
 pub copies-keep-used : (g : Geometry) (r : Region) (v n : ℕ) (s : State) → move-pages g r waits-all v n s .after .small .used ≡ s .small .used
 unfolding move-pages give _>>=_
 copies-keep-used g r v zero s = refl
@@ -77,6 +78,7 @@ abbrev behind : Left → Left → Left
 behind x y = record { waiting = x .waiting ++ y .waiting; directory = y .directory; cache = y .cache }
 
 module _ {follow : Following} (A : Apart follow) where
+  -- What moves leave, followed one after the other, by the parts that following looks at.
   unfoldable each : List Mapping → List ℕ → List ℕ → ℕ → Left
   each [] directory cache used = record { waiting = []; directory = directory; cache = cache }
   each (m ∷ moves) directory cache used =
