@@ -16,7 +16,7 @@ use Rattle.region.specs.Starts.{opened-lowest}
 use Rattle.lent.specs.declared.Work.{Work}
 use Rattle.lent.specs.Model.{small, state}
 use Rattle.lent.specs.Does.{Does}
-use Rattle.lent.specs.DoesLaws.{does-give, does-look, does-look-at, does-bind, does-cond-true, does-cond-false}
+use Rattle.lent.specs.DoesLaws.{does-give, does-look, does-look-at, does-bind, does-cond-true, does-cond-false, does-same}
 use Rattle.lent.specs.Shapes.{Does-flash, Does-by-spare}
 use Rattle.copying.specs.declared.choice.Choice.{Choice}
 use Rattle.copying.specs.declared.choice.Choice.the-variants.{There, Opened, Victim}
@@ -86,15 +86,6 @@ start-keeps-used g r v {chip} {spare} {w = w} does =
     sym (ap (λ (x : State). x .small .used) (does [] [] .after))
     ∙ copies-keep-used g r v (g .P) (opened-lowest g r s)
     ∙ opened-keeps-used r (lowest-erased g r s) (small (w .rec))
-
--- The same outcome, the same contract.
-does-same : {A : Type 0} {m n : Step A} {s s′ : State} {c c′ : Counts} {x : A} → m s ≡ n s → Does n s c x s′ c′ → Does m s c x s′ c′
-does-same {A} {c = c} e d =
-    record {
-      value = ap (λ (o : Outcome A). o .value) e ∙ d .value;
-      after = ap (λ (o : Outcome A). o .after) e ∙ d .after;
-      counting = ap (λ (o : Outcome A). counts-add c (counted (o .did))) e ∙ d .counting;
-    }
 
 -- No move is followed; one more is.
 pub follow-none-does : (follow : Following) {s : State} {c : Counts} → Does (follow-each follow []) s c [] s c

@@ -28,18 +28,9 @@ use Rattle.lent.specs.declared.Counts.{Counts as Counted}
 use Rattle.lent.specs.declared.Work.{Work}
 use Rattle.lent.specs.Model.{state, small}
 use Rattle.lent.specs.DoesLaws.{does-give, does-look-at, does-bind, does-value}
-use Rattle.lent.specs.Shapes.{Does-flash, Room-to-count, room-after}
+use Rattle.lent.specs.Shapes.{Does-flash, Room-to-count, less-room, room-after}
 use Rattle.steps.specs.Lies.{Chip-lent, Spare-lent, Has-next}
 use Rattle.steps.specs.Chip.{relocate, move-does}
-
--- Room for more is room for less.
-pub less-room : {n m : ℕ} {c : Counted} → n ≤ m → Room-to-count m c → Room-to-count n c
-less-room h room =
-    record {
-      reads = omega (arith, room .reads);
-      programs = omega (arith, room .programs);
-      erases = omega (arith, room .erases);
-    }
 
 -- ---- the law of the copies, for moves that are noted
 

@@ -20,11 +20,11 @@ use Rattle.lent.specs.declared.Work.{Work}
 use Rattle.lent.specs.Model.{small}
 use Rattle.lent.specs.Does.{Does}
 use Rattle.lent.specs.DoesLaws.{does-bind}
-use Rattle.lent.specs.Shapes.{Does-flash, Does-by-spare, Room-to-count, room-after}
+use Rattle.lent.specs.Shapes.{Does-flash, Does-by-spare, Room-to-count, room-after, less-room}
 use Rattle.steps.specs.Lies.{Chip-lent, Spare-lent}
 use Rattle.copying.specs.Moves.{first-moves, moves-counted, owner-waits}
 use Rattle.copying.specs.Choice.{To-collect, start-collect}
-use Rattle.copying.specs.Copies.{less-room, noted-view, Noted-owners, noting, flash-state, Copy-ready, Copied-upto}
+use Rattle.copying.specs.Copies.{noted-view, Noted-owners, noting, flash-state, Copy-ready, Copied-upto}
 use Rattle.copying.specs.Copies.{copied-chip, copied-spare, copied-few, copied-owned, copied-room}
 
 -- What opening a block leaves, and that it counts nothing.

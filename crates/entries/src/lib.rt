@@ -89,12 +89,12 @@ pub fn enter(work: Work, l: u32, place: u32, cache: &mut [u32], filter: &mut [u6
 }
 
 // The entry at rank i, the last, is dropped.
-pub fn forget(i: usize, cache: &mut [u32], work: Work) -> Work
-    requires { ⌜ (i * 3 + 3 ≤ length (now cache)) × (i + 1 ≡ work .rec .used) ⌝ }
+pub fn forget(work: Work, i: usize, cache: &mut [u32]) -> Work
+    requires { ⌜ (i * entry-words + entry-words ≤ length (now cache)) × (i + 1 ≡ work .rec .used) ⌝ }
     ensures { λ r. ⌜ Does-cache (forget i) (now (cache .entry)) work tt (now (cache .exit)) r ⌝ }
 {
     let mut next = work;
-    store_three(cache, i * 3, NONE, NONE, NONE);
+    store_three(cache, i * ENTRY_WORDS, NONE, NONE, NONE);
     let less = work.rec.used - 1;
     next.rec.used = less;
     next

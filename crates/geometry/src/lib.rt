@@ -1,6 +1,8 @@
 // Which geometries are accepted, what one derives, and whether the lent slices have its sizes. Any six numbers may come: each factor is
 // bounded before it is multiplied, and sums and products are taken in 64 bits, so that none wraps.
+use lent::ENTRY_WORDS;
 use lent::Geometry;
+use lent::SPARE_WORDS;
 ghost use mathlib.Core.Path.{_≡_};
 ghost use mathlib.Core.Bool.{_&&_};
 ghost use Prim.Native.Nat.{_+_, _-_, _*_, _≤_, _<_};
@@ -101,11 +103,11 @@ pub fn sizes_right(g: Geometry, chip: usize, spare: usize, directory: usize, cac
     if chip != pages * g.w as usize {
         return false;
     }
-    if spare != pages * 2 {
+    if spare != pages * SPARE_WORDS {
         return false;
     }
     if directory != translation_pages(g) {
         return false;
     }
-    cache == g.c as usize * 3
+    cache == g.c as usize * ENTRY_WORDS
 }

@@ -15,10 +15,9 @@ use Rattle.region.specs.DirectoryFollows.{in-directory}
 use Rattle.region.specs.Apart.{waits-all, follow-each, directory-apart}
 use Rattle.lent.specs.declared.Work.{Work}
 use Rattle.lent.specs.DoesLaws.{does-give, does-bind}
-use Rattle.lent.specs.Shapes.{Does-flash, Does-directory}
+use Rattle.lent.specs.Shapes.{Does-flash, Does-directory, less-room}
 use Rattle.copying.specs.Moves.{move-at, first-moves, no-moves, one-more}
 use Rattle.copying.specs.Choice.{To-collect, start-collect, follow-none-does, follow-more-does, start-follows-does, collect-does}
-use Rattle.copying.specs.Copies.{less-room}
 use Rattle.copying.specs.Starting.{Collect-ready}
 use Rattle.index.specs.Index.{Does-index, Room-ready}
 

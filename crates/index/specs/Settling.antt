@@ -17,8 +17,7 @@ use Rattle.promises.specs.Parts.{Index-holds, Index-fits}
 use Rattle.promises.specs.Update.{update-bound, Updated, update-law}
 use Rattle.lent.specs.declared.Work.{Work}
 use Rattle.lent.specs.DoesLaws.{does-give, does-for-none, does-for-more}
-use Rattle.lent.specs.Shapes.{Room-to-count, room-after}
-use Rattle.copying.specs.Copies.{less-room}
+use Rattle.lent.specs.Shapes.{Room-to-count, room-after, less-room}
 use Rattle.index.specs.Index.{Does-index, no-cache, index-state, Index-lent, index-lengths, lengths-lent, Index-ready}
 use Rattle.index.specs.Moves.{Next-touched}
 use Rattle.index.specs.Writing.{Page-ready}

@@ -23,13 +23,12 @@ use Rattle.promises.specs.Update.{writing, update-bound}
 use Rattle.lent.specs.declared.Work.{Work}
 use Rattle.lent.specs.Model.{small, counts}
 use Rattle.lent.specs.DoesLaws.{does-ends, state-same, does-look, does-bind}
-use Rattle.lent.specs.Shapes.{Does-directory, Room-to-count, room-after}
+use Rattle.lent.specs.Shapes.{Does-directory, Room-to-count, room-after, less-room}
 use Rattle.words.specs.Runs.{set-before}
 use Rattle.steps.specs.Lies.{Spare-lent, words-lie, next-page, Has-next, next-same, next-on-chip}
 use Rattle.steps.specs.Chip.{marked, Claimed, program-does, mark-old-does}
 use Rattle.steps.specs.Chip.{begun-words, Begun, begun-does, length-begun, room-after-begun, no-word-set, one-word-set}
 use Rattle.index.specs.Index.{Does-index, no-cache, index-state, Index-lent, chip-of, spare-of, index-lengths, lengths-lent}
-use Rattle.copying.specs.Copies.{less-room}
 use Rattle.index.specs.Index.{Index-ready, Room-ready}
 
 -- What an update of translation page t asks for.

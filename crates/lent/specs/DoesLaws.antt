@@ -38,6 +38,15 @@ does-ends a e q = record { value = a .value; after = a .after ∙ e; counting = 
 pub does-value : {A : Type 0} {m : Step A} {s s′ : State} {c c′ : Counts} {x y : A} → Does m s c x s′ c′ → x ≡ y → Does m s c y s′ c′
 does-value a e = record { value = a .value ∙ e; after = a .after; counting = a .counting }
 
+-- The same outcome, the same contract.
+pub does-same : {A : Type 0} {m n : Step A} {s s′ : State} {c c′ : Counts} {x : A} → m s ≡ n s → Does n s c x s′ c′ → Does m s c x s′ c′
+does-same {A} {c = c} e d =
+    record {
+      value = ap (λ (o : Outcome A). o .value) e ∙ d .value;
+      after = ap (λ (o : Outcome A). o .after) e ∙ d .after;
+      counting = ap (λ (o : Outcome A). counts-add c (counted (o .did))) e ∙ d .counting;
+    }
+
 -- States are equal by their five parts.
 pub state-same : {s t : State} → s .chip ≡ t .chip → s .spare ≡ t .spare → s .directory ≡ t .directory → s .cache ≡ t .cache
     → s .small ≡ t .small → s ≡ t

@@ -51,6 +51,15 @@ pub record Room-to-count (n : ℕ) (c : Counted) : Type 0 where
   pub programs : c .programs + n < 4294967296
   pub erases : c .erases + n < 4294967296
 
+-- Room for more is room for less.
+pub less-room : {n m : ℕ} {c : Counted} → n ≤ m → Room-to-count m c → Room-to-count n c
+less-room h room =
+    record {
+      reads = omega (arith, room .reads);
+      programs = omega (arith, room .programs);
+      erases = omega (arith, room .erases);
+    }
+
 -- Equal counts, number by number, for omega to read.
 pub record Told (c d : Counts) : Type 0 where
   pub reads : c .reads ≡ d .reads

@@ -14,6 +14,7 @@ ghost use Rattle.words.specs.Bitmap.{has, put};
 ghost use Rattle.words.specs.Filter.{Filter};
 ghost use Rattle.mapping.specs.Entries.{entry-fits, used-fit};
 ghost use Rattle.mapping.specs.Seen.{Seen};
+use lent::ENTRY_WORDS;
 use lent::Geometry;
 use words::bitmap;
 use words::erased::only_erased;
@@ -24,11 +25,11 @@ fn entry_fits(cache: &[u32], l: u32, i: usize, filter: &mut [u64; 1024]) -> bool
     ensures { λ r. ⌜ r ≡ entry-fits (has (now (filter .entry))) (now (cache .entry)) l i ⌝ }
     ensures { λ r. ⌜ (r ≡ true → now (filter .exit) ≡ put (now (filter .entry)) (logical-at i (now (cache .entry)))) ⌝ }
 {
-    let page = cache[i * 3];
+    let page = cache[i * ENTRY_WORDS];
     if l <= page {
         return false;
     }
-    if 1 < cache[i * 3 + 2] {
+    if 1 < cache[i * ENTRY_WORDS + 2] {
         return false;
     }
     let at = page as usize;
@@ -68,6 +69,6 @@ pub fn entries_fit(g: Geometry, cache: &[u32], used: u32, filter: &mut [u64; 102
     if !used_fit(cache, g.l, n, filter) {
         return false;
     }
-    let behind = n * 3;
+    let behind = n * ENTRY_WORDS;
     only_erased(&cache[behind..])
 }

@@ -24,6 +24,7 @@ use crate::stored::stored;
 use crate::tally::Tally;
 use crate::tally::tallied;
 use crate::tally::tally_words;
+use lent::ENTRY_WORDS;
 use lent::Entry;
 use lent::Geometry;
 use words::erased::erased_run;
@@ -130,7 +131,14 @@ fn tally_cached(cache: &[u32], used: usize, spare: &[u32], n: usize) -> Tally
     let mut sum = Tally { nones: 0, good: 0 };
     let mut i = 0;
     while i < used {
-        sum = tallied(sum, cache[i * 3 + 1], cache[i * 3], spare, 0, n);
+        sum = tallied(
+            sum,
+            cache[i * ENTRY_WORDS + 1],
+            cache[i * ENTRY_WORDS],
+            spare,
+            0,
+            n,
+        );
         i += 1;
     }
     sum
@@ -168,7 +176,7 @@ fn tally_hidden(
     let mut sum = Tally { nones: 0, good: 0 };
     let mut i = 0;
     while i < used {
-        sum = hidden(sum, g, chip, spare, directory, cache[i * 3]);
+        sum = hidden(sum, g, chip, spare, directory, cache[i * ENTRY_WORDS]);
         i += 1;
     }
     sum

@@ -10,6 +10,7 @@ ghost use Rattle.scope.specs.Lent.{cache-size, entry-words};
 ghost use Rattle.scope.specs.Sound.{stored, Unchanged-agree};
 ghost use Rattle.lent.specs.Model.{geometry};
 ghost use Rattle.mapping.specs.Stored.{parts, agrees};
+use lent::ENTRY_WORDS;
 use lent::Entry;
 use lent::Geometry;
 use lent::NONE;
@@ -42,11 +43,11 @@ fn agrees(g: Geometry, chip: &[u32], directory: &[u32], cache: &[u32], i: usize)
     requires { ⌜ i * entry-words + entry-words ≤ length (now cache) ⌝ }
     ensures { λ r. ⌜ r ≡ agrees (geometry g) (now (chip .entry)) (now (directory .entry)) (now (cache .entry)) i ⌝ }
 {
-    if cache[i * 3 + 2] != 0 {
+    if cache[i * ENTRY_WORDS + 2] != 0 {
         return true;
     }
-    let held = stored(g, chip, directory, cache[i * 3]);
-    cache[i * 3 + 1] == held
+    let held = stored(g, chip, directory, cache[i * ENTRY_WORDS]);
+    cache[i * ENTRY_WORDS + 1] == held
 }
 
 // Rule 7. At most C steps: the entries in use.

@@ -9,6 +9,7 @@ ghost use Rattle.scope.specs.Lent.{none, spare-words};
 ghost use Rattle.mapping.specs.Named.{owns, is-none};
 ghost use Rattle.mapping.specs.Tally.{Room, Tallied-word, Tallied, Run-counted, Nones-run, word-none, word-good};
 use lent::NONE;
+use lent::SPARE_WORDS;
 use lent::VALID;
 use words::erased::erased_run;
 use words::states::bit;
@@ -28,8 +29,8 @@ fn owned(spare: &[u32], first: usize, n: usize, k: u32, at: usize) -> usize
     requires { ⌜ ((first + n) * spare-words ≤ length (now spare)) × (at < first + n) ⌝ }
     ensures { λ r. ⌜ r ≡ cond (owns first n (now (spare .entry)) k at) 1 0 ⌝ }
 {
-    let state = spare[at * 2];
-    let owner = spare[at * 2 + 1];
+    let state = spare[at * SPARE_WORDS];
+    let owner = spare[at * SPARE_WORDS + 1];
     if at < first {
         return 0;
     }

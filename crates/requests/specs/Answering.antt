@@ -31,10 +31,9 @@ use Rattle.lent.specs.declared.Work.{Work}
 use Rattle.lent.specs.Model.{small, state, counts}
 use Rattle.lent.specs.Does.{Does}
 use Rattle.lent.specs.DoesLaws.{does-give, does-look-at, does-bind}
-use Rattle.lent.specs.Shapes.{Does-flash, Does-by-chip, Does-cache, Room-to-count}
+use Rattle.lent.specs.Shapes.{Does-flash, Does-by-chip, Does-cache, Room-to-count, less-room}
 use Rattle.steps.specs.Chip.{marked, mark-old-does}
 use Rattle.steps.specs.Lies.{Chip-lent, Spare-lent, Has-next}
-use Rattle.copying.specs.Copies.{less-room}
 use Rattle.requests.specs.Ready.{Does-all, Ready-for, ready-less, countable-after}
 use Rattle.requests.specs.Collecting.{room-bound, Room-ready}
 

@@ -26,10 +26,9 @@ use Rattle.promises.specs.Update.{update-bound}
 use Rattle.lent.specs.declared.Counts.{Counts as Counted}
 use Rattle.lent.specs.declared.Work.{Work}
 use Rattle.lent.specs.Model.{state}
-use Rattle.lent.specs.Shapes.{Does-flash, Does-cache, Room-to-count}
+use Rattle.lent.specs.Shapes.{Does-flash, Does-cache, Room-to-count, less-room}
 use Rattle.steps.specs.Lies.{Chip-lent, Spare-lent}
 use Rattle.copying.specs.Choice.{To-collect, start-collect, start-follows-does, collect-does}
-use Rattle.copying.specs.Copies.{less-room}
 use Rattle.copying.specs.Starting.{Collect-ready}
 use Rattle.index.specs.Index.{Index-ready}
 use Rattle.requests.specs.Ready.{Does-all, Ready, countable-after}

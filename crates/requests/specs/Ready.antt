@@ -13,8 +13,7 @@ use Rattle.lent.specs.declared.Counts.{Counts as Counted}
 use Rattle.lent.specs.declared.Work.{Work}
 use Rattle.lent.specs.Model.{state, counts}
 use Rattle.lent.specs.Does.{Does}
-use Rattle.lent.specs.Shapes.{Room-to-count, room-after}
-use Rattle.copying.specs.Copies.{less-room}
+use Rattle.lent.specs.Shapes.{Room-to-count, room-after, less-room}
 
 abbrev pub lent : RefT (List ℕ) → RefT (List ℕ) → RefT (List ℕ) → RefT (List ℕ) → Work → State
 lent chip spare directory cache w = state (now chip) (now spare) (now directory) (now cache) (w .rec)

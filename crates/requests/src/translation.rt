@@ -74,7 +74,7 @@ fn drop_entry(
 {
     let i = (work.rec.used - 1) as usize;
     let written = write_back_if_changed(work, g, i, chip, spare, census, directory, cache);
-    forget(i, cache, written)
+    forget(written, i, cache)
 }
 
 // It is, where all are used.

@@ -87,12 +87,6 @@ program-does {g} {r} {owner} {q} {q₀} {chip} words is-next e claimed directory
     (state-same (sym (e ∙ ap (λ (k : ℕ). sets chip (k * g .W) words) there)) (sym (claimed .owned)) refl refl (sym (claimed .moves-on)))
     (sym (claimed .counting))
 
--- The page that is handed back.
-pub programmed-page : (g : Geometry) (r : Region) (owner : ℕ) (words : List ℕ) {s s′ : State} {c c′ : Counts} {q : ℕ}
-    → Does (program-next g r owner words) s c q s′ c′ → q ≡ next-page g r (s .small)
-unfolding program-next look perform set-small give _>>=_ apply
-programmed-page g r owner words d = sym (d .value)
-
 -- ---- a page moved
 
 -- A page moved to the open block's next one, without what follows: its owner and its new place are handed back.
@@ -116,17 +110,6 @@ relocate-does p {g} {r} {chip = chip} its-owner is-next copied kept counting cla
     (does-bind _ (read-by-chip g p kept counting _ directory cache)
     (does-bind _ (program-does (words-of g p chip) next copied claimed directory cache)
     (does-bind _ (mark-does g p is-marked) (does-give _))))
-
--- What is handed back is the page's owner, and the page that was next.
-pub relocated-owner : (g : Geometry) (r : Region) (p : ℕ) {s s′ : State} {c c′ : Counts} {m : Mapping}
-    → Does (relocate g r p) s c m s′ c′ → m .logical ≡ owner-of p (s .spare)
-unfolding relocate read-page program-next look perform set-small give _>>=_ apply
-relocated-owner g r p d = sym (ap (λ (m : Mapping). m .logical) (d .value))
-
-pub relocated-page : (g : Geometry) (r : Region) (p : ℕ) {s s′ : State} {c c′ : Counts} {m : Mapping}
-    → Does (relocate g r p) s c m s′ c′ → m .physical ≡ next-page g r (s .small)
-unfolding relocate read-page program-next look perform set-small give _>>=_ apply
-relocated-page g r p d = sym (ap (λ (m : Mapping). m .physical) (d .value))
 
 -- What follows is done then.
 pub move-does : (g : Geometry) (r : Region) (follow : Following) (p : ℕ)

@@ -3,6 +3,7 @@
 use lent::ERASED;
 use lent::INVALID;
 use lent::NONE;
+use lent::SPARE_WORDS;
 use lent::VALID;
 use words::erased::only_erased;
 use words::states::count_state;
@@ -57,8 +58,8 @@ fn page_fits(chip: &[u32], spare: &[u32], w: usize, limit: u32, p: usize) -> boo
     requires { ⌜ p * spare-words + spare-words ≤ length (now spare) ⌝ }
     ensures { λ r. ⌜ r ≡ rule-1 w limit (now (chip .entry)) (now (spare .entry)) p ⌝ }
 {
-    let state = spare[p * 2];
-    let owner = spare[p * 2 + 1];
+    let state = spare[p * SPARE_WORDS];
+    let owner = spare[p * SPARE_WORDS + 1];
     if state == ERASED {
         if owner != NONE {
             return false;
@@ -101,8 +102,8 @@ fn count_programmed(spare: &[u32], first: usize, n: usize, limit: u32) -> Progra
     let mut valid = 0;
     let mut i = 0;
     while i < n {
-        let state = spare[(first + i) * 2];
-        fit += fits_programmed(state, spare[(first + i) * 2 + 1], limit);
+        let state = spare[(first + i) * SPARE_WORDS];
+        fit += fits_programmed(state, spare[(first + i) * SPARE_WORDS + 1], limit);
         valid += is_valid(state);
         i += 1;
     }
@@ -120,9 +121,9 @@ pub struct Block {
 fn wholly_erased(chip: &[u32], spare: &[u32], w: usize, b: usize, p: usize) -> bool
     requires { ⌜ (b * p + p) * w ≤ length (now chip) ⌝ }
     requires { ⌜ (b * p + p) * spare-words ≤ length (now spare) ⌝ }
-    ensures { λ r. ⌜ r ≡ (blank (p * 2) (now (spare .entry)) b && blank (p * w) (now (chip .entry)) b) ⌝ }
+    ensures { λ r. ⌜ r ≡ (blank (p * spare-words) (now (spare .entry)) b && blank (p * w) (now (chip .entry)) b) ⌝ }
 {
-    if !is_blank(spare, p * 2, b) {
+    if !is_blank(spare, p * SPARE_WORDS, b) {
         return false;
     }
     is_blank(chip, p * w, b)

@@ -1,4 +1,5 @@
-// A page's words in the spare, its state and its owner: read and stored. How many they are, and which is which, no other code knows.
+// A page's words in the spare, its state and its owner: read and stored. Which is which no step knows; check alone, which reads all pages in
+// one pass, looks at the two words where they lie.
 use crate::runs::fill_erased;
 use crate::runs::store_two;
 use lent::SPARE_WORDS;

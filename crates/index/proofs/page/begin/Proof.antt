@@ -2,7 +2,7 @@
 use native.Mathlib.Omega.{arith}
 use mathlib.Core.Path.{sym, _∙_}
 use borrow.Author.Needs.{needs}
-use Rattle.copying.specs.Copies.{less-room}
+use Rattle.lent.specs.Shapes.{less-room}
 use Rattle.index.specs.Index.{chip-of}
 use Rattle.index.specs.Writing.{room-ready, roomy, begins-so}
 use Rattle.index.proofs.page.begin.Statement.{statement}

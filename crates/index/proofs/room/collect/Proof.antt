@@ -2,7 +2,7 @@
 use mathlib.Core.Path.{refl}
 use native.Mathlib.Omega.{arith}
 use borrow.Author.Needs.{needs}
-use Rattle.copying.specs.Copies.{less-room}
+use Rattle.lent.specs.Shapes.{less-room}
 use Rattle.index.specs.Collecting.{start-ready, collected-does}
 use Rattle.index.proofs.room.collect.Statement.{statement}
 use Rattle.index.proofs.room.collect.Tie as tie

@@ -1,8 +1,8 @@
 -- `requests::translation::translate` meets its contract: l's entry is found, or fetched once one is free.
 use native.Mathlib.Omega.{arith}
 use borrow.Author.Needs.{needs}
+use Rattle.lent.specs.Shapes.{less-room}
 use Rattle.lent.specs.Model.{geometry}
-use Rattle.copying.specs.Copies.{less-room}
 use Rattle.requests.specs.Translating.{hit-does, miss-does, fetch-ready}
 use Rattle.requests.specs.Filtered.{found-in-use, touched-filter}
 use Rattle.requests.proofs.translation.translate.Statement.{statement}
