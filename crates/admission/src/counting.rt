@@ -3,6 +3,7 @@ use lent::Counts;
 ghost use mathlib.Core.Path.{_≡_};
 ghost use Rattle.lent.specs.Model.{counts as numbers};
 ghost use Rattle.scope.specs.Boundary.{put-counts};
+ghost use Rattle.scope.specs.Operations.{no-counts};
 
 pub const COUNTS_WORDS: usize = 3;
 
@@ -22,4 +23,11 @@ pub fn put_counts(counts: &mut [u32], c: Counts)
     counts[0] = c.reads;
     counts[1] = c.programs;
     counts[2] = c.erases;
+}
+
+// Those of a refusal, and of a check.
+pub fn put_none(counts: &mut [u32])
+    ensures { λ _. ⌜ now (counts .exit) ≡ put-counts (now (counts .entry)) no-counts ⌝ }
+{
+    put_counts(counts, NO_COUNTS);
 }

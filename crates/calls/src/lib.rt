@@ -7,6 +7,7 @@ use admission::Out;
 use admission::Request;
 use admission::counting::NO_COUNTS;
 use admission::counting::put_counts;
+use admission::counting::put_none;
 use admission::tests::DONE;
 use admission::tests::check_answer;
 use admission::tests::lengths_right;
@@ -49,7 +50,7 @@ pub fn format(
         cache.len(),
     );
     if answer != DONE {
-        put_counts(counts, NO_COUNTS);
+        put_none(counts);
         return Out { answer, rec };
     }
     let fresh = requests::fresh::format(g, chip, spare, directory, cache);
@@ -81,7 +82,7 @@ pub fn check(
 {
     let right = lengths_right(boundary, counts.len());
     let answer = check_answer(rec, right, g, chip, spare, directory, cache);
-    put_counts(counts, NO_COUNTS);
+    put_none(counts);
     answer
 }
 
@@ -125,7 +126,7 @@ pub fn read(
         &mut filter,
     );
     if answer != DONE {
-        put_counts(counts, NO_COUNTS);
+        put_none(counts);
         return Out { answer, rec };
     }
     let work = Work {
@@ -192,7 +193,7 @@ pub fn write(
         &mut filter,
     );
     if answer != DONE {
-        put_counts(counts, NO_COUNTS);
+        put_none(counts);
         return Out { answer, rec };
     }
     let work = Work {

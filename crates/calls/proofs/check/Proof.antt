@@ -12,8 +12,8 @@ lengths-right-requires c κs = search needs
 check-answer-requires : tie.Need-check-answer-requires
 check-answer-requires c κs = search needs
 
-put-counts-requires : tie.Need-put-counts-requires
-put-counts-requires c κs = search needs
+put-none-requires : tie.Need-put-none-requires
+put-none-requires c κs = search needs
 
 same-length : tie.Need-same-length
 same-length c = search needs
@@ -23,7 +23,7 @@ returns c =
     let tested = c .before .before .before .before in
     let a = tested .before .before .before .before .before .before .before .args in
     check-answers (geometry (a .g)) (state (now (a .chip)) (now (a .spare)) (now (a .directory)) (now (a .cache)) (a .rec))
-    (tested .before .lengths-right .ensures) (tested .check-answer .ensures) (c .before .before .put-counts .ensures)
+    (tested .before .lengths-right .ensures) (tested .check-answer .ensures) (c .before .before .put-none .ensures)
 
 pub check-spec : {M : Type 1} → statement M
 check-spec =
@@ -31,6 +31,6 @@ check-spec =
     (tie.spec
     lengths-right-requires
     check-answer-requires
-    put-counts-requires
+    put-none-requires
     same-length
     returns)

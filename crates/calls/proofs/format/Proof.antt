@@ -12,8 +12,8 @@ lengths-right-requires c κs = search needs
 size-answer-requires : tie.Need-size-answer-requires
 size-answer-requires c κs = search needs
 
-put-counts-requires : tie.Need-put-counts-requires
-put-counts-requires c κs = search needs
+put-none-requires : tie.Need-put-none-requires
+put-none-requires c κs = search needs
 
 same-length : tie.Need-same-length
 same-length c = search needs
@@ -24,7 +24,7 @@ returns c =
     let a = tested .before .before .before .before .before .before .before .args in
     format-refused (geometry (a .g)) (state (now (a .chip)) (now (a .spare)) (now (a .directory)) (now (a .cache)) (a .rec))
     (tested .before .lengths-right .ensures) (tested .size-answer .ensures) (c .before .before .before .before .if1 .taken)
-    (c .before .before .put-counts .ensures)
+    (c .before .before .put-none .ensures)
 
 format-requires : tie.Need-format-requires
 format-requires c κs =
@@ -33,8 +33,8 @@ format-requires c κs =
     format-sized (geometry (a .g)) (state (now (a .chip)) (now (a .spare)) (now (a .directory)) (now (a .cache)) (a .rec))
     (tested .before .lengths-right .ensures) (tested .size-answer .ensures) (c .before .before .before .before .if1 .left)
 
-put-counts-requires-2 : tie.Need-put-counts-requires-2
-put-counts-requires-2 c κs = search needs
+put-counts-requires : tie.Need-put-counts-requires
+put-counts-requires c κs = search needs
 
 same-length-2 : tie.Need-same-length-2
 same-length-2 c = search needs
@@ -59,7 +59,7 @@ returns-2 c =
     let a = tested .before .before .before .before .before .before .before .args in
     format-served (geometry (a .g)) (state (now (a .chip)) (now (a .spare)) (now (a .directory)) (now (a .cache)) (a .rec))
     (tested .before .lengths-right .ensures) (tested .size-answer .ensures) (counts (done .format .result .counts))
-    (admitted .if1 .left) (done .format .ensures (a .rec)) (c .before .before .before .put-counts2 .ensures)
+    (admitted .if1 .left) (done .format .ensures (a .rec)) (c .before .before .before .put-counts .ensures)
 
 pub format-spec : {M : Type 1} → statement M
 format-spec =
@@ -67,11 +67,11 @@ format-spec =
     (tie.spec
     lengths-right-requires
     size-answer-requires
-    put-counts-requires
+    put-none-requires
     same-length
     returns
     format-requires
-    put-counts-requires-2
+    put-counts-requires
     same-length-2
     same-length-3
     same-length-4

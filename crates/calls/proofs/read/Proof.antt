@@ -16,8 +16,8 @@ slice-aggregate-single-answer c = search needs
 single-answer-requires : tie.Need-single-answer-requires
 single-answer-requires c κs = search needs
 
-put-counts-requires : tie.Need-put-counts-requires
-put-counts-requires c κs = search needs
+put-none-requires : tie.Need-put-none-requires
+put-none-requires c κs = search needs
 
 same-length : tie.Need-same-length
 same-length c = search needs
@@ -40,7 +40,7 @@ returns c =
     let tested = c .before .before .before .before .before .before in
     let a = tested .before .before .before .before .before .before .before .before .before .before .before .before .before .args in
     single-refused (now (a .buffer)) (tested .single-answer .ensures) (read-steps (geometry (a .g)) (a .page) (now (a .buffer)))
-    (c .before .before .before .before .if1 .taken) (c .before .before .put-counts .ensures)
+    (c .before .before .before .before .if1 .taken) (c .before .before .put-none .ensures)
 
 slice-aggregate-read : tie.Need-slice-aggregate-read
 slice-aggregate-read c = search needs
@@ -51,8 +51,8 @@ read-requires c κs =
     let a = tested .before .before .before .before .before .before .before .before .before .before .before .before .before .args in
     single-ready (now (a .buffer)) (tested .single-answer .ensures) (read-bound (geometry (a .g))) read-few (c .before .before .before .before .before .before .before .if1 .left)
 
-put-counts-requires-2 : tie.Need-put-counts-requires-2
-put-counts-requires-2 c κs = search needs
+put-counts-requires : tie.Need-put-counts-requires
+put-counts-requires c κs = search needs
 
 same-length-6 : tie.Need-same-length-6
 same-length-6 c = search needs
@@ -80,7 +80,7 @@ returns-2 c =
     let tested = admitted .before .before in
     let a = tested .before .before .before .before .before .before .before .before .before .before .before .before .before .args in
     single-served (now (a .buffer)) (tested .single-answer .ensures) (read-steps (geometry (a .g)) (a .page) (now (a .buffer)))
-    (counts (done .read .result .work .counts)) (admitted .if1 .left) (done .read .ensures .0) (c .before .before .before .put-counts2 .ensures)
+    (counts (done .read .result .work .counts)) (admitted .if1 .left) (done .read .ensures .0) (c .before .before .before .put-counts .ensures)
 
 pub read-spec : {M : Type 1} → statement M
 read-spec =
@@ -88,7 +88,7 @@ read-spec =
     (tie.spec
     slice-aggregate-single-answer
     single-answer-requires
-    put-counts-requires
+    put-none-requires
     same-length
     same-length-2
     same-length-3
@@ -97,7 +97,7 @@ read-spec =
     returns
     slice-aggregate-read
     read-requires
-    put-counts-requires-2
+    put-counts-requires
     same-length-6
     same-length-7
     same-length-8
