@@ -1,13 +1,12 @@
-// The public face of the library for Rattle: format, check, read and write over a small record that is lent and changed in place; crate
-// facerun has the fifth call, the run. No call has a `requires`, and each contract cites the call's definition, so that it settles the reply,
-// the record, every lent list and the counts for every input. A body only copies the record, hands it on by value and stores what comes
-// back: all that is tested and done is in crate calls. The bodies have the shapes of tools/walks, which prints their proofs.
+// The public face of the library for Rattle, over a small record that is lent and changed in place: format and check stand here, read and write
+// in crate facepage, the run in crate facerun. No call has a `requires`, and each contract cites the call's definition, so that it settles the
+// reply, the record, every lent list and the counts for every input. A body only copies the record, hands it on by value and stores what
+// comes back: all that is tested and done is in crate calls. The bodies have the shapes of tools/walks, which prints their proofs.
 use lent::Geometry;
 use lent::Record;
 ghost use mathlib.Core.Bool.{true};
 ghost use Rattle.lent.specs.Model.{geometry, state};
-ghost use Rattle.scope.specs.Requests.{replied};
-ghost use Rattle.scope.specs.Calls.{format, check, read, write};
+ghost use Rattle.scope.specs.Calls.{format, check};
 ghost use Rattle.scope.specs.Contracts.{Answers, right-lengths};
 
 // The old state isn't tested.
@@ -52,76 +51,4 @@ pub fn check(
 {
     let r = *rec;
     calls::check(r, true, g, chip, spare, directory, cache, counts)
-}
-
-// Fills the page buffer where the page was written.
-pub fn read(
-    rec: &mut Record,
-    g: Geometry,
-    page: u32,
-    chip: &mut [u32],
-    spare: &mut [u32],
-    directory: &mut [u32],
-    cache: &mut [u32],
-    buffer: &mut [u32],
-    counts: &mut [u32],
-) -> u32
-    ensures { λ r. ⌜ Answers
-        (read (geometry g) (right-lengths true (now (counts .entry))) page (now (buffer .entry))
-        (state (now (chip .entry)) (now (spare .entry)) (now (directory .entry)) (now (cache .entry)) (now (rec .entry))))
-        (now (counts .entry)) (replied (now (buffer .exit)) r)
-        (state (now (chip .exit)) (now (spare .exit)) (now (directory .exit)) (now (cache .exit)) (now (rec .exit)))
-        (now (counts .exit)) ⌝ }
-{
-    let r = *rec;
-    let out = calls::read(
-        r,
-        true,
-        g,
-        page,
-        chip,
-        spare,
-        directory,
-        cache,
-        buffer,
-        counts,
-    );
-    *rec = out.rec;
-    out.answer
-}
-
-// Leaves the page buffer as it is.
-pub fn write(
-    rec: &mut Record,
-    g: Geometry,
-    page: u32,
-    chip: &mut [u32],
-    spare: &mut [u32],
-    directory: &mut [u32],
-    cache: &mut [u32],
-    buffer: &[u32],
-    counts: &mut [u32],
-) -> u32
-    ensures { λ r. ⌜ Answers
-        (write (geometry g) (right-lengths true (now (counts .entry))) page (now (buffer .entry))
-        (state (now (chip .entry)) (now (spare .entry)) (now (directory .entry)) (now (cache .entry)) (now (rec .entry))))
-        (now (counts .entry)) (replied (now (buffer .entry)) r)
-        (state (now (chip .exit)) (now (spare .exit)) (now (directory .exit)) (now (cache .exit)) (now (rec .exit)))
-        (now (counts .exit)) ⌝ }
-{
-    let r = *rec;
-    let out = calls::write(
-        r,
-        true,
-        g,
-        page,
-        chip,
-        spare,
-        directory,
-        cache,
-        buffer,
-        counts,
-    );
-    *rec = out.rec;
-    out.answer
 }

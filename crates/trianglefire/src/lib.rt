@@ -99,7 +99,7 @@ pub extern "C" fn tf_read(
         (words (now (chip .exit)) (now (spare .exit)) (now (directory .exit))
         (now (cache .exit)) (now («record» .exit)) (now (counts .exit))) ⌝ }
 {
-    wordcalls::read(
+    wordpage::read(
         Geometry { p, w, d, t, l, c },
         page,
         chip,
@@ -136,7 +136,7 @@ pub extern "C" fn tf_write(
         (words (now (chip .exit)) (now (spare .exit)) (now (directory .exit))
         (now (cache .exit)) (now («record» .exit)) (now (counts .exit))) ⌝ }
 {
-    wordcalls::write(
+    wordpage::write(
         Geometry { p, w, d, t, l, c },
         page,
         chip,

@@ -1,4 +1,4 @@
--- Printed by `python3 tools/walks face read`; do not edit. `face::read` meets its contract: a walk of its MIR. Assumes nothing.
+-- Printed by `python3 tools/walks facepage read`; do not edit. `facepage::read` meets its contract: a walk of its MIR. Assumes nothing.
 use mathlib.Core.Path.{_≡_, refl, ap}
 use mathlib.Core.Bool.{Bool, true}
 use Prim.Native.Nat.{ℕ}
@@ -53,11 +53,11 @@ use Rattle.calls.proofs.read as callee·1
 use Rattle.calls.proofs.read.Symbol as symbol·1
 use Rattle.calls.proofs.read.Met as met·1
 use Rattle.calls.proofs.read.Symbol.{name as #·1}
-use Rattle.face.proofs.read as walked·
-use Rattle.face.proofs.read.Key.{name as #walked}
-use Rattle.face.proofs.read.Statement as stated
-use Rattle.face.proofs.read.Code as code
-use Rattle.face.proofs.read.Code.Mir as piece
+use Rattle.facepage.proofs.read as walked·
+use Rattle.facepage.proofs.read.Key.{name as #walked}
+use Rattle.facepage.proofs.read.Statement as stated
+use Rattle.facepage.proofs.read.Code as code
+use Rattle.facepage.proofs.read.Code.Mir as piece
 use Rattle.walks.specs.Rules.{slice, holds, bare, frees-all}
 use Rattle.lent.specs.Model.{geometry, state}
 use Rattle.scope.specs.Calls.{read}

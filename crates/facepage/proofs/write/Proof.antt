@@ -1,4 +1,4 @@
--- Printed by `python3 tools/walks face write`; do not edit. `face::write` meets its contract: a walk of its MIR. Assumes nothing.
+-- Printed by `python3 tools/walks facepage write`; do not edit. `facepage::write` meets its contract: a walk of its MIR. Assumes nothing.
 use mathlib.Core.Path.{_≡_, refl, ap}
 use mathlib.Core.Bool.{Bool, true}
 use Prim.Native.Nat.{ℕ}
@@ -53,11 +53,11 @@ use Rattle.calls.proofs.write as callee·1
 use Rattle.calls.proofs.write.Symbol as symbol·1
 use Rattle.calls.proofs.write.Met as met·1
 use Rattle.calls.proofs.write.Symbol.{name as #·1}
-use Rattle.face.proofs.write as walked·
-use Rattle.face.proofs.write.Key.{name as #walked}
-use Rattle.face.proofs.write.Statement as stated
-use Rattle.face.proofs.write.Code as code
-use Rattle.face.proofs.write.Code.Mir as piece
+use Rattle.facepage.proofs.write as walked·
+use Rattle.facepage.proofs.write.Key.{name as #walked}
+use Rattle.facepage.proofs.write.Statement as stated
+use Rattle.facepage.proofs.write.Code as code
+use Rattle.facepage.proofs.write.Code.Mir as piece
 use Rattle.walks.specs.Rules.{slice, holds, bare, frees-all}
 use Rattle.lent.specs.Model.{geometry, state}
 use Rattle.scope.specs.Calls.{write}

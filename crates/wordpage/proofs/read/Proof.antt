@@ -1,4 +1,4 @@
--- `wordcalls::read` meets its contract: the call by value, between the record loaded and the record stored.
+-- `wordpage::read` meets its contract: the call by value, between the record loaded and the record stored.
 use mathlib.Core.Bool.{Bool}
 use borrow.Author.Needs.{needs}
 use denote.Ref.{now}
@@ -6,8 +6,8 @@ use Rattle.lent.specs.Model.{geometry}
 use Rattle.scope.specs.Calls.{read}
 use Rattle.scope.specs.Boundary.{tf-read}
 use Rattle.wording.specs.Words.{tested-in-words}
-use Rattle.wordcalls.proofs.read.Statement.{statement}
-use Rattle.wordcalls.proofs.read.Tie as tie
+use Rattle.wordpage.proofs.read.Statement.{statement}
+use Rattle.wordpage.proofs.read.Tie as tie
 
 five-words-requires : tie.Need-five-words-requires
 five-words-requires c κs = search needs
