@@ -17,7 +17,7 @@ THE SOURCE has one of two shapes; all else goes into the functions that these ca
     over a record: copies it, makes calls, stores the record that the last one gives    (record.py has the shape)
     a run: a loop over the requests, each given to one callee with the state so far     (run.py)
     Parameters are numbers (u32, u64, usize), structs, `&[u32]`, `&mut [u32]`, `&mut [u32; 64]`, `&[Struct]`, and the record. A function
-    over a record may have local arrays of zeros, which it lends to its callees.
+    over a record may have local arrays of zeros, which it lends to its callees. An array's length is a number, or a constant whose value is one.
 
 THE CONTRACTS have one `ensures { λ r. ⌜ fact ⌝ }`, and at most one `requires { ⌜ fact ⌝ }`. They speak of a slice or a record by
     `now (x .entry)` and `now (x .exit)` alone. The walk takes the callees' facts from their source, with what `ghost use` brings.

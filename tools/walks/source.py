@@ -122,10 +122,22 @@ class Source:
         file, at = self.found(struct, "struct", "{")
         return typed_names(file.text[at + 1:closing(file.text, at)])
 
+    def counted(self, file: File, text: str) -> str:
+        """That text of a file with a number for each constant that is an array's length: [u32; 16] for [u32; SEEN]."""
+
+        def number(m: re.Match) -> str:
+            const = file.leads_to(m[0])
+            there, at = self.found(const, "const", ":")
+            if value := re.compile(r": usize = (\d+);").match(there.text, at):
+                return value[1]
+            raise Misfit(f"'{const}' is a length, and no usize with a number for its value")
+
+        return re.sub(r"(?<=; )(?:\w+::)*[A-Z]\w*(?=\])", number, text)
+
     def function(self, item: Item) -> Function:
         file, at = self.found(item, "fn", "(")
         text, end = file.text, closing(file.text, at)
-        params, result = typed_names(text[at + 1:end]), re.compile(r"\s*->\s*([\w:]+)").match(text, end + 1)
+        params, result = typed_names(self.counted(file, text[at + 1:end])), re.compile(r"\s*->\s*([\w:]+)").match(text, end + 1)
         clauses: dict[str, list[str]] = {"requires": [], "ensures": []}
         end = result.end() - 1 if result else end
         while m := re.compile(r"\s*(?:(requires|ensures)\b[^{]*)?{").match(text, end + 1):
@@ -136,7 +148,7 @@ class Source:
         ensures = clause(item, clauses["ensures"])
         if not m or not ensures:
             raise Misfit(f"'{item}' has no body or no `ensures`")
-        body = " ".join(text[start:end].split())
+        body = self.counted(file, " ".join(text[start:end].split()))
         return Function(item, file, params, result[1] if result else "", clause(item, clauses["requires"]), ensures, body)
 
     def functions(self, crate: str) -> list[tuple[Item, str]]:

@@ -5,6 +5,8 @@ use crate::Request;
 use crate::counting::COUNTS_WORDS;
 use geometry::accepts;
 use geometry::sizes_right;
+use lent::CENSUS_WORDS;
+use lent::FILTER_WORDS;
 use lent::Geometry;
 use lent::Record;
 use soundness::sound::is_sound;
@@ -14,6 +16,7 @@ ghost use Prim.Native.Nat.{_≤_};
 ghost use lib.Dec.{eqb};
 ghost use lib.ListN.{length};
 ghost use Rattle.lent.specs.Model.{geometry, small, state};
+ghost use Rattle.lent.specs.Notes.{census-words};
 ghost use Rattle.scope.specs.Boundary.{counts-words};
 ghost use Rattle.scope.specs.Calls.{size-tests, request-tests};
 ghost use Rattle.scope.specs.Replies.{DONE, first-applying, right-sizes};
@@ -114,9 +117,9 @@ pub fn state_answer(
     directory: &[u32],
     cache: &[u32],
     census: &mut [u32],
-    filter: &mut [u64; 1024],
+    filter: &mut [u64; FILTER_WORDS],
 ) -> u32
-    requires { ⌜ 1024 ≤ length (now census) ⌝ }
+    requires { ⌜ census-words ≤ length (now census) ⌝ }
     ensures { λ r. ⌜ State-tested (geometry g)
         (state (now (chip .entry)) (now (spare .entry)) (now (directory .entry)) (now (cache .entry)) rec) others r ⌝ }
     ensures { λ r. ⌜ (r ≡ DONE → Noted (geometry g)
@@ -154,8 +157,8 @@ pub fn check_answer(
     ensures { λ r. ⌜ State-tested (geometry g)
         (state (now (chip .entry)) (now (spare .entry)) (now (directory .entry)) (now (cache .entry)) rec) others r ⌝ }
 {
-    let mut census = [0u32; 1024];
-    let mut filter = [0u64; 1024];
+    let mut census = [0u32; CENSUS_WORDS];
+    let mut filter = [0u64; FILTER_WORDS];
     let sizes = size_answer(
         g,
         others,
@@ -208,9 +211,9 @@ pub fn single_answer(
     directory: &[u32],
     cache: &[u32],
     census: &mut [u32],
-    filter: &mut [u64; 1024],
+    filter: &mut [u64; FILTER_WORDS],
 ) -> u32
-    requires { ⌜ 1024 ≤ length (now census) ⌝ }
+    requires { ⌜ census-words ≤ length (now census) ⌝ }
     ensures { λ r. ⌜ Single-tested (geometry g) (boundary && eqb counts counts-words) (request q) buffer
         (state (now (chip .entry)) (now (spare .entry)) (now (directory .entry)) (now (cache .entry)) rec) r
         (now (census .exit)) (now (filter .exit)) ⌝ }

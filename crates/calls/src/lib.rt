@@ -13,6 +13,8 @@ use admission::tests::check_answer;
 use admission::tests::lengths_right;
 use admission::tests::single_answer;
 use admission::tests::size_answer;
+use lent::CENSUS_WORDS;
+use lent::FILTER_WORDS;
 use lent::Geometry;
 use lent::Record;
 use lent::Work;
@@ -106,8 +108,8 @@ pub fn read(
         (state (now (chip .exit)) (now (spare .exit)) (now (directory .exit)) (now (cache .exit)) (o .rec))
         (now (counts .exit)) ⌝ }
 {
-    let mut census = [0u32; 1024];
-    let mut filter = [0u64; 1024];
+    let mut census = [0u32; CENSUS_WORDS];
+    let mut filter = [0u64; FILTER_WORDS];
     let answer = single_answer(
         rec,
         boundary,
@@ -173,8 +175,8 @@ pub fn write(
         (state (now (chip .exit)) (now (spare .exit)) (now (directory .exit)) (now (cache .exit)) (o .rec))
         (now (counts .exit)) ⌝ }
 {
-    let mut census = [0u32; 1024];
-    let mut filter = [0u64; 1024];
+    let mut census = [0u32; CENSUS_WORDS];
+    let mut filter = [0u64; FILTER_WORDS];
     let answer = single_answer(
         rec,
         boundary,

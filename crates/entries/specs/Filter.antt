@@ -4,7 +4,6 @@ use mathlib.Core.Path.{_≡_, sym, ap, _∙_}
 use mathlib.Core.Logic.{_≢_}
 use mathlib.Core.Bool.{true, false}
 use mathlib.Core.List.{List, [], _∷_}
-use native.Mathlib.Nat.{mod-lt}
 use native.Mathlib.Numerals.{add-one}
 use native.Mathlib.Omega.{arith}
 use lib.Dec.{eqb, ltb}
@@ -18,14 +17,15 @@ use Rattle.scope.specs.Cache.{without}
 use Rattle.flash.specs.Stores.{getD-sets-outside}
 use Rattle.flash.specs.Cases.{same?, below?, and-true, clash, is-false}
 use Rattle.cache.specs.Entries.{CacheEntry, entry, put as put-entry, to-front, placed, put-stores, rank-before, length-to-front, to-front-entry, new-in-front}
+use Rattle.lent.specs.Notes.{filter-words}
 use Rattle.words.specs.Bitmap.{has, put, length-put, has-put-same, has-put-other}
-use Rattle.words.specs.Filter.{Filter, bit-of}
+use Rattle.words.specs.Filter.{Filter, bit-of, bit-below}
 use Rattle.words.specs.Searches.{lowest-fails}
 
 -- A page's bit is put in, and those that are there stay.
-module _ (filter : List ℕ) (l : ℕ) (long : length filter ≡ 1024) where
+module _ (filter : List ℕ) (l : ℕ) (long : length filter ≡ filter-words) where
   put-there : has (put filter (bit-of l)) (bit-of l) ≡ true
-  put-there = has-put-same filter (bit-of l) (omega (arith, mod-lt l {m = 65536} (omega arith), long))
+  put-there = has-put-same filter (bit-of l) (omega (arith, bit-below l, long))
 
   still : (k : ℕ) → has filter (bit-of k) ≡ true → has (put filter (bit-of l)) (bit-of k) ≡ true
   still k p = same? (bit-of k) (bit-of l) (λ q. rw q put-there) (λ q. has-put-other filter (bit-of l) (bit-of k) q ∙ p)
@@ -60,7 +60,7 @@ module _ {cache filter : List ℕ} {used : ℕ} (f : Filter cache used filter) w
       was-in-use (suc j) k = below? j i (λ b. rw (lt-ltb j i b) (omega arith)) (λ b. rw (le-ltb j i b) k)
 
   -- The entry at rank i is another, whose page has its bit in another filter, as the pages of the other entries have.
-  stored : (n i : ℕ) (e : CacheEntry) {filter′ : List ℕ} → i < f .ranks → n ≤ f .ranks → length filter′ ≡ 1024
+  stored : (n i : ℕ) (e : CacheEntry) {filter′ : List ℕ} → i < f .ranks → n ≤ f .ranks → length filter′ ≡ filter-words
       → has filter′ (bit-of (e .logical)) ≡ true
       → ((j : ℕ) → j < n → j ≢ i → has filter′ (bit-of (logical-at j cache)) ≡ true) → Filter (put-entry i e cache) n filter′
   stored n i e {filter′} room all long new others =

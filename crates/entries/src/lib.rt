@@ -1,5 +1,7 @@
 // The cache's entries: found, moved to the front, entered, dropped and set, with the number of those in use.
 use lent::ENTRY_WORDS;
+use lent::FILTER_BITS;
+use lent::FILTER_WORDS;
 use lent::Geometry;
 use lent::NONE;
 use lent::Record;
@@ -25,11 +27,17 @@ ghost use Rattle.words.specs.Filter.{Filter, bit-of};
 fn bit_of(l: u32) -> usize
     ensures { λ r. ⌜ r ≡ bit-of l ⌝ }
 {
-    l as usize % 65536
+    l as usize % FILTER_BITS
 }
 
 // The rank of logical page l; C where it isn't cached, which the filter mostly tells.
-pub fn rank_of(rec: Record, g: Geometry, l: u32, cache: &[u32], filter: &[u64; 1024]) -> usize
+pub fn rank_of(
+    rec: Record,
+    g: Geometry,
+    l: u32,
+    cache: &[u32],
+    filter: &[u64; FILTER_WORDS],
+) -> usize
     requires { ⌜ Cache-lent (geometry g) (now cache) (rec .used) ⌝ }
     requires { ⌜ Filter (now cache) (rec .used) (now filter) ⌝ }
     ensures { λ i. ⌜ (i ≤ geometry g .C) × (rank-of (geometry g) (now (cache .entry)) (rec .used) l ≡ i) ⌝ }
@@ -73,7 +81,13 @@ pub fn touch(i: usize, cache: &mut [u32])
 }
 
 // An entry for logical page l, in front and unchanged, in the place of the first unused one.
-pub fn enter(work: Work, l: u32, place: u32, cache: &mut [u32], filter: &mut [u64; 1024]) -> Work
+pub fn enter(
+    work: Work,
+    l: u32,
+    place: u32,
+    cache: &mut [u32],
+    filter: &mut [u64; FILTER_WORDS],
+) -> Work
     requires { ⌜ (work .rec .used * entry-words + entry-words ≤ length (now cache)) × (work .rec .used < 4294967295) ⌝ }
     requires { ⌜ Filter (now cache) (work .rec .used) (now filter) ⌝ }
     ensures { λ r. ⌜ Does-cache (enter l place) (now (cache .entry)) work 0 (now (cache .exit)) r ⌝ }

@@ -5,6 +5,8 @@ mod served;
 
 use crate::served::serve_all;
 use admission::Request;
+use lent::CENSUS_WORDS;
+use lent::FILTER_WORDS;
 use lent::Geometry;
 use lent::Record;
 use serving::begin;
@@ -41,8 +43,8 @@ pub fn run(
     let words_len = words.len();
     let answers_len = answers.len();
     let counts_len = counts.len();
-    let mut census = [0u32; 1024];
-    let mut filter = [0u64; 1024];
+    let mut census = [0u32; CENSUS_WORDS];
+    let mut filter = [0u64; FILTER_WORDS];
     let first = begin(
         r,
         true,

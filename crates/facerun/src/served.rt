@@ -1,6 +1,8 @@
 // The requests of a run, one after the other. Nothing is tested here: `begin` has the number of the requests and tests before the first
 // is served, and each request is the callee's to test, so that the walk is there for any slice, an empty one too.
 use admission::Request;
+use lent::CENSUS_WORDS;
+use lent::FILTER_WORDS;
 use lent::Geometry;
 use running::Running;
 use serving::serve;
@@ -16,8 +18,8 @@ pub fn serve_all(
     spare: &mut [u32],
     directory: &mut [u32],
     cache: &mut [u32],
-    census: &mut [u32; 1024],
-    filter: &mut [u64; 1024],
+    census: &mut [u32; CENSUS_WORDS],
+    filter: &mut [u64; FILTER_WORDS],
     words: &mut [u32],
     answers: &mut [u32],
 ) -> Running

@@ -9,6 +9,7 @@ use borrow.Author.Tests.{leb-true}
 use Rattle.scope.specs.Geometry.{Geometry, Accepted, within, blocks, pages, most-blocks, most-pages-in-block, most-pages}
 use Rattle.scope.specs.Regions.{Region, Data, Translation, owners, first-page, region-pages}
 use Rattle.flash.specs.Cases.{and-true}
+use Rattle.lent.specs.Notes.{census-words, filter-bits}
 
 pub within-bounds : (from x to : ℕ) → within from x to ≡ true → (from ≤ x) × (x ≤ to)
 within-bounds from x to h =
@@ -21,7 +22,7 @@ blocks-bounds d t h =
     let each = and-true (leb 2 d) (leb 2 t) (both .0) in
     (leb-true 2 d (each .0), leb-true 2 t (each .1), leb-true (d + t) most-blocks (both .1))
 
--- So many blocks have at most 65,536 pages.
+-- So many blocks have at most so many pages.
 pages-within : (n p : ℕ) → n ≤ most-blocks → p ≤ most-pages-in-block → n * p ≤ most-pages
 pages-within n p h k = mul-le-mul {n₁ = n} {m₁ = p} {n₂ = most-blocks} {m₂ = most-pages-in-block} h k
 
@@ -41,3 +42,10 @@ owners-small g Data ok =
     omega (arith, ok .L-to, region-small g Data ok, mul-le-mul-right {m = g .D - 1} {n = g .D} (g .P) (omega arith))
 owners-small g Translation ok =
     omega (arith, ok .M-to, region-small g Translation ok, mul-le-mul-right {m = g .T - 1} {n = g .T} (g .P) (omega arith))
+
+-- The census has a word for each block of any chip, and the filter a bit of its own for each logical page.
+pub census-enough : {g : Geometry} → Accepted g → blocks g ≤ census-words
+census-enough ok = ok .D+T-to
+
+pub filter-enough : {g : Geometry} → Accepted g → g .L ≤ filter-bits
+filter-enough {g} ok = owners-small g Data ok

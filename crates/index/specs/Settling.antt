@@ -7,7 +7,7 @@ use native.Mathlib.Nat.{mul-le-mul, mul-le-mul-left, add-zero, add-suc}
 use native.Mathlib.Numerals.{add-one}
 use native.Mathlib.Omega.{arith}
 use lib.ListN.{length}
-use Rattle.scope.specs.Geometry.{Geometry, Accepted, M}
+use Rattle.scope.specs.Geometry.{Geometry, Accepted, M, most-blocks, most-pages}
 use Rattle.scope.specs.Lent.{State, Mapping}
 use Rattle.scope.specs.Operations.{for}
 use Rattle.scope.specs.Steps.{of-page, update, update-touched, update-all}
@@ -23,9 +23,9 @@ use Rattle.index.specs.Moves.{Next-touched}
 use Rattle.index.specs.Writing.{Page-ready}
 
 -- There are few translation pages.
-pub M-small : {g : Geometry} → Accepted g → M g < 65536
+pub M-small : {g : Geometry} → Accepted g → M g < most-pages
 M-small {g} ok =
-    let blocks : g .T - 1 ≤ 1023 = omega (arith, ok .D+T-to) in
+    let blocks : g .T - 1 ≤ most-blocks = omega (arith, ok .D+T-to) in
     omega (arith, ok .M-to, mul-le-mul blocks (ok .P-to))
 
 -- How many mappings wait for translation page t and those above it.

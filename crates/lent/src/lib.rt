@@ -21,6 +21,13 @@ pub const SPARE_WORDS: usize = 2;
 // Words an entry has in the cache: its logical page, its physical page, and whether it is changed.
 pub const ENTRY_WORDS: usize = 3;
 
+// Words of what a call keeps on its stack: the census, and the filter of the cached pages, whose words have 64 bits.
+pub const CENSUS_WORDS: usize = 1024;
+
+pub const FILTER_WORDS: usize = 1024;
+
+pub const FILTER_BITS: usize = FILTER_WORDS * 64;
+
 // The six numbers of a geometry.
 pub struct Geometry {
     pub p: u32,

@@ -14,6 +14,7 @@ use Rattle.scope.specs.Laws.Decides.{Decides, by-equal, by-below, by-most, by-s
 use Rattle.scope.specs.Lent.{none, logical-at, physical-at, changed-at, cache-size}
 use Rattle.scope.specs.Sound.{Entries-fit}
 use Rattle.flash.specs.Cases.{same?, below?, clash, and-true}
+use Rattle.lent.specs.Notes.{filter-bits}
 use Rattle.words.specs.Erased.{is-erased-word}
 use Rattle.words.specs.Bitmap.{has, put}
 use Rattle.mapping.specs.Seen.{seen, Seen, seen-more}
@@ -113,7 +114,7 @@ module _ (cache : List ℕ) (l i : ℕ) (filter : List ℕ) (before : Seen cache
   pub fits-seen : entry-fits (has filter) cache l i ≡ entry-fits (seen cache i) cache l i
   fits-seen = ap (λ (b : Bool). ltb (logical-at i cache) l && leb (changed-at i cache) 1 && not b) (before .pages (logical-at i cache))
 
-  pub fits-noted : (filter′ : List ℕ) → l ≤ 65536 → entry-fits (has filter) cache l i ≡ true → filter′ ≡ put filter (logical-at i cache)
+  pub fits-noted : (filter′ : List ℕ) → l ≤ filter-bits → entry-fits (has filter) cache l i ≡ true → filter′ ≡ put filter (logical-at i cache)
       → Seen cache (i + 1) filter′
   fits-noted filter′ few fits is =
       let both = and-true (ltb (logical-at i cache) l && leb (changed-at i cache) 1) (not (has filter (logical-at i cache))) fits .0 in

@@ -12,12 +12,12 @@ use borrow.Author.Tests.{eq-eqb, ne-eqb}
 use Rattle.scope.specs.Counting.{some}
 use Rattle.scope.specs.Geometry.{Geometry, Accepted}
 use Rattle.scope.specs.Lent.{logical-at, cache-size}
-use Rattle.scope.specs.Regions.{Data}
 use Rattle.scope.specs.Sound.{Entries-fit}
 use Rattle.flash.specs.Cases.{same?, or-right}
 use Rattle.flash.specs.Counting.{found-some}
 use Rattle.flash.specs.Tests.{or-none}
-use Rattle.geometry.specs.Bounds.{owners-small}
+use Rattle.lent.specs.Notes.{filter-words, filter-bits}
+use Rattle.geometry.specs.Bounds.{filter-enough}
 use Rattle.words.specs.Bitmap.{has, put, empty, has-empty, length-put, has-put-same, has-put-other}
 use Rattle.words.specs.Filter.{Filter}
 
@@ -28,13 +28,13 @@ module _ (cache : List ℕ) where
 
   -- The filter has the pages of the first n entries, and no other.
   pub record Seen (n : ℕ) (filter : List ℕ) : Type 0 where
-    pub long : length filter ≡ 1024
+    pub long : length filter ≡ filter-words
     pub pages : (l : ℕ) → has filter l ≡ seen n l
 
   pub seen-none : Seen 0 empty
   seen-none = record { long = refl; pages = has-empty }
 
-  pub seen-more : (n : ℕ) (filter : List ℕ) → logical-at n cache < 65536 → Seen n filter → Seen (n + 1) (put filter (logical-at n cache))
+  pub seen-more : (n : ℕ) (filter : List ℕ) → logical-at n cache < filter-bits → Seen n filter → Seen (n + 1) (put filter (logical-at n cache))
   seen-more n filter small before =
       let own : ℕ = logical-at n cache in
       rw add-one
@@ -55,7 +55,7 @@ seen-filter {g} {cache} {filter} {used} ok long fits all =
       used-to = fits .at-most;
       filter-fits = all .long;
       each = λ i h.
-          ap (has filter) (mod-eq-of-lt (omega (arith, fits .below-L i h, owners-small g Data ok)))
+          ap (has filter) (mod-eq-of-lt (omega (arith, fits .below-L i h, filter-enough ok)))
           ∙ all .pages (logical-at i cache)
           ∙ found-some used (λ j. eqb (logical-at j cache) (logical-at i cache)) i h (eq-eqb (logical-at i cache) (logical-at i cache) refl);
     }

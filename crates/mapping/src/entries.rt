@@ -10,18 +10,20 @@ ghost use Rattle.scope.specs.Laws.Decides.{Decides};
 ghost use Rattle.scope.specs.Lent.{cache-size, logical-at, entry-words};
 ghost use Rattle.scope.specs.Sound.{Entries-fit};
 ghost use Rattle.lent.specs.Model.{geometry};
+ghost use Rattle.lent.specs.Notes.{filter-bits};
 ghost use Rattle.words.specs.Bitmap.{has, put};
 ghost use Rattle.words.specs.Filter.{Filter};
 ghost use Rattle.mapping.specs.Entries.{entry-fits, used-fit};
 ghost use Rattle.mapping.specs.Seen.{Seen};
 use lent::ENTRY_WORDS;
+use lent::FILTER_WORDS;
 use lent::Geometry;
 use words::bitmap;
 use words::erased::only_erased;
 
 // The entry at rank i has a logical page below l, changed 0 or 1, and the page is new to the filter, which takes it.
-fn entry_fits(cache: &[u32], l: u32, i: usize, filter: &mut [u64; 1024]) -> bool
-    requires { ⌜ (i * entry-words + entry-words ≤ length (now cache)) × (l ≤ 65536) ⌝ }
+fn entry_fits(cache: &[u32], l: u32, i: usize, filter: &mut [u64; FILTER_WORDS]) -> bool
+    requires { ⌜ (i * entry-words + entry-words ≤ length (now cache)) × (l ≤ filter-bits) ⌝ }
     ensures { λ r. ⌜ r ≡ entry-fits (has (now (filter .entry))) (now (cache .entry)) l i ⌝ }
     ensures { λ r. ⌜ (r ≡ true → now (filter .exit) ≡ put (now (filter .entry)) (logical-at i (now (cache .entry)))) ⌝ }
 {
@@ -39,8 +41,8 @@ fn entry_fits(cache: &[u32], l: u32, i: usize, filter: &mut [u64; 1024]) -> bool
 }
 
 // So do the first n entries, each in its turn, from an empty filter on.
-fn used_fit(cache: &[u32], l: u32, n: usize, filter: &mut [u64; 1024]) -> bool
-    requires { ⌜ (n * entry-words ≤ length (now cache)) × (l ≤ 65536) ⌝ }
+fn used_fit(cache: &[u32], l: u32, n: usize, filter: &mut [u64; FILTER_WORDS]) -> bool
+    requires { ⌜ (n * entry-words ≤ length (now cache)) × (l ≤ filter-bits) ⌝ }
     ensures { λ r. ⌜ r ≡ used-fit (now (cache .entry)) l n ⌝ }
     ensures { λ r. ⌜ (r ≡ true → Seen (now (cache .entry)) n (now (filter .exit))) ⌝ }
 {
@@ -56,7 +58,7 @@ fn used_fit(cache: &[u32], l: u32, n: usize, filter: &mut [u64; 1024]) -> bool
 }
 
 // Rule 5.
-pub fn entries_fit(g: Geometry, cache: &[u32], used: u32, filter: &mut [u64; 1024]) -> bool
+pub fn entries_fit(g: Geometry, cache: &[u32], used: u32, filter: &mut [u64; FILTER_WORDS]) -> bool
     requires { ⌜ Accepted (geometry g) ⌝ }
     requires { ⌜ length (now cache) ≡ cache-size (geometry g) ⌝ }
     ensures { λ r. ⌜ Decides r (Entries-fit (geometry g) (now (cache .entry)) used) ⌝ }

@@ -4,6 +4,7 @@ use crate::translation::translate;
 use entries::physical;
 use entries::set_entry;
 use lent::Entry;
+use lent::FILTER_WORDS;
 use lent::Geometry;
 use lent::Handed;
 use lent::Region;
@@ -59,7 +60,7 @@ pub fn read(
     census: &mut [u32],
     directory: &mut [u32],
     cache: &mut [u32],
-    filter: &mut [u64; 1024],
+    filter: &mut [u64; FILTER_WORDS],
     buffer: &mut [u32],
 ) -> Handed
     requires { ⌜ Ready-for l (geometry g) (lent chip spare directory cache work) (read-bound (geometry g)) (work .counts)
@@ -118,7 +119,7 @@ pub fn write(
     census: &mut [u32],
     directory: &mut [u32],
     cache: &mut [u32],
-    filter: &mut [u64; 1024],
+    filter: &mut [u64; FILTER_WORDS],
     buffer: &[u32],
 ) -> Handed
     requires { ⌜ Ready-for l (geometry g) (lent chip spare directory cache work) (write-bound (geometry g)) (work .counts)

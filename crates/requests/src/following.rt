@@ -2,6 +2,7 @@
 // are gathered at the front of the array of moves, in the words of moves that have been followed.
 use entries::rank_of;
 use entries::set_entry;
+use lent::FILTER_WORDS;
 use lent::Geometry;
 use lent::Work;
 ghost use mathlib.Core.Path.{_≡_};
@@ -42,7 +43,7 @@ fn follow(
     l: u32,
     page: u32,
     cache: &mut [u32],
-    filter: &[u64; 1024],
+    filter: &[u64; FILTER_WORDS],
     waiting: &mut [u32; 192],
 ) -> usize
     requires { ⌜ Accepted (geometry g) × Cache-lent (geometry g) (now cache) (work .rec .used) × (n < 64) ⌝ }
@@ -69,7 +70,7 @@ pub(crate) fn follow_moves(
     g: Geometry,
     work: Work,
     cache: &mut [u32],
-    filter: &[u64; 1024],
+    filter: &[u64; FILTER_WORDS],
     moves: &mut [u32; 192],
 ) -> usize
     requires { ⌜ Accepted (geometry g) × Cache-lent (geometry g) (now cache) (work .rec .used) × (n ≤ 64) ⌝ }

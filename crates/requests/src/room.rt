@@ -5,6 +5,7 @@ use copying::choice::Choice;
 use copying::choice::choose;
 use copying::copies::start;
 use index::settle;
+use lent::FILTER_WORDS;
 use lent::Geometry;
 use lent::Region;
 use lent::Work;
@@ -29,7 +30,7 @@ fn collect(
     census: &mut [u32],
     directory: &mut [u32],
     cache: &mut [u32],
-    filter: &[u64; 1024],
+    filter: &[u64; FILTER_WORDS],
 ) -> Work
     requires { ⌜ Room-ready (geometry g) (lent chip spare directory cache work) (work .counts) × To-collect (geometry g) Data (now spare) work v ⌝ }
     requires { ⌜ Census (geometry g) (now spare) (now census) ⌝ }
@@ -58,7 +59,7 @@ pub fn make_room(
     census: &mut [u32],
     directory: &mut [u32],
     cache: &mut [u32],
-    filter: &[u64; 1024],
+    filter: &[u64; FILTER_WORDS],
 ) -> Work
     requires { ⌜ Room-ready (geometry g) (lent chip spare directory cache work) (work .counts) ⌝ }
     requires { ⌜ Census (geometry g) (now spare) (now census) ⌝ }

@@ -7,6 +7,7 @@ use entries::physical;
 use entries::rank_of;
 use entries::touch;
 use index::update_one;
+use lent::FILTER_WORDS;
 use lent::Geometry;
 use lent::Handed;
 use lent::Work;
@@ -109,7 +110,7 @@ fn fetch(
     chip: &[u32],
     directory: &[u32],
     cache: &mut [u32],
-    filter: &mut [u64; 1024],
+    filter: &mut [u64; FILTER_WORDS],
 ) -> Work
     requires { ⌜ Fetches (geometry g) l (now chip) (now directory) (now cache) work ⌝ }
     requires { ⌜ Filter (now cache) (work .rec .used) (now filter) ⌝ }
@@ -133,7 +134,7 @@ pub fn translate(
     census: &mut [u32],
     directory: &mut [u32],
     cache: &mut [u32],
-    filter: &mut [u64; 1024],
+    filter: &mut [u64; FILTER_WORDS],
 ) -> Handed
     requires { ⌜ Ready-for l (geometry g) (lent chip spare directory cache work) (translate-bound (geometry g)) (work .counts) ⌝ }
     requires { ⌜ Census (geometry g) (now spare) (now census) ⌝ }

@@ -10,6 +10,8 @@ use admission::tests::DONE;
 use admission::tests::request_answer;
 use admission::tests::run_lengths_right;
 use admission::tests::state_answer;
+use lent::CENSUS_WORDS;
+use lent::FILTER_WORDS;
 use lent::Geometry;
 use lent::Handed;
 use lent::Record;
@@ -43,8 +45,8 @@ pub fn begin(
     spare: &mut [u32],
     directory: &mut [u32],
     cache: &mut [u32],
-    census: &mut [u32; 1024],
-    filter: &mut [u64; 1024],
+    census: &mut [u32; CENSUS_WORDS],
+    filter: &mut [u64; FILTER_WORDS],
 ) -> Running
     ensures { λ r. ⌜ Begun (geometry g) boundary n words answers counts
         (state (now (chip .entry)) (now (spare .entry)) (now (directory .entry)) (now (cache .entry)) rec) r
@@ -69,8 +71,8 @@ fn serve_request(
     spare: &mut [u32],
     directory: &mut [u32],
     cache: &mut [u32],
-    census: &mut [u32; 1024],
-    filter: &mut [u64; 1024],
+    census: &mut [u32; CENSUS_WORDS],
+    filter: &mut [u64; FILTER_WORDS],
     buffer: &mut [u32],
 ) -> Handed
     requires { ⌜ Ready-for (q .page) (geometry g) (state (now chip) (now spare) (now directory) (now cache) (work .rec)) most-cost (work .counts)
@@ -122,8 +124,8 @@ pub fn serve(
     spare: &mut [u32],
     directory: &mut [u32],
     cache: &mut [u32],
-    census: &mut [u32; 1024],
-    filter: &mut [u64; 1024],
+    census: &mut [u32; CENSUS_WORDS],
+    filter: &mut [u64; FILTER_WORDS],
     words: &mut [u32],
     answers: &mut [u32],
 ) -> Running

@@ -17,6 +17,7 @@ ghost use Rattle.words.specs.Census.{Census};
 ghost use Rattle.words.specs.Filter.{Filter};
 ghost use Rattle.survey.specs.Survey.{Found};
 ghost use Rattle.soundness.specs.Whole.{Flash-holds, Cache-holds};
+use lent::FILTER_WORDS;
 use lent::Geometry;
 use lent::Record;
 use mapping::directory::directory_names;
@@ -69,7 +70,7 @@ fn cache_sound(
     cache: &[u32],
     used: u32,
     valid: usize,
-    filter: &mut [u64; 1024],
+    filter: &mut [u64; FILTER_WORDS],
 ) -> bool
     requires { ⌜ Accepted (geometry g) ⌝ }
     requires { ⌜ Lengths-fit (geometry g) (now chip) (now spare) (now directory) (now cache) ⌝ }
@@ -99,7 +100,7 @@ pub fn is_sound(
     cache: &[u32],
     rec: Record,
     census: &mut [u32],
-    filter: &mut [u64; 1024],
+    filter: &mut [u64; FILTER_WORDS],
 ) -> bool
     requires { ⌜ Accepted (geometry g) ⌝ }
     requires { ⌜ Lengths-fit (geometry g) (now chip) (now spare) (now directory) (now cache) ⌝ }

@@ -1,6 +1,8 @@
 // A run in words. An odd number of request words is refused with the other lengths, before any request is taken from them. The small record is
 // loaded from its words before the run, and stored after it.
 use admission::Out;
+use lent::CENSUS_WORDS;
+use lent::FILTER_WORDS;
 use lent::Geometry;
 use lent::Record;
 use running::Running;
@@ -35,8 +37,8 @@ fn serve_words(
     spare: &mut [u32],
     directory: &mut [u32],
     cache: &mut [u32],
-    census: &mut [u32; 1024],
-    filter: &mut [u64; 1024],
+    census: &mut [u32; CENSUS_WORDS],
+    filter: &mut [u64; FILTER_WORDS],
     words: &mut [u32],
     answers: &mut [u32],
 ) -> Running
@@ -96,8 +98,8 @@ fn run_words(
 {
     let whole = whole_requests(boundary, requests.len());
     let n = requests.len() / REQUEST_WORDS;
-    let mut census = [0u32; 1024];
-    let mut filter = [0u64; 1024];
+    let mut census = [0u32; CENSUS_WORDS];
+    let mut filter = [0u64; FILTER_WORDS];
     let first = begin(
         rec,
         whole,

@@ -12,6 +12,7 @@ use lib.ListN.{length, getD, set, replicate, length-set}
 use lib.Pow.{pow-pos, pow-lt, pow-add, shl-shr}
 use lib.Seq.{getD-set-same, getD-set-other, set-out}
 use Rattle.flash.specs.Cases.{same?, below?}
+use Rattle.lent.specs.Notes.{filter-words}
 
 -- Whether i is in the set: bit i % 64 of word i / 64.
 unfoldable pub has : List ℕ → ℕ → Bool
@@ -21,9 +22,9 @@ has map i = eqb (getD map (i / 64) 0 / 2 ^ (i % 64) % 2) 1
 unfoldable pub put : List ℕ → ℕ → List ℕ
 put map i = set map (i / 64) (bitOr (getD map (i / 64) 0) (2 ^ (i % 64)))
 
--- The set with nothing in it, for the numbers below 65,536.
+-- The set with nothing in it, for the numbers below filter-bits.
 abbrev pub empty : List ℕ
-empty = replicate 1024 0
+empty = replicate filter-words 0
 
 -- ---- a bit of a number
 
@@ -71,7 +72,7 @@ zero-at (suc n) (suc j) = zero-at n j
 pub has-empty : (i : ℕ) → has empty i ≡ false
 unfolding has
 has-empty i =
-    ap (λ (x : ℕ). eqb (x / 2 ^ (i % 64) % 2) 1) (zero-at 1024 (i / 64))
+    ap (λ (x : ℕ). eqb (x / 2 ^ (i % 64) % 2) 1) (zero-at filter-words (i / 64))
     ∙ ap (λ (x : ℕ). eqb (x % 2) 1) (zero-div (2 ^ (i % 64)))
 
 pub length-put : (map : List ℕ) (i : ℕ) → length (put map i) ≡ length map

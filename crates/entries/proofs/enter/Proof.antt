@@ -1,8 +1,8 @@
 -- `entries::enter` meets its contract.
 use mathlib.Core.Path.{refl}
-use native.Mathlib.Nat.{mod-lt}
 use native.Mathlib.Omega.{arith}
 use borrow.Author.Needs.{needs}
+use Rattle.words.specs.Filter.{bit-below}
 use Rattle.entries.specs.Entries.{enter-does}
 use Rattle.entries.specs.Filter.{filter-gains}
 use Rattle.entries.proofs.enter.Statement.{statement}
@@ -12,7 +12,7 @@ bit-of-requires : tie.Need-bit-of-requires
 bit-of-requires c κs = search needs
 
 put-requires : tie.Need-put-requires
-put-requires c κs = omega (arith, c .bit-of .ensures, mod-lt (c .before .before .before .args .l) {m = 65536} (omega arith))
+put-requires c κs = omega (arith, c .bit-of .ensures, bit-below (c .before .before .before .args .l))
 
 cast-put-front : tie.Need-cast-put-front
 cast-put-front c = search needs

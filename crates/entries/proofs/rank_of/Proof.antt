@@ -3,7 +3,7 @@ use mathlib.Core.Path.{sym, ap, _∙_}
 use denote.Ref.{now}
 use borrow.Author.Tests.{not-true}
 use Rattle.words.specs.Bitmap.{has}
-use native.Mathlib.Nat.{mod-lt}
+use Rattle.words.specs.Filter.{bit-below}
 use native.Mathlib.Omega.{arith}
 use borrow.Author.Needs.{needs}
 use Rattle.scope.specs.Sound.{rank-of}
@@ -19,7 +19,7 @@ bit-of-requires : tie.Need-bit-of-requires
 bit-of-requires c κs = search needs
 
 has-requires : tie.Need-has-requires
-has-requires c κs = omega (arith, c .bit-of .ensures, mod-lt (c .before .before .before .args .l) {m = 65536} (omega arith))
+has-requires c κs = omega (arith, c .bit-of .ensures, bit-below (c .before .before .before .args .l))
 
 returns : tie.Need-returns
 returns c = (omega arith, filter-misses (c .before .before .before .before .before .pre .1) (geometry (c .before .before .before .before .before .args .g)) (c .before .before .before .before .before .args .l) (ap (has (now (c .before .before .before .before .before .args .filter))) (sym (c .before .before .bit-of .ensures)) ∙ sym (c .before .has .ensures) ∙ not-true _ (c .if1 .taken)))

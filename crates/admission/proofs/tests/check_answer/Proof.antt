@@ -1,11 +1,11 @@
 -- `tests::check_answer` meets its contract.
 use mathlib.Core.Path.{sym, _∙_}
-use native.Mathlib.Omega.{arith}
 use borrow.Author.Needs.{needs}
 use denote.Ref.{now}
 use Rattle.lent.specs.Model.{geometry, state}
 use Rattle.scope.specs.Lent.{State}
 use Rattle.flash.specs.Tests.{refused, passed}
+use Rattle.geometry.specs.Bounds.{census-enough}
 use Rattle.admission.specs.Tested.{Sizes-pass, size-applies, sizes-pass, geometry-passes, lengths-pass, damaged, undamaged}
 use Rattle.admission.proofs.tests.check_answer.Statement.{statement}
 use Rattle.admission.proofs.tests.check_answer.Tie as tie
@@ -35,7 +35,7 @@ is-sound-requires c κs =
     let start = c .before .before .before .before .before .before .before .before in
     let pass = passes (c .before .before) in
     let ok = geometry-passes (geometry (start .args .g)) (s start) (start .args .others) pass in
-    (ok, (lengths-pass (geometry (start .args .g)) (s start) (start .args .others) pass, omega (arith, ok .D+T-to)))
+    (ok, (lengths-pass (geometry (start .args .g)) (s start) (start .args .others) pass, census-enough ok))
 
 returns-2 : tie.Need-returns-2
 returns-2 c =

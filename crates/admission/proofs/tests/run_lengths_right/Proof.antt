@@ -7,6 +7,7 @@ use lib.Dec.{eqb}
 use borrow.Author.Needs.{needs}
 use Rattle.lent.specs.Model.{geometry}
 use Rattle.scope.specs.Boundary.{counts-words}
+use Rattle.scope.specs.Lent.{most-requests}
 use Rattle.admission.specs.Sizes.{too-many, words-wrong, answers-wrong, run-lengths}
 use Rattle.admission.proofs.tests.run_lengths_right.Statement.{statement}
 use Rattle.admission.proofs.tests.run_lengths_right.Tie as tie
@@ -22,7 +23,7 @@ cast-if2 c = search needs
 mul-if2 : tie.Need-mul-if2
 mul-if2 c =
     let a = c .before .before .args in
-    omega (arith, mul-le-mul {n₁ = a .n} {m₁ = a .g .w} {n₂ = 1024} {m₂ = 4294967296} (c .before .if1 .left) (omega arith))
+    omega (arith, mul-le-mul {n₁ = a .n} {m₁ = a .g .w} {n₂ = most-requests} {m₂ = 4294967296} (c .before .if1 .left) (omega arith))
 
 returns-2 : tie.Need-returns-2
 returns-2 c =

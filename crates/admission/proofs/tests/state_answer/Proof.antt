@@ -7,6 +7,7 @@ use denote.Ref.{now}
 use Rattle.lent.specs.Model.{geometry, state}
 use Rattle.scope.specs.Lent.{State}
 use Rattle.flash.specs.Tests.{refused, passed}
+use Rattle.geometry.specs.Bounds.{census-enough}
 use Rattle.admission.specs.Tested.{Sizes-pass, size-applies, sizes-pass, geometry-passes, lengths-pass, damaged, undamaged}
 use Rattle.admission.proofs.tests.state_answer.Statement.{statement}
 use Rattle.admission.proofs.tests.state_answer.Tie as tie
@@ -33,7 +34,7 @@ is-sound-requires c κs =
     let start = c .before .before .before .before .before .before .before .before .before in
     let pass = passes (c .before .before) in
     let ok = geometry-passes (geometry (start .args .g)) (s start) (start .args .others) pass in
-    (ok, (lengths-pass (geometry (start .args .g)) (s start) (start .args .others) pass, omega (arith, ok .D+T-to, start .pre)))
+    (ok, (lengths-pass (geometry (start .args .g)) (s start) (start .args .others) pass, omega (arith, census-enough ok, start .pre)))
 
 same-length : tie.Need-same-length
 same-length c = search needs

@@ -4,6 +4,7 @@ use Prim.Native.Nat.{ℕ, _-_, _+_, _*_, _<_}
 use mathlib.Core.Path.{_≡_, refl, sym, _∙_, subst}
 use native.Mathlib.Omega.{arith}
 use lib.ListN.{length}
+use Rattle.scope.specs.Geometry.{most-pages}
 use Rattle.steps.specs.Lies.{spare-lies}
 use Rattle.words.specs.Census.{Census}
 use Rattle.lent.specs.Model.{geometry, region}
@@ -52,7 +53,7 @@ ready : (c : tie.At-loop Inv-loop μ-loop) → c .loop .i < start c .args .g .p 
 ready c h =
     subst (Ready c) (moves-counted (c .loop .moves) (c .loop .copied .n)) (page-ready (c .loop .inv .0) (start c .pre .0) h)
 
-page-lies : (c : tie.After-struct-known2 Inv-loop μ-loop) → page-of (loop c) < 65536
+page-lies : (c : tie.After-struct-known2 Inv-loop μ-loop) → page-of (loop c) < most-pages
 page-lies c =
     let page = ready (loop c) (c .before .if1 .taken) in
     spare-lies (page .spare-lent) (page-of (loop c)) (page .on-chip) .page-to

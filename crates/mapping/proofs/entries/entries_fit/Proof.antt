@@ -8,11 +8,10 @@ use borrow.Author.Needs.{needs}
 use borrow.Author.Tests.{not-false}
 use denote.Ref.{now}
 use Rattle.scope.specs.Counting.{all}
-use Rattle.scope.specs.Regions.{Data}
 use Rattle.flash.specs.Cases.{clash}
 use Rattle.flash.specs.Tests.{refused, passed, decides-by}
 use Rattle.lent.specs.Model.{geometry}
-use Rattle.geometry.specs.Bounds.{owners-small}
+use Rattle.geometry.specs.Bounds.{filter-enough}
 use Rattle.words.specs.Erased.{is-erased-word}
 use Rattle.mapping.specs.Entries.{too-many, entries-by-parts}
 use Rattle.mapping.specs.Seen.{seen-filter}
@@ -27,7 +26,7 @@ returns c =
 used-fit-requires : tie.Need-used-fit-requires
 used-fit-requires c κs =
     let start = c .before .before .before .before in
-    (search needs, owners-small (geometry (start .args .g)) Data (start .pre .0))
+    (search needs, filter-enough (start .pre .0))
 
 returns-2 : tie.Need-returns-2
 returns-2 c =
