@@ -1,7 +1,4 @@
 -- The modules of this crate.
-pub mod Model
-pub mod Answers
-pub mod Sizes
 pub mod Tested
 pub mod Noted
 pub mod SingleTested

@@ -7,7 +7,7 @@ use Rattle.scope.specs.Geometry.{Geometry}
 use Rattle.scope.specs.Lent.{State, Request}
 use Rattle.scope.specs.Replies.{DONE, first-applying, right-sizes}
 use Rattle.scope.specs.Calls.{state-sizes, state-tests, request-tests}
-use Rattle.admission.specs.Sizes.{buffer-right}
+use Rattle.replies.specs.Sizes.{buffer-right}
 use Rattle.admission.specs.Noted.{Noted}
 
 -- n is the answer of the tests, where the page buffer has `buffer` words; the notes are taken where none applies.

@@ -13,7 +13,7 @@ use Rattle.scope.specs.Replies.{DONE}
 use Rattle.scope.specs.Calls.{check}
 use Rattle.scope.specs.Boundary.{put-counts}
 use Rattle.scope.specs.Contracts.{Answers}
-use Rattle.admission.specs.Answers.{does-answers, refuses, admits}
+use Rattle.replies.specs.Answers.{does-answers, refuses, admits}
 use Rattle.admission.specs.Tested.{State-tested}
 
 -- The code tests with `right`, its own name for whether the lengths beside the state's are right.

@@ -14,7 +14,7 @@ use Rattle.scope.specs.Calls.{state-sizes, size-tests, format}
 use Rattle.requests.specs.Fresh.{Sized}
 use Rattle.scope.specs.Boundary.{put-counts}
 use Rattle.scope.specs.Contracts.{Answers}
-use Rattle.admission.specs.Answers.{does-answers, refuses, admits}
+use Rattle.replies.specs.Answers.{does-answers, refuses, admits}
 use Rattle.admission.specs.Tested.{sizes-pass, geometry-passes, lengths-pass}
 
 -- The code tests with `right`, its own name for whether the lengths beside the state's are right.

@@ -1,23 +1,23 @@
 // Format, check, read and write by value: 01's tests, then the steps, for every input. No call has a `requires`, and each contract settles the reply, the
 // record, every lent list and the counts by citing the call's definition. `boundary` says whether the lengths are right that only the caller
 // knows, as that of the record's words at the C boundary.
-use admission::KIND_READ;
-use admission::KIND_WRITE;
-use admission::Out;
-use admission::Request;
-use admission::counting::NO_COUNTS;
-use admission::counting::put_counts;
-use admission::counting::put_none;
-use admission::tests::DONE;
-use admission::tests::check_answer;
-use admission::tests::lengths_right;
-use admission::tests::single_answer;
-use admission::tests::size_answer;
+use admission::check_answer;
+use admission::single_answer;
 use lent::CENSUS_WORDS;
 use lent::FILTER_WORDS;
 use lent::Geometry;
 use lent::Record;
 use lent::Work;
+use replies::KIND_READ;
+use replies::KIND_WRITE;
+use replies::Out;
+use replies::Request;
+use replies::counting::NO_COUNTS;
+use replies::counting::put_counts;
+use replies::counting::put_none;
+use replies::tests::DONE;
+use replies::tests::lengths_right;
+use replies::tests::size_answer;
 use requests::answers;
 ghost use Rattle.lent.specs.Model.{geometry, state};
 ghost use Rattle.scope.specs.Calls.{format, check, read, write};

@@ -11,8 +11,8 @@ use Rattle.scope.specs.Lent.{State}
 use Rattle.scope.specs.Requests.{Replied, replied}
 use Rattle.scope.specs.Calls.{RunReplied, run-replied, format, check, read, write, run}
 use Rattle.scope.specs.Contracts.{right-lengths, Answers, answers-one-outcome}
-use Rattle.admission.specs.declared.Request.{Request}
-use Rattle.admission.specs.Model.{request}
+use Rattle.replies.specs.declared.Request.{Request}
+use Rattle.replies.specs.Model.{request}
 
 -- What every call but check has at exit: its reply, the small record as the struct that is lent, and the lists.
 pub record Exit : Type 0 where

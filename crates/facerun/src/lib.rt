@@ -4,11 +4,11 @@
 mod served;
 
 use crate::served::serve_all;
-use admission::Request;
 use lent::CENSUS_WORDS;
 use lent::FILTER_WORDS;
 use lent::Geometry;
 use lent::Record;
+use replies::Request;
 use serving::begin;
 use serving::finish;
 ghost use mathlib.Core.Bool.{true};
@@ -16,7 +16,7 @@ ghost use mathlib.Core.List.{map};
 ghost use Rattle.lent.specs.Model.{geometry, state};
 ghost use Rattle.scope.specs.Calls.{run-replied, run};
 ghost use Rattle.scope.specs.Contracts.{Answers, right-lengths};
-ghost use Rattle.admission.specs.Model.{request};
+ghost use Rattle.replies.specs.Model.{request};
 
 // Serves the requests in their order, once the state has been tested, each with its own answer.
 pub fn run(

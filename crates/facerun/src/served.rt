@@ -1,9 +1,9 @@
 // The requests of a run, one after the other. Nothing is tested here: `begin` has the number of the requests and tests before the first
 // is served, and each request is the callee's to test, so that the walk is there for any slice, an empty one too.
-use admission::Request;
 use lent::CENSUS_WORDS;
 use lent::FILTER_WORDS;
 use lent::Geometry;
+use replies::Request;
 use running::Running;
 use serving::serve;
 ghost use lib.ListN.{length};

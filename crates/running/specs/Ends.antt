@@ -14,7 +14,7 @@ use Rattle.scope.specs.Boundary.{counts-words, put-counts}
 use Rattle.scope.specs.Calls.{state-sizes, state-tests}
 use Rattle.running.specs.declared.Running.{Running}
 use Rattle.admission.specs.Noted.{Noted}
-use Rattle.admission.specs.Sizes.{sizes-of-run, run-right, with-run}
+use Rattle.replies.specs.Sizes.{sizes-of-run, run-right, with-run}
 use Rattle.admission.specs.Tested.{State-tested}
 
 -- The tests of a run of n requests, by the lengths of what it lends.

@@ -23,12 +23,12 @@ use Rattle.scope.specs.Replies.{DONE, first-applying, right-sizes}
 use Rattle.scope.specs.Boundary.{counts-words}
 use Rattle.scope.specs.Calls.{state-sizes, state-tests, RunReplied, run-replied, no-request, serve-record, serve-records, run}
 use Rattle.geometry.specs.Sizes.{piece-inside}
-use Rattle.admission.specs.declared.Request.{Request as Asked}
-use Rattle.admission.specs.Model.{request}
+use Rattle.replies.specs.declared.Request.{Request as Asked}
+use Rattle.replies.specs.Model.{request}
 use Rattle.running.specs.declared.Running.{Running}
 use Rattle.scope.specs.Contracts.{right-lengths, Answers}
-use Rattle.admission.specs.Answers.{does-answers, refuses, admits}
-use Rattle.admission.specs.Sizes.{run-right, with-run}
+use Rattle.replies.specs.Answers.{does-answers, refuses, admits}
+use Rattle.replies.specs.Sizes.{run-right, with-run}
 use Rattle.admission.specs.Tested.{state-passes, geometry-passes, lengths-pass, soundness-passes}
 use Rattle.admission.specs.Room.{most-cost}
 use Rattle.running.specs.Ends.{Begun, Finished}

@@ -22,7 +22,7 @@ use Rattle.promises.specs.Records.{record-stores}
 use Rattle.words.specs.Runs.{length-part}
 use Rattle.geometry.specs.Sizes.{piece-inside}
 use Rattle.admission.specs.Room.{most-cost, read-few, write-few}
-use Rattle.admission.specs.Tested.{request-below}
+use Rattle.replies.specs.Tests.{request-below}
 
 record Keeps {A : Type 0} (g : Geometry) (bound : ℕ) (o : Outcome A) : Type 0 where
   sound : Sound g (o .after)

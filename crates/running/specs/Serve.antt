@@ -20,7 +20,7 @@ use Rattle.scope.specs.Requests.{Replied, replied}
 use Rattle.scope.specs.Calls.{RunReplied, run-replied, request-tests, part, serve, answer-record, serve-record}
 use Rattle.running.specs.declared.Running.{Running}
 use Rattle.words.specs.Runs.{length-part, sets-own}
-use Rattle.admission.specs.Answers.{refuses, admits}
+use Rattle.replies.specs.Answers.{refuses, admits}
 use Rattle.admission.specs.Room.{most-cost}
 use Rattle.admission.specs.Noted.{Noted}
 use Rattle.running.specs.Asks.{Asks}

@@ -1,21 +1,21 @@
 // A run in three parts, so that whoever has the requests can go through them: `begin` tests once, `serve` serves one request, `finish`
 // hands over the counts. What the parts hand on says whether the run was admitted; where it wasn't, nothing is done. Whoever goes through
 // the requests also owns the notes, which `begin` takes and every request keeps, so that a run searches the chip once.
-use admission::KIND_READ;
-use admission::Out;
-use admission::Request;
-use admission::counting::NO_COUNTS;
-use admission::counting::put_counts;
-use admission::tests::DONE;
-use admission::tests::request_answer;
-use admission::tests::run_lengths_right;
-use admission::tests::state_answer;
+use admission::state_answer;
 use lent::CENSUS_WORDS;
 use lent::FILTER_WORDS;
 use lent::Geometry;
 use lent::Handed;
 use lent::Record;
 use lent::Work;
+use replies::KIND_READ;
+use replies::Out;
+use replies::Request;
+use replies::counting::NO_COUNTS;
+use replies::counting::put_counts;
+use replies::tests::DONE;
+use replies::tests::request_answer;
+use replies::tests::run_lengths_right;
 use requests::answers::read;
 use requests::answers::write;
 use running::Running;
@@ -29,7 +29,7 @@ ghost use Rattle.admission.specs.Room.{most-cost};
 ghost use Rattle.admission.specs.Noted.{Noted};
 ghost use Rattle.running.specs.Serve.{Serving, Served};
 ghost use Rattle.requests.specs.Ready.{Does-all, Ready-for};
-ghost use Rattle.admission.specs.Model.{request};
+ghost use Rattle.replies.specs.Model.{request};
 ghost use Rattle.running.specs.Ends.{Begun, Finished};
 
 // The tests of a run of n requests, with the lengths of its data buffer, its answers and its counts.

@@ -1,11 +1,11 @@
 // The requests of a run as words, two for each: kind and page.
-use admission::Request;
+use replies::Request;
 ghost use Prim.Native.Nat.{_/_, _%_, _<_};
 ghost use mathlib.Core.Path.{_≡_};
 ghost use mathlib.Core.Bool.{_&&_};
 ghost use lib.Dec.{eqb};
 ghost use lib.ListN.{length};
-ghost use Rattle.admission.specs.Model.{request};
+ghost use Rattle.replies.specs.Model.{request};
 ghost use Rattle.wording.specs.Asked.{words-at};
 
 pub const REQUEST_WORDS: usize = 2;

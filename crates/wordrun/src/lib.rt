@@ -1,10 +1,10 @@
 // A run in words. An odd number of request words is refused with the other lengths, before any request is taken from them. The small record is
 // loaded from its words before the run, and stored after it.
-use admission::Out;
 use lent::CENSUS_WORDS;
 use lent::FILTER_WORDS;
 use lent::Geometry;
 use lent::Record;
+use replies::Out;
 use running::Running;
 use serving::begin;
 use serving::finish;

@@ -40,9 +40,9 @@ use denote.Triple.Table.{entered, cited}
 use denote.Triple.Walked.{says, Stays, stay-ref, gave-slice, stay-none, walkOf, AllGo, goes-none, goes-ref, goes-gave-slice, Walks, ends-at, walked, walk-meets}
 use denote.Exit.{yes}
 use denote.Struct.Laws as LL
-use Rattle.admission.specs.declared.Out.{Out as D·Out}
-use Rattle.admission.proofs.Out as T·Out
-use Rattle.admission.proofs.Out.Laws as L·Out
+use Rattle.replies.specs.declared.Out.{Out as D·Out}
+use Rattle.replies.proofs.Out as T·Out
+use Rattle.replies.proofs.Out.Laws as L·Out
 use Rattle.lent.specs.declared.Record.{Record as D·Record}
 use Rattle.lent.proofs.Record as T·Record
 use Rattle.lent.proofs.Record.Laws as L·Record

@@ -51,9 +51,9 @@ use denote.Struct.Laws as LL
 use Rattle.running.specs.declared.Running.{Running as D·Running}
 use Rattle.running.proofs.Running as T·Running
 use Rattle.running.proofs.Running.Laws as L·Running
-use Rattle.admission.specs.declared.Request.{Request as D·Request}
-use Rattle.admission.proofs.Request as T·Request
-use Rattle.admission.proofs.Request.Laws as L·Request
+use Rattle.replies.specs.declared.Request.{Request as D·Request}
+use Rattle.replies.proofs.Request as T·Request
+use Rattle.replies.proofs.Request.Laws as L·Request
 use Rattle.lent.specs.declared.Geometry.{Geometry as D·Geometry}
 use Rattle.lent.proofs.Geometry as T·Geometry
 use Rattle.lent.proofs.Geometry.Laws as L·Geometry
@@ -71,7 +71,7 @@ use Rattle.facerun.specs.Served.{serve-all-ready, serve-all-more, serve-
 use Rattle.lent.specs.Model.{geometry, state}
 use Rattle.running.specs.Ran.{Tested, Ran}
 use Rattle.running.specs.Serve.{Served}
-use Rattle.admission.specs.Model.{request}
+use Rattle.replies.specs.Model.{request}
 
 abbrev stayed : Stays (walked·.ended .signature .params) (walked·.ended .kept)
 stayed = (stay-none (λ _. T·Running.the-row) yes, (stay-none-slice (0 ∷ []) tt (plain (λ _. T·Request.the-row)) yes, (stay-none (λ _. T·Geometry.the-row) yes, (stay-slice (1 ∷ []) tt (plain (λ _. u32)), (stay-slice (2 ∷ []) tt (plain (λ _. u32)), (stay-slice (3 ∷ []) tt (plain (λ _. u32)), (stay-slice (4 ∷ []) tt (plain (λ _. u32)), (stay-ref (5 ∷ []) tt (arrayOf (plain (λ _. u32)) 1024), (stay-ref (6 ∷ []) tt (arrayOf (plain (λ _. u64)) 1024), (stay-slice (7 ∷ []) tt (plain (λ _. u32)), (stay-slice (8 ∷ []) tt (plain (λ _. u32)), tt)))))))))))

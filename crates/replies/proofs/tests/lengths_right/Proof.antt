@@ -1,7 +1,7 @@
 -- `tests::lengths_right` meets its contract.
 use borrow.Author.Tests.{not-true, not-false}
-use Rattle.admission.proofs.tests.lengths_right.Statement.{statement}
-use Rattle.admission.proofs.tests.lengths_right.Tie as tie
+use Rattle.replies.proofs.tests.lengths_right.Statement.{statement}
+use Rattle.replies.proofs.tests.lengths_right.Tie as tie
 
 returns : tie.Need-returns
 returns c = rw (not-true (c .before .args .boundary) (c .if1 .taken))

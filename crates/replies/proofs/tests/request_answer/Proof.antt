@@ -1,9 +1,9 @@
 -- `tests::request_answer` meets its contract.
 use Rattle.lent.specs.Model.{geometry, small}
-use Rattle.admission.specs.Model.{request}
-use Rattle.admission.specs.Tested.{kind-refused, page-refused, request-admitted}
-use Rattle.admission.proofs.tests.request_answer.Statement.{statement}
-use Rattle.admission.proofs.tests.request_answer.Tie as tie
+use Rattle.replies.specs.Model.{request}
+use Rattle.replies.specs.Tests.{kind-refused, page-refused, request-admitted}
+use Rattle.replies.proofs.tests.request_answer.Statement.{statement}
+use Rattle.replies.proofs.tests.request_answer.Tie as tie
 
 returns : tie.Need-returns
 returns c = let a = c .before .before .args in kind-refused (geometry (a .g)) (small (a .rec)) (request (a .q)) (c .if1 .taken)

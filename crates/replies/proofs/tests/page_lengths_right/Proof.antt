@@ -1,8 +1,8 @@
 -- `tests::page_lengths_right` meets its contract.
 use borrow.Author.Needs.{needs}
 use borrow.Author.Tests.{eq-eqb, ne-eqb}
-use Rattle.admission.proofs.tests.page_lengths_right.Statement.{statement}
-use Rattle.admission.proofs.tests.page_lengths_right.Tie as tie
+use Rattle.replies.proofs.tests.page_lengths_right.Statement.{statement}
+use Rattle.replies.proofs.tests.page_lengths_right.Tie as tie
 
 cast-if1 : tie.Need-cast-if1
 cast-if1 c = search needs

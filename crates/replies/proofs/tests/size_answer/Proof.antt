@@ -9,9 +9,9 @@ use Rattle.scope.specs.Replies.{right-sizes}
 use Rattle.scope.specs.Laws.Decided.{accepted-decided}
 use Rattle.flash.specs.Tests.{refused, passed}
 use Rattle.geometry.specs.Sizes.{sizes}
-use Rattle.admission.specs.Tested.{geometry-refused, length-refused, other-refused, size-admitted}
-use Rattle.admission.proofs.tests.size_answer.Statement.{statement}
-use Rattle.admission.proofs.tests.size_answer.Tie as tie
+use Rattle.replies.specs.Tests.{geometry-refused, length-refused, other-refused, size-admitted}
+use Rattle.replies.proofs.tests.size_answer.Statement.{statement}
+use Rattle.replies.proofs.tests.size_answer.Tie as tie
 
 -- Whether the state's lengths are right.
 abbrev right : tie.Start → Bool

@@ -8,9 +8,9 @@ use borrow.Author.Needs.{needs}
 use Rattle.lent.specs.Model.{geometry}
 use Rattle.scope.specs.Boundary.{counts-words}
 use Rattle.scope.specs.Lent.{most-requests}
-use Rattle.admission.specs.Sizes.{too-many, words-wrong, answers-wrong, run-lengths}
-use Rattle.admission.proofs.tests.run_lengths_right.Statement.{statement}
-use Rattle.admission.proofs.tests.run_lengths_right.Tie as tie
+use Rattle.replies.specs.Sizes.{too-many, words-wrong, answers-wrong, run-lengths}
+use Rattle.replies.proofs.tests.run_lengths_right.Statement.{statement}
+use Rattle.replies.proofs.tests.run_lengths_right.Tie as tie
 
 returns : tie.Need-returns
 returns c =

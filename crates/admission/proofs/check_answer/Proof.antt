@@ -7,8 +7,8 @@ use Rattle.scope.specs.Lent.{State}
 use Rattle.flash.specs.Tests.{refused, passed}
 use Rattle.geometry.specs.Bounds.{census-enough}
 use Rattle.admission.specs.Tested.{Sizes-pass, size-applies, sizes-pass, geometry-passes, lengths-pass, damaged, undamaged}
-use Rattle.admission.proofs.tests.check_answer.Statement.{statement}
-use Rattle.admission.proofs.tests.check_answer.Tie as tie
+use Rattle.admission.proofs.check_answer.Statement.{statement}
+use Rattle.admission.proofs.check_answer.Tie as tie
 
 -- The state that is tested.
 abbrev s : tie.Start → State

@@ -2,9 +2,9 @@
 use borrow.Author.Needs.{needs}
 use borrow.Author.Tests.{eq-eqb, ne-eqb}
 use denote.Ref.{now}
-use Rattle.admission.specs.Answers.{set-three}
-use Rattle.admission.proofs.counting.put_counts.Statement.{statement}
-use Rattle.admission.proofs.counting.put_counts.Tie as tie
+use Rattle.replies.specs.Answers.{set-three}
+use Rattle.replies.proofs.counting.put_counts.Statement.{statement}
+use Rattle.replies.proofs.counting.put_counts.Tie as tie
 
 returns : tie.Need-returns
 returns c = simp (ne-eqb _ _ (c .if1 .taken))

@@ -4,11 +4,11 @@ use borrow.Author.Needs.{needs}
 use denote.Ref.{now}
 use Rattle.lent.specs.Model.{geometry, state}
 use Rattle.scope.specs.Lent.{State}
-use Rattle.admission.specs.Model.{request}
+use Rattle.replies.specs.Model.{request}
 use Rattle.admission.specs.Tested.{State-passes, state-applies, state-passes, request-applies}
 use Rattle.admission.specs.SingleTested.{single-tested}
-use Rattle.admission.proofs.tests.single_answer.Statement.{statement}
-use Rattle.admission.proofs.tests.single_answer.Tie as tie
+use Rattle.admission.proofs.single_answer.Statement.{statement}
+use Rattle.admission.proofs.single_answer.Tie as tie
 
 -- Places before the state's tests have answered: the start, that of the lengths, and that of the answer.
 abbrev start : tie.After-slice-known2 → tie.Start

@@ -1,0 +1,5 @@
+-- The modules of this crate.
+pub mod Model
+pub mod Answers
+pub mod Sizes
+pub mod Tests
