@@ -71,7 +71,7 @@ module _ {g : Geometry} (ok : Accepted g) (l i : ℕ) (buffer : List ℕ) (s : S
       record {
         sound = sound-from (follows .index)
             (written-holds w (holds .besides) (current g s₄) renames)
-            (record { entries = set .step .holds .fits; agree = places .agree });
+            (record { entries = set .step .holds .entries; agree = places .agree });
         lengths =
             record {
               chip-fits = w .lengths .chip-fits;

@@ -20,7 +20,7 @@ use Rattle.flash.specs.Bounded.{Bounded}
 use Rattle.flash.specs.Cases.{same?, last, clash}
 use Rattle.flash.specs.Counting.{sum, sum-same, count-same}
 use Rattle.flash.specs.Searching.{Is-fewest, fewest-cases}
-use Rattle.flash.specs.Stores.{slot-below, slot-same, getD-sets-inside, record-kept, block-filled, block-kept}
+use Rattle.flash.specs.Stores.{slot-below, slot-same, getD-sets-inside, slot-kept, block-filled, block-kept}
 use Rattle.words.specs.Searches.{fewest-unique}
 use Rattle.words.specs.Census.{weight, weigh, Census, weighs-little, erased-told, full-told, valid-told}
 use Rattle.steps.specs.Lies.{Spare-lent, spare-lies}
@@ -146,7 +146,7 @@ claimed-restates p owner {spare} h e =
           ∙ getD-sets-inside spare (p * spare-words) (valid ∷ owner ∷ []) 0 none (omega arith) (omega arith);
       others = λ q other.
           ap (λ (k : ℕ). getD (with-claim p owner spare) k none) (omega arith)
-          ∙ record-kept spare spare-words p q 0 none (valid ∷ owner ∷ []) refl (omega arith) other
+          ∙ slot-kept spare spare-words p q 0 none (valid ∷ owner ∷ []) refl (omega arith) other
           ∙ ap (λ (k : ℕ). getD spare k none) (omega arith);
     })
 

@@ -65,13 +65,13 @@ spare-lies lent p h =
 pub record Word-lies (g : Geometry) (chip : List ℕ) (p l : ℕ) : Type 0 where
   pub page-to : p * g .W ≤ length chip
   pub word-to : translation-word g l < 512
-  pub place : p * g .W + translation-word g l < length chip
+  pub inside : p * g .W + translation-word g l < length chip
 
 pub word-lies : {g : Geometry} {chip : List ℕ} → Chip-lent g chip → (p l : ℕ) → p < pages g → Word-lies g chip p l
 word-lies lent p l h =
     let below = mod-lt l (lent .bounded .W-from) in
     let page = words-lie lent p h in
-    record { page-to = omega arith; word-to = omega arith; place = omega arith }
+    record { page-to = omega arith; word-to = omega arith; inside = omega arith }
 
 -- Two pages lie apart, or the first lies no nearer to the front.
 pub pages-apart : (w p q : ℕ) → (p * w + w ≤ q * w) ⊎ (q * w ≤ p * w)

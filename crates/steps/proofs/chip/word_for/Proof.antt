@@ -71,7 +71,7 @@ returns-2 c =
     let named = page .page .given .1 in
     let lies = word-lies (start .pre .0) _ (a .l) (start .pre .1 _ (ap entry named)) in
     word-does g (a .l) (entry (a .page)) (start .pre .0 .bounded .W-from)
-    (getD-any (a .chip .now) _ 0 none (lies .place) ∙ sym (ap (λ (e : Entry). in-page g (a .chip .now) (a .l) (entry e)) named))
+    (getD-any (a .chip .now) _ 0 none (lies .inside) ∙ sym (ap (λ (e : Entry). in-page g (a .chip .now) (a .l) (entry e)) named))
     (c .before .as-it-is .ensures)
     (c .count-read .ensures ∙ sym (ap (λ (e : Entry). read-if-place (entry e) (counts (a .work .counts))) named))
 

@@ -4,7 +4,7 @@ use borrow.Author.Needs.{needs}
 use Rattle.scope.specs.Regions.{Translation}
 use Rattle.lent.specs.Model.{geometry, small}
 use Rattle.geometry.specs.Bounds.{owners-small}
-use Rattle.survey.specs.Survey.{found-region}
+use Rattle.survey.specs.Survey.{surveyed-region}
 use Rattle.survey.proofs.blocks.translation_fits.Statement.{statement}
 use Rattle.survey.proofs.blocks.translation_fits.Tie as tie
 
@@ -45,7 +45,7 @@ returns c =
     let a = c .before .before .before .before .before .before .before .before .before .before .before .before .before .before .args in
     let walk = c .before .before .region-fits in
     let limit = c .before .before .before .before .before .before .before .before .before .translation-pages in
-    found-region (geometry (a .g)) Translation (a .chip .now) (a .spare .now) (small (a .small)) (walk .result) (limit .result) (limit .ensures)
+    surveyed-region (geometry (a .g)) Translation (a .chip .now) (a .spare .now) (small (a .small)) (walk .result) (limit .result) (limit .ensures)
     (walk .ensures)
 
 pub translation-fits-spec : {M : Type 1} → statement M
