@@ -25,7 +25,6 @@ use Rattle.region.specs.Follower.{View, Invariant, Mover}
 use Rattle.region.specs.Apart.{waits-all}
 use Rattle.region.specs.Copied.{Copied, few-moved}
 use Rattle.region.specs.Starts.{Starts, copied-since}
-use Rattle.lent.specs.declared.Counts.{Counts as Counted}
 use Rattle.lent.specs.declared.Work.{Work}
 use Rattle.lent.specs.Model.{state, small}
 use Rattle.lent.specs.DoesLaws.{does-give, does-look-at, does-bind, does-value}

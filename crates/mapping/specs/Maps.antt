@@ -16,9 +16,9 @@ use Rattle.scope.specs.Laws.Decides.{Decides}
 use Rattle.scope.specs.Lent.{none, named}
 use Rattle.scope.specs.Regions.{Region, owners, first-page, region-pages}
 use Rattle.scope.specs.Sound.{Owners-differ, Names}
+use Rattle.flash.specs.Bounded.{accepted-bounded, region-few}
 use Rattle.flash.specs.Counting.{count-same}
 use Rattle.flash.specs.Owners.{Owners-fit, valid-in}
-use Rattle.geometry.specs.Bounds.{region-small}
 use Rattle.mapping.specs.Named.{by-counts, owns}
 use Rattle.mapping.specs.Tally.{nothing, Tallied, word-none, word-good}
 use Rattle.mapping.specs.declared.tally.Tally.{Tally}
@@ -50,4 +50,4 @@ module _ (g : Geometry) (r : Region) (spare map : List ℕ) (ok : Accepted g) (f
   pub map-decided : (valid : ℕ) → valid ≡ valid-in g r spare
       → Decides (map-names (first-page g r) (region-pages g r) valid spare map)
       (Owners-differ g r spare × ((k : ℕ) → k < owners g r → Names g r spare k (named k map)))
-  map-decided valid e = rw (good-is, long, e) (by-counts g r spare (region-small g r ok) (λ k. getD map k none) fit)
+  map-decided valid e = rw (good-is, long, e) (by-counts g r spare (region-few (accepted-bounded ok) r) (λ k. getD map k none) fit)

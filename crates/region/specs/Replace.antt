@@ -5,16 +5,15 @@ use mathlib.Core.Path.{_≡_, refl, sym, ap, subst, _∙_}
 use mathlib.Core.Logic.{_≢_, _⊎_, ⊎-elim, inl, inr}
 use mathlib.Core.List.{List}
 use native.Mathlib.Omega.{arith}
-use native.Mathlib.Nat.{mul-le-mul}
 use borrow.Author.Tests.{ne-eqb}
 use Rattle.scope.specs.Geometry.{Geometry}
 use Rattle.scope.specs.Regions.{Region, owners, page-in, Has-page}
 use Rattle.scope.specs.Lent.{none, erased, valid, invalid, Entry, Place, Nowhere, decode, words-of, state-of, owner-of}
 use Rattle.scope.specs.Sound.{Page-fits, Pages-fit, Owners-differ, Names}
-use Rattle.flash.specs.Bounded.{Region-bounded}
+use Rattle.flash.specs.Bounded.{Region-bounded, region-few}
 use Rattle.flash.specs.Cases.{same?, last}
 use Rattle.flash.specs.Pages.{Page-same}
-use Rattle.flash.specs.Places.{other, page-on-chip, page-other, page-in-region, page-in-same}
+use Rattle.flash.specs.Places.{other, page-other, page-in-region, page-in-same}
 use Rattle.flash.specs.SamePages.{Pages-same}
 use Rattle.region.specs.Holds.{Region-fits, Besides, Maps, Renames, contents, valid-page-named}
 use Rattle.region.specs.Carried.{page-fits-same, Owner-same, names-kept, contents-kept}
@@ -36,7 +35,7 @@ old? Nowhere p f g = g (λ e. let z : _≡_ {A = ℕ} 0 1 = cc in omega arith)
 -- A page number is no *none*.
 pub place-of-page : (g : Geometry) (r : Region) (p : ℕ) → Region-bounded g r → Has-page g r p → decode p ≡ Place p
 place-of-page g r p bounds here =
-    rw (ne-eqb p none (omega (arith, page-on-chip g r p here, mul-le-mul (bounds .bounded .blocks-to) (bounds .bounded .P-to))))
+    rw (ne-eqb p none (omega (arith, here .1, region-few (bounds .bounded) r)))
 
 -- What a replacement gives; of the map, once it names the new page for k.
 pub record Replacement (g : Geometry) (r : Region) (k : ℕ) (words chip spare chip′ spare′ : List ℕ) (opened offset : ℕ)

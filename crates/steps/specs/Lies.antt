@@ -13,7 +13,7 @@ use Rattle.scope.specs.SmallRecord.{SmallRecord, open-block, next-offset, with-
 use Rattle.scope.specs.Lent.{spare-words, chip-size, spare-size, translation-word}
 use Rattle.lent.specs.declared.Record.{Record}
 use Rattle.lent.specs.Model.{small}
-use Rattle.flash.specs.Bounded.{Bounded}
+use Rattle.flash.specs.Bounded.{Bounded, few-pages}
 use Rattle.flash.specs.Cases.{below?}
 use Rattle.flash.specs.Stores.{slot-below}
 use Rattle.flash.specs.Places.{block-on-chip}
@@ -45,9 +45,6 @@ pub record Words-lie (g : Geometry) (chip : List ℕ) (p : ℕ) : Type 0 where
 pub record Spare-lies (spare : List ℕ) (p : ℕ) : Type 0 where
   pub page-to : p < most-pages
   pub words : (p + 1) * spare-words ≤ length spare
-
-pub few-pages : {g : Geometry} → Bounded g → pages g ≤ most-pages
-few-pages {g} bounded = omega (arith, mul-le-mul-right (g .P) (bounded .blocks-to), bounded .P-to)
 
 pub words-lie : {g : Geometry} {chip : List ℕ} → Chip-lent g chip → (p : ℕ) → p < pages g → Words-lie g chip p
 words-lie {g} lent p h =

@@ -4,9 +4,9 @@ use native.Mathlib.Omega.{arith}
 use borrow.Author.Needs.{needs}
 use denote.Ref.{now}
 use Rattle.scope.specs.Regions.{Translation}
+use Rattle.flash.specs.Bounded.{accepted-bounded, accepted-region, region-few, owners-few}
 use Rattle.flash.specs.Tests.{decides-by}
 use Rattle.lent.specs.Model.{geometry}
-use Rattle.geometry.specs.Bounds.{region-small, owners-small}
 use Rattle.mapping.specs.Maps.{map-decided}
 use Rattle.mapping.proofs.directory.directory_names.Statement.{statement}
 use Rattle.mapping.proofs.directory.directory_names.Tie as tie
@@ -31,8 +31,8 @@ map-names-requires c κs =
     let start = c .before .before .before .before .before in
     let g = geometry (start .args .g) in
     let pre = start .pre in (
-      (omega (arith, pre .1 .0, add-mul (g .D) (g .T) (g .P)), region-small g Translation (pre .0)),
-      omega (arith, pre .1 .1 .0, owners-small g Translation (pre .0)),
+      (omega (arith, pre .1 .0, add-mul (g .D) (g .T) (g .P)), region-few (accepted-bounded (pre .0)) Translation),
+      omega (arith, pre .1 .1 .0, owners-few (accepted-region (pre .0) Translation)),
     )
 
 returns : tie.Need-returns
