@@ -8,7 +8,7 @@ use Rattle.flash.specs.Cases.{same?}
 use Rattle.scope.specs.Geometry.{Geometry}
 use Rattle.scope.specs.Lent.{none, entry-words, logical-at}
 use Rattle.scope.specs.Cache.{without}
-use Rattle.cache.specs.Entries.{CacheEntry, put, placed, to-front, Stores, put-stores, placed-stores, to-front-entry, new-in-front}
+use Rattle.cache.specs.Entries.{CacheEntry, put-entry, placed, to-front, Stores, put-stores, placed-stores, to-front-entry, new-in-front}
 use Rattle.cache.specs.Ranks.{Has-rank}
 use Rattle.cache.specs.Holds.{Found, Hit, Miss, updated, Cache-holds, miss-not-cached, changed-holds, added-holds, dropped-holds}
 use Rattle.cache.specs.Order.{front-holds}
@@ -32,7 +32,7 @@ touched-holds g cache used m h l i r =
     }
   where
     below : i < g .C
-    below = omega (arith, r .in-use, h .fits .at-most)
+    below = omega (arith, r .in-use, h .entries .at-most)
 
 module _ (g : Geometry) (cache : List ℕ) (used : ℕ) (m : ℕ → Found) (h : Cache-holds g cache used m) where
   -- "Put the entry in front, unchanged": it is stored behind those in use, and comes to the front.
@@ -40,22 +40,22 @@ module _ (g : Geometry) (cache : List ℕ) (used : ℕ) (m : ℕ → Found) (h :
       → Holds-at g (l ∷ place ∷ 0 ∷ without used cache) (suc used) (updated m l (Hit place 0)) l 0
   entered-holds l place room miss below =
       rw (new-in-front (g .C) cache (h .long) used room e)
-      (touched-holds g (put used e cache) (suc used) (updated m l (Hit place 0))
-      (added-holds g cache used m h e (put used e cache) stores room (miss-not-cached g cache used m h l miss) below (omega arith))
+      (touched-holds g (put-entry used e cache) (suc used) (updated m l (Hit place 0))
+      (added-holds g cache used m h e (put-entry used e cache) stores room (miss-not-cached g cache used m h l miss) below (omega arith))
       l used (record { in-use = omega arith; is-l = ap (λ x. x .logical) (stores .here) }))
     where
       e : CacheEntry
       e = record { logical = l; physical = place; changed = 0 }
 
-      stores : Stores (g .C) used e cache (put used e cache)
+      stores : Stores (g .C) used e cache (put-entry used e cache)
       stores = put-stores (g .C) cache (h .long) used room e
 
   -- "Drop the last": its entry "becomes an unused one, *none* throughout".
   pub forgotten-holds : (i : ℕ) → suc i ≡ used
       → Cache-holds g (sets cache (i * entry-words) (none ∷ none ∷ none ∷ [])) i (updated m (logical-at i cache) Miss)
   forgotten-holds i last =
-      dropped-holds g cache used m h i e (put i e cache)
-      (put-stores (g .C) cache (h .long) i (omega (arith, h .fits .at-most)) e) last (refl, refl, refl)
+      dropped-holds g cache used m h i e (put-entry i e cache)
+      (put-stores (g .C) cache (h .long) i (omega (arith, h .entries .at-most)) e) last (refl, refl, refl)
     where
       e : CacheEntry
       e = record { logical = none; physical = none; changed = none }
@@ -66,7 +66,7 @@ module _ (g : Geometry) (cache : List ℕ) (used : ℕ) (m : ℕ → Found) (h :
     e = record { logical = l; physical = place; changed = 1 }
 
     stores : Stores (g .C) i e cache (placed i place cache)
-    stores = placed-stores (g .C) cache (h .long) i (omega (arith, r .in-use, h .fits .at-most)) l place (r .is-l)
+    stores = placed-stores (g .C) cache (h .long) i (omega (arith, r .in-use, h .entries .at-most)) l place (r .is-l)
 
     pub placed-holds : Cache-holds g (placed i place cache) used (updated m l (Hit place 1))
     placed-holds =

@@ -37,14 +37,14 @@ module _ (g : Geometry) (s : State) (m : ℕ → Found) (h : Holds-in g s m) whe
       let r = rank-found g (s .cache) (s .small .used) l k in
       rw (lt-ltb i (g .C) k) (ap (place-or (stored-in g s l)) (sym (h .hits i (r .in-use)) ∙ ap m (r .is-l))))
       (λ k.
-      let n = rank-missing g (s .cache) (s .small .used) l (h .fits .at-most) k in
+      let n = rank-missing g (s .cache) (s .small .used) l (h .entries .at-most) k in
       rw (le-ltb i (g .C) k) (ap (place-or (stored-in g s l)) (sym (h .misses l n))))
 
   pub agree-maps : Unchanged-agree g s → Agrees m (stored-in g s)
   agree-maps seven l place e =
       let a = hit-at g (s .cache) (s .small .used) m h l place 0 e in
       sym (a .physical)
-      ∙ seven (a .rank) (omega (arith, a .in-use, h .fits .at-most)) (a .in-use) (a .changed)
+      ∙ seven (a .rank) (omega (arith, a .in-use, h .entries .at-most)) (a .in-use) (a .changed)
       ∙ ap (stored-in g s) (a .logical)
 
   pub maps-agree : Agrees m (stored-in g s) → Unchanged-agree g s

@@ -42,7 +42,7 @@ module _ (g : Geometry) (s s′ : State) (m : ℕ → Found) (h : Holds-in g s m
   rests : (l : ℕ) → l < g .L → Rests-on-flash (m l) → stored-in g s′ l ≡ stored-in g s l
   rests l b r =
       same? l (logical-at i (s .cache))
-      (λ q. rw q (back .here ∙ seven i (omega (arith, h .fits .at-most)) (omega arith)
+      (λ q. rw q (back .here ∙ seven i (omega (arith, h .entries .at-most)) (omega arith)
       (subst Rests-on-flash (ap m q ∙ h .hits i (omega arith)) r)))
       (λ q. back .elsewhere l b q)
 

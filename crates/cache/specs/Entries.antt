@@ -29,8 +29,8 @@ abbrev pub words-of-entry : CacheEntry → List ℕ
 words-of-entry e = e .logical ∷ e .physical ∷ e .changed ∷ []
 
 -- An entry stored at a rank; another place, changed, for the entry at a rank; the entry at a rank brought to the front.
-abbrev pub put : ℕ → CacheEntry → List ℕ → List ℕ
-put i e cache = sets cache (i * entry-words) (words-of-entry e)
+abbrev pub put-entry : ℕ → CacheEntry → List ℕ → List ℕ
+put-entry i e cache = sets cache (i * entry-words) (words-of-entry e)
 
 abbrev pub placed : ℕ → ℕ → List ℕ → List ℕ
 placed i place cache = sets cache (i * entry-words + 1) (place ∷ 1 ∷ [])
@@ -116,47 +116,47 @@ module _ (n : ℕ) (cache : List ℕ) (long : length cache ≡ n * entry-words) 
 
   -- An entry stored at rank i stands there; the others stay.
   module _ (e : CacheEntry) where
-    put-splits : put i e cache ≡ before i cache ++ words-of-entry e ++ after i cache
+    put-splits : put-entry i e cache ≡ before i cache ++ words-of-entry e ++ after i cache
     put-splits = sets-eq (words-of-entry e) cache (i * entry-words) (omega arith)
 
-    put-splits-behind : put i e cache ≡ before i cache ++ (words-of-entry e ++ after i cache)
+    put-splits-behind : put-entry i e cache ≡ before i cache ++ (words-of-entry e ++ after i cache)
     put-splits-behind = put-splits ∙ append-assoc (before i cache) (words-of-entry e) (after i cache)
 
     length-through : length (before i cache ++ words-of-entry e) ≡ suc i * entry-words
     length-through = length-append (before i cache) (words-of-entry e) ∙ omega (arith, length-before)
 
-    put-words : entry-at i (put i e cache) ≡ words-of-entry e
+    put-words : entry-at i (put-entry i e cache) ≡ words-of-entry e
     put-words =
         ap (entry-at i) put-splits-behind
         ∙ ap (take entry-words) (drop-at (before i cache) (words-of-entry e ++ after i cache) (i * entry-words) length-before)
 
-    without-put : without i (put i e cache) ≡ without i cache
+    without-put : without i (put-entry i e cache) ≡ without i cache
     without-put = cc (front, rest)
       where
-        front : before i (put i e cache) ≡ before i cache
+        front : before i (put-entry i e cache) ≡ before i cache
         front =
             ap (before i) put-splits-behind
             ∙ take-at (before i cache) (words-of-entry e ++ after i cache) (i * entry-words) length-before
 
-        rest : after i (put i e cache) ≡ after i cache
+        rest : after i (put-entry i e cache) ≡ after i cache
         rest =
             ap (after i) put-splits
             ∙ drop-at (before i cache ++ words-of-entry e) (after i cache) (i * entry-words + entry-words)
             (omega (arith, length-through))
 
-    put-elsewhere : (j : ℕ) → j ≢ i → entry j (put i e cache) ≡ entry j cache
+    put-elsewhere : (j : ℕ) → j ≢ i → entry j (put-entry i e cache) ≡ entry j cache
     put-elsewhere j k =
-        same-entry j (put i e cache) j cache
+        same-entry j (put-entry i e cache) j cache
         (below? j i
         (λ b. ap (entry-at j) put-splits-behind ∙ entry-before j (words-of-entry e ++ after i cache) b)
         (λ b. ap (entry-at j) put-splits
         ∙ entry-after (suc i) j j (before i cache ++ words-of-entry e) length-through (omega arith) refl))
 
-    pub put-stores : Stores n i e cache (put i e cache)
+    pub put-stores : Stores n i e cache (put-entry i e cache)
     put-stores =
         record {
           long = length-sets cache (i * entry-words) (words-of-entry e) ∙ long;
-          here = entry-is i (put i e cache) e put-words;
+          here = entry-is i (put-entry i e cache) e put-words;
           elsewhere = put-elsewhere;
         }
 
@@ -185,5 +185,5 @@ module _ (n : ℕ) (cache : List ℕ) (long : length cache ≡ n * entry-words) 
       (λ b. rw (le-ltb j i b) (entry-after i j (suc j) (before i cache) length-before b (omega arith))))
 
   -- A new entry in front, in the place of the one at rank i: it is stored there, and brought to the front.
-  pub new-in-front : (e : CacheEntry) → words-of-entry e ++ without i cache ≡ to-front i (put i e cache)
-  new-in-front e = sym (ap (λ x. x ++ without i (put i e cache)) (put-words e) ∙ ap (λ x. words-of-entry e ++ x) (without-put e))
+  pub new-in-front : (e : CacheEntry) → words-of-entry e ++ without i cache ≡ to-front i (put-entry i e cache)
+  new-in-front e = sym (ap (λ x. x ++ without i (put-entry i e cache)) (put-words e) ∙ ap (λ x. words-of-entry e ++ x) (without-put e))

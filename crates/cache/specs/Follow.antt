@@ -36,7 +36,7 @@ pub record Followed (g : Geometry) (w : List Mapping) (l place : ℕ) (s : State
   pub heads : (r : Region) → Same-head r (s .small) (o .after .small)
   pub used : o .after .small .used ≡ s .small .used
   pub long : length (o .after .cache) ≡ cache-size g
-  pub fits : Entries-fit g (o .after .cache) (o .after .small .used)
+  pub entries : Entries-fit g (o .after .cache) (o .after .small .used)
   pub ranks : (i : ℕ) → logical-at i (o .after .cache) ≡ logical-at i (s .cache)
   pub agree : Unchanged-agree g (o .after)
   pub at-most-one : length (o .value) ≤ 1
@@ -58,7 +58,7 @@ module _ (g : Geometry) (w : List Mapping) (s : State) (long : length (s .cache)
         heads = set .step .heads;
         used = set .step .used;
         long = set .step .holds .long;
-        fits = set .step .holds .fits;
+        entries = set .step .holds .entries;
         ranks = set .ranks;
         agree = places .agree;
         at-most-one = omega arith;
@@ -99,7 +99,7 @@ module _ (g : Geometry) (w : List Mapping) (s : State) (long : length (s .cache)
         heads = λ r. head-same r refl;
         used = refl;
         long = long;
-        fits = fits;
+        entries = fits;
         ranks = λ i. refl;
         agree = seven;
         at-most-one = omega arith;

@@ -36,7 +36,7 @@ updated m l x k = cond (eqb k l) x (m k)
 -- A cache of the right size that keeps rule 5 and whose entries in use are what `m` says.
 pub record Cache-holds (g : Geometry) (cache : List ℕ) (used : ℕ) (m : ℕ → Found) : Type 0 where
   pub long : length cache ≡ cache-size g
-  pub fits : Entries-fit g cache used
+  pub entries : Entries-fit g cache used
   pub hits : (i : ℕ) → i < used → m (logical-at i cache) ≡ Hit (physical-at i cache) (changed-at i cache)
   pub misses : (l : ℕ) → Not-cached cache used l → m l ≡ Miss
 
@@ -55,7 +55,7 @@ unfolding lookup
 holds-lookup g cache used long fits =
     record {
       long = long;
-      fits = fits;
+      entries = fits;
       hits = λ i h. rw (rank-is g cache used (logical-at i cache) fits i h refl, lt-ltb i (g .C) (omega (arith, fits .at-most)));
       misses = λ l h. below? (rank-of g cache used l) (g .C)
           (λ k. absurd (h (rank-of g cache used l) (rank-found g cache used l k .in-use) (rank-found g cache used l k .is-l)))
@@ -69,7 +69,7 @@ module _ (g : Geometry) (cache : List ℕ) (used : ℕ) (m : ℕ → Found) (h :
 
   pub hit-at : (l place c : ℕ) → m l ≡ Hit place c → Hit-at cache used l place c
   hit-at l place c e =
-      cached? g cache used l (h .fits .at-most)
+      cached? g cache used l (h .entries .at-most)
       (λ r.
       let i = rank-of g cache used l in
       let q : Hit (physical-at i cache) (changed-at i cache) ≡ Hit place c = sym (h .hits i (r .in-use)) ∙ ap m (r .is-l) ∙ e in
@@ -77,13 +77,13 @@ module _ (g : Geometry) (cache : List ℕ) (used : ℕ) (m : ℕ → Found) (h :
       (λ n. absurd (hit-is-no-miss (sym e ∙ h .misses l n)))
 
   pub hit-below-L : (l place c : ℕ) → m l ≡ Hit place c → l < g .L
-  hit-below-L l place c e = let a = hit-at l place c e in rw (a .logical) at (h .fits .below-L (a .rank) (a .in-use))
+  hit-below-L l place c e = let a = hit-at l place c e in rw (a .logical) at (h .entries .below-L (a .rank) (a .in-use))
 
   -- The map is the one that is looked up.
   pub holds-found : (l : ℕ) → lookup g cache used l ≡ m l
   holds-found l =
-      let looked = holds-lookup g cache used (h .long) (h .fits) in
-      cached? g cache used l (h .fits .at-most)
+      let looked = holds-lookup g cache used (h .long) (h .entries) in
+      cached? g cache used l (h .entries .at-most)
       (λ r.
       let i = rank-of g cache used l in
       ap (lookup g cache used) (sym (r .is-l)) ∙ looked .hits i (r .in-use) ∙ sym (h .hits i (r .in-use)) ∙ ap m (r .is-l))
@@ -115,17 +115,17 @@ module _ (g : Geometry) (cache : List ℕ) (used : ℕ) (m : ℕ → Found) (h :
   stored-holds i e cache′ used′ st k grows most others alone same below small =
       record {
         long = st .long;
-        fits =
+        entries =
             record {
               at-most = most;
-              below-L = λ j u. each (λ x. x .logical < g .L) j u below (λ q v. h .fits .below-L j v);
+              below-L = λ j u. each (λ x. x .logical < g .L) j u below (λ q v. h .entries .below-L j v);
               different = λ a b ua ub q. same? a i
                   (λ p. same? b i (λ r. p ∙ sym r) (λ r. absurd (only b r ub a p (sym q))))
                   (λ p. same? b i (λ r. absurd (only a p ua b r q))
-                  (λ r. h .fits .different a b (others a ua p) (others b ub r)
+                  (λ r. h .entries .different a b (others a ua p) (others b ub r)
                   (sym (logical-elsewhere a p) ∙ q ∙ logical-elsewhere b r)));
-              changed-fits = λ j u. each (λ x. x .changed ≤ 1) j u small (λ q v. h .fits .changed-fits j v);
-              unused = λ j c u. subst Unused (sym (st .elsewhere j (omega arith))) (h .fits .unused j c (omega arith));
+              changed-fits = λ j u. each (λ x. x .changed ≤ 1) j u small (λ q v. h .entries .changed-fits j v);
+              unused = λ j c u. subst Unused (sym (st .elsewhere j (omega arith))) (h .entries .unused j c (omega arith));
             };
         hits = λ j u. each (Says (updated m (e .logical) new)) j u (updated-here m (e .logical) new)
             (λ q v. updated-elsewhere m (e .logical) new (logical-at j cache) (alone j v q) ∙ h .hits j v);
@@ -159,9 +159,9 @@ module _ (g : Geometry) (cache : List ℕ) (used : ℕ) (m : ℕ → Found) (h :
       → e .logical ≡ logical-at i cache → e .changed ≤ 1
       → Cache-holds g cache′ used (updated m (e .logical) (Hit (e .physical) (e .changed)))
   changed-holds i e cache′ st k same small =
-      stored-holds i e cache′ used st k (omega arith) (h .fits .at-most) (λ j u q. u)
-      (λ j u q r. q (h .fits .different j i u k (r ∙ same))) (λ u. sym same)
-      (rw same (h .fits .below-L i k)) small
+      stored-holds i e cache′ used st k (omega arith) (h .entries .at-most) (λ j u q. u)
+      (λ j u q r. q (h .entries .different j i u k (r ∙ same))) (λ u. sym same)
+      (rw same (h .entries .below-L i k)) small
 
   -- An entry for a page that is not cached is stored at the first unused rank.
   pub added-holds : (e : CacheEntry) (cache′ : List ℕ) → Stores (g .C) used e cache cache′ → used < g .C
@@ -177,19 +177,19 @@ module _ (g : Geometry) (cache : List ℕ) (used : ℕ) (m : ℕ → Found) (h :
   dropped-holds i e cache′ st last-one unused =
       record {
         long = st .long;
-        fits =
+        entries =
             record {
-              at-most = omega (arith, h .fits .at-most);
-              below-L = λ j u. subst (λ x. x .logical < g .L) (sym (stays j u)) (h .fits .below-L j (omega arith));
-              different = λ a b ua ub q. h .fits .different a b (omega arith) (omega arith)
+              at-most = omega (arith, h .entries .at-most);
+              below-L = λ j u. subst (λ x. x .logical < g .L) (sym (stays j u)) (h .entries .below-L j (omega arith));
+              different = λ a b ua ub q. h .entries .different a b (omega arith) (omega arith)
                   (sym (ap (λ x. x .logical) (stays a ua)) ∙ q ∙ ap (λ x. x .logical) (stays b ub));
-              changed-fits = λ j u. subst (λ x. x .changed ≤ 1) (sym (stays j u)) (h .fits .changed-fits j (omega arith));
+              changed-fits = λ j u. subst (λ x. x .changed ≤ 1) (sym (stays j u)) (h .entries .changed-fits j (omega arith));
               unused = λ j c u. same? j i (λ q. rw q (subst Unused (sym (st .here)) unused))
-                  (λ q. subst Unused (sym (st .elsewhere j q)) (h .fits .unused j c (omega arith)));
+                  (λ q. subst Unused (sym (st .elsewhere j q)) (h .entries .unused j c (omega arith)));
             };
         hits = λ j u. subst (Says (updated m (logical-at i cache) Miss)) (sym (stays j u))
             (updated-elsewhere m (logical-at i cache) Miss (logical-at j cache)
-            (λ q. omega (arith, h .fits .different j i (omega arith) (omega arith) q)) ∙ h .hits j (omega arith));
+            (λ q. omega (arith, h .entries .different j i (omega arith) (omega arith) q)) ∙ h .hits j (omega arith));
         misses = λ l n. same? l (logical-at i cache)
             (λ q. rw q (updated-here m (logical-at i cache) Miss))
             (λ q. updated-elsewhere m (logical-at i cache) Miss l q

@@ -30,18 +30,18 @@ pub reordered-holds : (g : Geometry) (cache cache′ : List ℕ) (used : ℕ) (m
 reordered-holds g cache cache′ used m h long r =
     record {
       long = long;
-      fits =
+      entries =
           record {
-            at-most = h .fits .at-most;
-            below-L = λ j k. subst (λ e. e .logical < g .L) (sym (r .moved j k)) (h .fits .below-L (r .from j) (r .from-used j k));
+            at-most = h .entries .at-most;
+            below-L = λ j k. subst (λ e. e .logical < g .L) (sym (r .moved j k)) (h .entries .below-L (r .from j) (r .from-used j k));
             different = λ i j ki kj e.
                 sym (r .to-from i ki)
-                ∙ ap (r .to) (h .fits .different (r .from i) (r .from j) (r .from-used i ki) (r .from-used j kj)
+                ∙ ap (r .to) (h .entries .different (r .from i) (r .from j) (r .from-used i ki) (r .from-used j kj)
                 (sym (logical i ki) ∙ e ∙ logical j kj))
                 ∙ r .to-from j kj;
             changed-fits = λ j k.
-                subst (λ e. e .changed ≤ 1) (sym (r .moved j k)) (h .fits .changed-fits (r .from j) (r .from-used j k));
-            unused = λ j k u. subst Unused (sym (r .stayed j k u)) (h .fits .unused j k u);
+                subst (λ e. e .changed ≤ 1) (sym (r .moved j k)) (h .entries .changed-fits (r .from j) (r .from-used j k));
+            unused = λ j k u. subst Unused (sym (r .stayed j k u)) (h .entries .unused j k u);
           };
       hits = λ j k. subst (Says m) (sym (r .moved j k)) (h .hits (r .from j) (r .from-used j k));
       misses = λ l n. h .misses l (λ i k e. n (r .to i) (r .to-used i k)
@@ -114,5 +114,5 @@ front-reorders g cache used i long most h =
 pub front-holds : (g : Geometry) (cache : List ℕ) (used : ℕ) (m : ℕ → Found) (i : ℕ) → Cache-holds g cache used m → i < used
     → Cache-holds g (to-front i cache) used m
 front-holds g cache used m i h k =
-    reordered-holds g cache (to-front i cache) used m h (length-to-front (g .C) cache (h .long) i (omega (arith, h .fits .at-most)))
-    (front-reorders g cache used i (h .long) (h .fits .at-most) k)
+    reordered-holds g cache (to-front i cache) used m h (length-to-front (g .C) cache (h .long) i (omega (arith, h .entries .at-most)))
+    (front-reorders g cache used i (h .long) (h .entries .at-most) k)

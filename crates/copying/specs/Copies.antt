@@ -10,12 +10,13 @@ use native.Mathlib.Omega.{arith}
 use lib.Dec.{eqb}
 use lib.ListN.{length, replicate}
 use Rattle.scope.specs.Counting.{count}
-use Rattle.scope.specs.Geometry.{Geometry, Accepted, pages}
+use Rattle.scope.specs.Geometry.{Geometry, pages}
 use Rattle.scope.specs.Regions.{Region, owners, page-in}
 use Rattle.scope.specs.SmallRecord.{next-offset}
 use Rattle.scope.specs.Lent.{none, valid, State, Mapping, directory-size, cache-size, is-valid}
 use Rattle.scope.specs.Operations.{Operation, Step, give}
 use Rattle.scope.specs.Room.{move-if-valid, move-pages}
+use Rattle.flash.specs.Bounded.{Region-bounded}
 use Rattle.flash.specs.Heads.{head-same}
 use Rattle.flash.specs.Counting.{count-upto}
 use Rattle.flash.specs.Places.{page-on-chip, page-in-region}
@@ -24,7 +25,6 @@ use Rattle.region.specs.Follower.{View, Invariant, Mover}
 use Rattle.region.specs.Apart.{waits-all}
 use Rattle.region.specs.Copied.{Copied, few-moved}
 use Rattle.region.specs.Starts.{Starts, copied-since}
-use Rattle.lent.specs.declared.Counts.{Counts as Counted}
 use Rattle.lent.specs.declared.Work.{Work}
 use Rattle.lent.specs.Model.{state, small}
 use Rattle.lent.specs.DoesLaws.{does-give, does-look-at, does-bind, does-value}
@@ -102,7 +102,7 @@ pub record Does-noting (m : Step (List Mapping)) (chip spare : List ℕ) (w : Wo
 
 -- The copies of block v's pages may begin, with the erased block opened.
 pub record Copy-ready (g : Geometry) (r : Region) (v : ℕ) (chip spare : List ℕ) (w : Work) : Type 0 where
-  pub accepted : Accepted g
+  pub bounds : Region-bounded g r
   pub places : ℕ → ℕ
   pub starts : Starts g r (noted-view places) (Noted-owners g r) v (flash-state g chip spare w)
   pub countable : Room-to-count (2 * (g .P - 1)) (w .counts)
@@ -147,7 +147,7 @@ module _ {g : Geometry} {r : Region} {v : ℕ} {chip₀ spare₀ : List ℕ} {w�
           let does = so-far .does (replicate (directory-size g) none) (replicate (cache-size g) none) in
           subst₂ (λ (x : List Mapping) (y : State). Copied g r (noted-view (ready .places)) (Noted-owners g r) v n s₀
           (record { value = x; after = y; did = did })) (does .value) (does .after)
-          (copied-since (noting g r (ready .places)) (ready .accepted) (ready .starts) n (so-far .upto))
+          (copied-since (noting g r (ready .places)) (ready .bounds) (ready .starts) n (so-far .upto))
 
       room : next-offset r (small (w .rec)) < g .P
       room = few-moved (so-far .upto) (ready .starts .some-invalid) so
@@ -159,10 +159,10 @@ module _ {g : Geometry} {r : Region} {v : ℕ} {chip₀ spare₀ : List ℕ} {w�
           (so-far .does (replicate (directory-size g) none) (replicate (cache-size g) none) .counting)
 
       pub copied-chip : Chip-lent g chip
-      copied-chip = record { accepted = ready .accepted; chip-fits = so .copying .lengths .chip-fits }
+      copied-chip = record { bounded = ready .bounds .bounded; chip-fits = so .copying .lengths .chip-fits }
 
       pub copied-spare : Spare-lent g spare
-      copied-spare = record { accepted = ready .accepted; spare-fits = so .copying .lengths .spare-fits }
+      copied-spare = record { bounded = ready .bounds .bounded; spare-fits = so .copying .lengths .spare-fits }
 
       pub copied-few : length moves < g .P
       copied-few = omega (arith, so .waiting, room)
@@ -194,7 +194,7 @@ module _ {g : Geometry} {r : Region} {v : ℕ} {chip₀ spare₀ : List ℕ} {w�
             spare-lent = copied-spare;
             on-chip = page-on-chip g r (page-in g v n) (page-in-region g r v n (ready .starts .in-region) h);
             next = record { in-region = so .copying .fits .in-region; room = room };
-            few = omega (arith, copied-few, ready .accepted .P-to);
+            few = omega (arith, copied-few, ready .bounds .bounded .P-to);
             countable = λ e. room-left 2 (2 * next-offset r (small (w .rec))) (omega arith)
                 (less-room (omega (arith, not-last h e)) (ready .countable));
           }

@@ -4,12 +4,13 @@ use mathlib.Core.Path.{_≡_, refl, subst₂}
 use mathlib.Core.List.{List, []}
 use native.Mathlib.Omega.{arith}
 use lib.ListN.{length, getD, replicate, length-replicate}
-use Rattle.scope.specs.Geometry.{Geometry, Accepted, blocks}
+use Rattle.scope.specs.Geometry.{Geometry, blocks}
 use Rattle.scope.specs.Regions.{Region, owners}
 use Rattle.scope.specs.SmallRecord.{open-block, next-offset}
 use Rattle.scope.specs.Lent.{none, State, chip-size, spare-size, directory-size, cache-size}
 use Rattle.scope.specs.Operations.{Counts, counts-add, counted, look, set-small, _>>=_}
 use Rattle.scope.specs.Room.{open-lowest, move-pages}
+use Rattle.flash.specs.Bounded.{Region-bounded}
 use Rattle.flash.specs.Listed.{cost-none}
 use Rattle.flash.specs.Places.{block-on-chip}
 use Rattle.flash.specs.Words.{Lengths}
@@ -39,7 +40,7 @@ module _ (g : Geometry) (r : Region) {s s′ : State} {c c′ : Counts} (d : Doe
 
 -- Block v is to be collected, in a region that holds with some map of its owners, and the counts have room for the copies.
 pub record Collect-ready (g : Geometry) (r : Region) (v : ℕ) (chip spare : List ℕ) (w : Work) : Type 0 where
-  pub accepted : Accepted g
+  pub bounds : Region-bounded g r
   pub chip-fits : length chip ≡ chip-size g
   pub spare-fits : length spare ≡ spare-size g
   pub places : ℕ → ℕ
@@ -82,11 +83,11 @@ module _ {g : Geometry} {r : Region} {v : ℕ} {chip spare : List ℕ} {w w₁ :
   pub copy-ready : Copy-ready g r v chip spare w₁
   copy-ready =
       record {
-        accepted = ready .accepted;
+        bounds = ready .bounds;
         places = ready .places;
         starts = subst₂ (Starts g r (noted-view (ready .places)) (Noted-owners g r)) (ready .chosen .found s refl)
             (opened-is g r (opened chip (replicate (directory-size g) none) (replicate (cache-size g) none)))
-            (collection-starts (noting g r (ready .places)) s (ready .accepted) lengths (ready .holds) (λ k z. absurd z)
+            (collection-starts (noting g r (ready .places)) s (ready .bounds) lengths (ready .holds) (λ k z. absurd z)
             (ready .chosen .full) (ready .chosen .few s refl) .0);
         countable = room-still (2 * (g .P - 1)) (ready .countable);
       }

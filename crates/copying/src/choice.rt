@@ -6,7 +6,7 @@ use steps::blocks::erased_blocks;
 use steps::blocks::next_offset;
 use steps::blocks::open_lowest;
 use steps::blocks::victim;
-ghost use Rattle.scope.specs.Geometry.{Accepted};
+ghost use Rattle.flash.specs.Bounded.{Bounded};
 ghost use Rattle.lent.specs.Model.{geometry, region};
 ghost use Rattle.words.specs.Census.{Census};
 ghost use Rattle.copying.specs.Choice.{Chosen};
@@ -21,7 +21,7 @@ pub enum Choice {
 
 // "If the open block's offset is below P, nothing. Else, if two or more blocks are wholly erased, open the lowest. Else collect."
 pub fn choose(work: Work, g: Geometry, r: Region, spare: &[u32], census: &[u32]) -> Choice
-    requires { ⌜ Accepted (geometry g) × Census (geometry g) (now spare) (now census) ⌝ }
+    requires { ⌜ Bounded (geometry g) × Census (geometry g) (now spare) (now census) ⌝ }
     ensures { λ x. ⌜ Chosen (geometry g) (region r) (now (spare .entry)) work x ⌝ }
 {
     let rec = work.rec;

@@ -16,7 +16,7 @@ use Rattle.scope.specs.Sound.{rank-of}
 use Rattle.scope.specs.Cache.{without}
 use Rattle.flash.specs.Stores.{getD-sets-outside}
 use Rattle.flash.specs.Cases.{same?, below?, and-true, clash, is-false}
-use Rattle.cache.specs.Entries.{CacheEntry, entry, put as put-entry, to-front, placed, put-stores, rank-before, length-to-front, to-front-entry, new-in-front}
+use Rattle.cache.specs.Entries.{CacheEntry, entry, put-entry, to-front, placed, put-stores, rank-before, length-to-front, to-front-entry, new-in-front}
 use Rattle.lent.specs.Notes.{filter-words}
 use Rattle.words.specs.Bitmap.{has, put, length-put, has-put-same, has-put-other}
 use Rattle.words.specs.Filter.{Filter, bit-of, bit-below}

@@ -8,6 +8,7 @@ pub mod Words
 pub mod Pages
 pub mod Kept
 pub mod Places
+pub mod Bounded
 pub mod Heads
 pub mod Owners
 pub mod SamePages

@@ -12,7 +12,7 @@ use Rattle.scope.specs.Geometry.{Geometry, pages, blocks}
 use Rattle.scope.specs.Lent.{none, erased, valid, invalid, State, spare-words, words-of, word-of, state-of, owner-of}
 use Rattle.scope.specs.Regions.{page-in}
 use Rattle.scope.specs.Operations.{Read, Program, Mark, Erase, apply}
-use Rattle.flash.specs.Stores.{getD-sets-inside, slot-below, record-kept, block-filled, block-kept}
+use Rattle.flash.specs.Stores.{getD-sets-inside, slot-below, slot-kept, block-filled, block-kept}
 use Rattle.flash.specs.Words.{Lengths, words-are, words-same, word-same}
 
 -- ---- pages as before
@@ -70,8 +70,8 @@ program-page g p k contents s len h w =
       owner = spare-word 1 (omega arith);
       words = words-are g p chip′ contents h (length-sets (s .chip) (p * g .W) contents ∙ len .chip-fits) w chip-word;
       others = λ q other. page-same g q (s .chip) (s .spare) chip′ spare′ (length-sets (s .chip) (p * g .W) contents)
-          (λ i l. record-kept (s .chip) (g .W) p q i none contents w l other)
-          (λ i l. record-kept (s .spare) spare-words p q i none (valid ∷ k ∷ []) refl l other);
+          (λ i l. slot-kept (s .chip) (g .W) p q i none contents w l other)
+          (λ i l. slot-kept (s .spare) spare-words p q i none (valid ∷ k ∷ []) refl l other);
     }
   where
     chip′ : List ℕ

@@ -1,5 +1,5 @@
--- Stores into a list that holds records of w words each, one after the other: word j of record p is at p * w + j.
--- Chip and spare are such lists, with w = W and w = spare-words; an operation stores a whole record, or all P of a block.
+-- Stores into a list that holds slots of w words each, one after the other: word j of slot p is at p * w + j.
+-- Chip and spare are such lists, with w = W and w = spare-words; an operation stores a whole slot, or all P of a block.
 use Prim.Native.Nat.{ℕ, zero, suc, _+_, _*_, _/_, _%_, _<_}
 use mathlib.Core.Path.{_≡_, refl, ap, _∙_}
 use mathlib.Core.Logic.{_≢_}
@@ -32,9 +32,9 @@ module _ {A : Type 0} where
       ap (λ (j : ℕ). getD (sets (set l i v) (suc i) vs) j d) (omega arith)
       ∙ getD-sets-inside (set l i v) (suc i) vs k d (omega arith) (omega (arith, length-set l i v))
 
--- ---- records of w words
+-- ---- slots of w words
 
--- The words of a record lie in the list; of two records none is shared.
+-- The words of a slot lie in the list; of two slots none is shared.
 pub slot-below : (w n p j : ℕ) → p < n → j < w → p * w + j < n * w
 slot-below w n p j h k = omega (arith, mul-le-mul-right w h)
 
@@ -44,16 +44,16 @@ slot-same w p q i j h k e =
     (λ l. omega (arith, mul-le-mul-right w l))
     (λ l. below? q p (λ m. omega (arith, mul-le-mul-right w m)) (λ m. omega arith))
 
--- Record i of the P from record b * P on, in words counted from the first.
+-- Slot i of the P from slot b * P on, in words counted from the first.
 pub slot-in-block : (w P b i j : ℕ) → (b * P + i) * w + j ≡ b * P * w + (i * w + j)
 slot-in-block w P b i j = omega (arith, add-mul (b * P) i w)
 
--- Where record p is stored, w words, the others keep theirs; records b * P to b * P + P - 1 are filled with one word, and the
+-- Where slot p is stored, w words, the others keep theirs; slots b * P to b * P + P - 1 are filled with one word, and the
 -- others keep theirs.
 module _ (l : List ℕ) (w : ℕ) where
-  pub record-kept : (p q j d : ℕ) (vs : List ℕ) → length vs ≡ w → j < w → q ≢ p
+  pub slot-kept : (p q j d : ℕ) (vs : List ℕ) → length vs ≡ w → j < w → q ≢ p
       → getD (sets l (p * w) vs) (q * w + j) d ≡ getD l (q * w + j) d
-  record-kept p q j d vs len h other =
+  slot-kept p q j d vs len h other =
       getD-sets-outside l (p * w) vs (q * w + j) d (λ k m e. other (slot-same w q p j k h (omega arith) e))
 
   pub block-filled : (P b i j v d : ℕ) → i < P → j < w → (b * P + i) * w + j < length l

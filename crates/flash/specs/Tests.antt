@@ -79,20 +79,20 @@ all-upto m n f le p = each-all m f (λ j k. all-each n f p j (omega arith))
 
 -- A loop that tests the numbers below n one after the other, at i: those before i have passed. The code's result of a test is r, and
 -- `if !r` stops.
-pub record Tested (n : ℕ) (f : ℕ → Bool) (i : ℕ) : Type 0 where
+pub record Passed-upto (n : ℕ) (f : ℕ → Bool) (i : ℕ) : Type 0 where
   pub within : i ≤ n
   pub fine : all i f ≡ true
 
-pub tested-none : (n : ℕ) (f : ℕ → Bool) → Tested n f 0
-tested-none n f = record { within = omega arith; fine = refl }
+pub passed-none : (n : ℕ) (f : ℕ → Bool) → Passed-upto n f 0
+passed-none n f = record { within = omega arith; fine = refl }
 
-pub tested-more : {f : ℕ → Bool} (n i : ℕ) (r : Bool) → Tested n f i → i < n → r ≡ f i → not r ≡ false → Tested n f (i + 1)
-tested-more n i r t h e p = record { within = omega arith; fine = rw add-one (true-and (t .fine) (passed e p)) }
+pub passed-more : {f : ℕ → Bool} (n i : ℕ) (r : Bool) → Passed-upto n f i → i < n → r ≡ f i → not r ≡ false → Passed-upto n f (i + 1)
+passed-more n i r t h e p = record { within = omega arith; fine = rw add-one (true-and (t .fine) (passed e p)) }
 
-pub tested-stops : {f : ℕ → Bool} (n i : ℕ) (r : Bool) → Tested n f i → i < n → r ≡ f i → not r ≡ true → false ≡ all n f
-tested-stops {f} n i r t h e p = sym (is-false (all n f) (λ q. clash (all-each n f q i h) (refused e p)))
+pub passed-stops : {f : ℕ → Bool} (n i : ℕ) (r : Bool) → Passed-upto n f i → i < n → r ≡ f i → not r ≡ true → false ≡ all n f
+passed-stops {f} n i r t h e p = sym (is-false (all n f) (λ q. clash (all-each n f q i h) (refused e p)))
 
-pub tested-done : {f : ℕ → Bool} (n i : ℕ) → Tested n f i → n ≤ i → true ≡ all n f
-tested-done {f} n i t h =
+pub passed-done : {f : ℕ → Bool} (n i : ℕ) → Passed-upto n f i → n ≤ i → true ≡ all n f
+passed-done {f} n i t h =
     let is : n ≡ i = omega (arith, t .within) in
     rw is (sym (t .fine))

@@ -11,6 +11,7 @@ use Rattle.scope.specs.Lent.{Mapping}
 use Rattle.scope.specs.Operations.{Erase, perform}
 use Rattle.scope.specs.Room.{make-room}
 use Rattle.scope.specs.Steps.{directory-names-it, directory-follows}
+use Rattle.flash.specs.Bounded.{accepted-region}
 use Rattle.region.specs.DirectoryFollows.{in-directory}
 use Rattle.region.specs.Apart.{waits-all, follow-each, directory-apart}
 use Rattle.lent.specs.declared.Work.{Work}
@@ -57,7 +58,7 @@ module _ {g : Geometry} {chip spare directory : List ℕ} {w : Work} {v : ℕ} (
   pub start-ready : Collect-ready g Translation v chip spare w
   start-ready =
       record {
-        accepted = ready .lent .accepted;
+        bounds = accepted-region (ready .lent .accepted) Translation;
         chip-fits = ready .lent .chip-fits;
         spare-fits = ready .lent .spare-fits;
         places = in-directory directory;

@@ -8,6 +8,7 @@ use Rattle.scope.specs.Geometry.{Geometry, Accepted}
 use Rattle.scope.specs.Regions.{Translation}
 use Rattle.scope.specs.Lent.{none, State, Mapping, chip-size, spare-size, directory-size, cache-size}
 use Rattle.scope.specs.Operations.{Step}
+use Rattle.flash.specs.Bounded.{accepted-bounded}
 use Rattle.flash.specs.Words.{Lengths}
 use Rattle.region.specs.Holds.{Region-holds}
 use Rattle.region.specs.DirectoryFollows.{in-directory}
@@ -44,10 +45,10 @@ pub record Index-lent (g : Geometry) (chip spare directory : List ℕ) : Type 0 
   pub directory-fits : length directory ≡ directory-size g
 
 pub chip-of : {g : Geometry} {chip spare directory : List ℕ} → Index-lent g chip spare directory → Chip-lent g chip
-chip-of lent = record { accepted = lent .accepted; chip-fits = lent .chip-fits }
+chip-of lent = record { bounded = accepted-bounded (lent .accepted); chip-fits = lent .chip-fits }
 
 pub spare-of : {g : Geometry} {chip spare directory : List ℕ} → Index-lent g chip spare directory → Spare-lent g spare
-spare-of lent = record { accepted = lent .accepted; spare-fits = lent .spare-fits }
+spare-of lent = record { bounded = accepted-bounded (lent .accepted); spare-fits = lent .spare-fits }
 
 pub index-lengths : {g : Geometry} {chip spare directory : List ℕ} (w : Work) → Index-lent g chip spare directory
     → Lengths g (index-state g chip spare directory w)

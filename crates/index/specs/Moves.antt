@@ -68,7 +68,7 @@ module _ {g : Geometry} {q t : ℕ} {chip : List ℕ} (lent : Chip-lent g chip) 
       let stored : chip₂ ≡ set chip₁ (q * g .W + translation-word g (m .logical)) (m .physical) =
       e ∙ (rw (eq-eqb (translation-page g (m .logical)) t of-t)) in
       record {
-        words = one-word-set g q (of-page g t w) m chip (words-of g q chip) (lent .accepted .W-from) long (before .words) stored
+        words = one-word-set g q (of-page g t w) m chip (words-of g q chip) (lent .bounded .W-from) long (before .words) stored
             ∙ ap result (sym (of-page-more g t w m of-t));
         as-long = ap length stored ∙ length-set chip₁ _ (m .physical) ∙ before .as-long;
       })
@@ -83,7 +83,7 @@ module _ {g : Geometry} {q t : ℕ} {chip : List ℕ} (lent : Chip-lent g chip) 
       result ms = sets chip (q * g .W) (set-words g ms (words-of g q chip))
 
       long : length (set-words g (of-page g t w) (words-of g q chip)) ≡ g .W
-      long = length-set-words (lent .accepted) (of-page g t w) (words-of g q chip) ∙ length-words-of g q chip on-chip (lent .chip-fits)
+      long = length-set-words g (of-page g t w) (words-of g q chip) ∙ length-words-of g q chip on-chip (lent .chip-fits)
 
 -- ---- the next translation page touched
 

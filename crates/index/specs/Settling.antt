@@ -3,14 +3,16 @@
 use Prim.Native.Nat.{ℕ, zero, suc, _+_, _*_, _-_, _≤_, _<_}
 use mathlib.Core.Path.{_≡_, refl, subst, _∙_}
 use mathlib.Core.List.{List, [], _∷_}
-use native.Mathlib.Nat.{mul-le-mul, mul-le-mul-left, add-zero, add-suc}
+use native.Mathlib.Nat.{mul-le-mul-left, add-zero, add-suc}
 use native.Mathlib.Numerals.{add-one}
 use native.Mathlib.Omega.{arith}
 use lib.ListN.{length}
-use Rattle.scope.specs.Geometry.{Geometry, Accepted, M, most-blocks, most-pages}
+use Rattle.scope.specs.Geometry.{Geometry, Accepted, M, most-pages}
+use Rattle.scope.specs.Regions.{Translation}
 use Rattle.scope.specs.Lent.{State, Mapping}
 use Rattle.scope.specs.Operations.{for}
 use Rattle.scope.specs.Steps.{of-page, update, update-touched, update-all}
+use Rattle.flash.specs.Bounded.{accepted-region, owners-few}
 use Rattle.flash.specs.Words.{Lengths}
 use Rattle.cache.specs.Waiting.{Waits, of-page-waits, waiting-below, waiting-below-le}
 use Rattle.promises.specs.Parts.{Index-holds, Index-fits}
@@ -23,10 +25,8 @@ use Rattle.index.specs.Moves.{Next-touched}
 use Rattle.index.specs.Writing.{Page-ready}
 
 -- There are few translation pages.
-pub M-small : {g : Geometry} → Accepted g → M g < most-pages
-M-small {g} ok =
-    let blocks : g .T - 1 ≤ most-blocks = omega (arith, ok .D+T-to) in
-    omega (arith, ok .M-to, mul-le-mul blocks (ok .P-to))
+pub M-small : {g : Geometry} → Accepted g → M g ≤ most-pages
+M-small ok = owners-few (accepted-region ok Translation)
 
 -- How many mappings wait for translation page t and those above it.
 abbrev left : Geometry → List Mapping → ℕ → ℕ

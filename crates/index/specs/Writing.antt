@@ -179,7 +179,7 @@ module _ {g : Geometry} {chip spare directory chip′ spare′ directory′ : Li
       ∙ part-of-sets (b .chip₁) (q * g .W) (g .W) words long (words-lie (chip-of (roomy ready (b .made) .lent)) q next-here .words) in
       e ∙ ap (λ (k : List ℕ). sets chip′ (q * g .W) (set-words g ms k)) in-page
       ∙ ap (λ (k : List ℕ). sets k (q * g .W) (set-words g ms words)) stored
-      ∙ sets-over (b .chip₁) (q * g .W) words (set-words g ms words) (length-set-words (ready .lent .accepted) ms words)
+      ∙ sets-over (b .chip₁) (q * g .W) words (set-words g ms words) (length-set-words g ms words)
       ∙ ap (λ (k : ℕ). sets (b .chip₁) (k * g .W) (set-words g ms words)) is-next
 
 -- ---- the page claimed, the former one marked, and the new one named

@@ -14,12 +14,12 @@ use Rattle.scope.specs.Laws.Decides.{Decides, by-same}
 use Rattle.scope.specs.Lent.{State, decode, logical-at, physical-at}
 use Rattle.scope.specs.Regions.{Data}
 use Rattle.scope.specs.Sound.{Owners-differ, Names, Entries-fit, Places-hold, Past-L, rank-of, stored, current}
+use Rattle.flash.specs.Bounded.{accepted-bounded, region-few}
 use Rattle.flash.specs.Cases.{on, and-true, true-and}
 use Rattle.flash.specs.Counting.{count-same, count-split, count-into}
 use Rattle.flash.specs.Tests.{same-test, part-passed, part-refused}
 use Rattle.flash.specs.Owners.{Owners-fit, valid-in}
 use Rattle.cache.specs.Ranks.{rank-found, rank-is}
-use Rattle.geometry.specs.Bounds.{region-small}
 use Rattle.mapping.specs.Named.{owns, is-none, by-counts}
 use Rattle.mapping.specs.Tally.{nothing, Tallied}
 use Rattle.mapping.specs.Translated.{stored-none, stored-good, cached-none, cached-good, hidden-none, hidden-good}
@@ -159,4 +159,4 @@ module _ (g : Geometry) (s : State) (ok : Accepted g) (fit : Owners-fit g Data (
       && eqb (count (g .L) (λ l. owns first (g .D * g .P) (s .spare) l (current g s l))) (valid-in g Data (s .spare)))
       (Current-places g s))
       at-zero
-      (by-counts g Data (s .spare) (region-small g Data ok) (current g s) fit)))
+      (by-counts g Data (s .spare) (region-few (accepted-bounded ok) Data) (current g s) fit)))

@@ -61,7 +61,7 @@ module _ {g : Geometry} (ok : Accepted g) (l i : ℕ) where
         inv =
             record {
               index = index-same (f .flash) (f .directory) (f .heads Translation) (inv .index);
-              cache = record { entries = f .fits; agree = f .agree };
+              cache = record { entries = f .entries; agree = f .agree };
               waiting = f .waiting;
               rank = record { in-use = rw (f .used) (inv .rank .in-use); is-l = f .ranks i ∙ inv .rank .is-l };
             };

@@ -50,14 +50,14 @@ none-past g chip directory none-there t q i h e k l =
 abbrev pub Mappings-of : Geometry → ℕ → List Mapping → Type 0
 Mappings-of g t ms = (l : ℕ) → Waits ms l → (l < g .L) × (translation-page g l ≡ t)
 
-module _ {g : Geometry} (ok : Accepted g) where
-  pub length-set-words : (ms : List Mapping) (words : List ℕ) → length (set-words g ms words) ≡ length words
-  unfolding set-words
-  length-set-words [] words = refl
-  length-set-words (m ∷ ms) words =
-      length-set-words ms (set words (translation-word g (m .logical)) (m .physical))
-      ∙ length-set words (translation-word g (m .logical)) (m .physical)
+pub length-set-words : (g : Geometry) (ms : List Mapping) (words : List ℕ) → length (set-words g ms words) ≡ length words
+unfolding set-words
+length-set-words g [] words = refl
+length-set-words g (m ∷ ms) words =
+    length-set-words g ms (set words (translation-word g (m .logical)) (m .physical))
+    ∙ length-set words (translation-word g (m .logical)) (m .physical)
 
+module _ {g : Geometry} (ok : Accepted g) where
   -- The word of a logical page of translation page t is its latest mapping's.
   pub set-words-at : (t : ℕ) (ms : List Mapping) (words : List ℕ) → Mappings-of g t ms → length words ≡ g .W
       → (l : ℕ) → translation-page g l ≡ t

@@ -134,7 +134,7 @@ module _ {g : Geometry} (s : State) (len : Lengths g s) (sound : Sound g s) (i :
       record {
         kept = record {
           sound = kept-sound sound (step-index step (go .index))
-              (record { entries = step .holds .fits; agree = d .places .agree }) pages
+              (record { entries = step .holds .entries; agree = d .places .agree }) pages
               (head-trans (go .only .rest .head) (step .heads Data))
               (d .places .places);
           lengths = step-lengths step (go .lengths);

@@ -15,6 +15,7 @@ use Rattle.scope.specs.Sound.{Names}
 use Rattle.scope.specs.Operations.{Read, Outcome, Step, apply, give, look, perform, set-directory, counted, _>>=_}
 use Rattle.scope.specs.Room.{read-page, program-next, make-room}
 use Rattle.scope.specs.Steps.{directory-names-it, directory-follows, begun, set-words, mark-old, update}
+use Rattle.flash.specs.Bounded.{accepted-region}
 use Rattle.flash.specs.Cases.{same?}
 use Rattle.flash.specs.Words.{Lengths, length-words-of}
 use Rattle.flash.specs.Places.{page-on-chip}
@@ -148,7 +149,7 @@ module _ (g : Geometry) (t : ℕ) (words : List ℕ) (s : State) (len : Lengths 
   unfolding writing directory-names-it set-directory _>>=_
   writing-law former ok room long e =
       named-law (program-next g Translation t words s) (mark-old g former (program-next g Translation t words s .after))
-      (page-written g Translation t words (in-directory (s .directory)) s ok len long (holds .fits) room
+      (page-written g Translation t words (in-directory (s .directory)) s (accepted-region ok Translation) len long (holds .fits) room
       (holds .maps) below former e)
 
 -- ---- update
@@ -231,7 +232,7 @@ module _ {g : Geometry} (ok : Accepted g) (t : ℕ) (ms : List Mapping) (s : Sta
       let b = begun g former (room .after) in
       let begins = begun-law g t former (room .after) (r .lengths) (r .holds .maps .names t below) in
       together room b (writing g t former (set-words g ms (b .value)) (b .after)) r begins
-      (written room r (b .after) (begins .same) (set-words g ms (b .value)) (length-set-words ok ms (b .value) ∙ begins .long))
+      (written room r (b .after) (begins .same) (set-words g ms (b .value)) (length-set-words g ms (b .value) ∙ begins .long))
     where
       written : (room : Outcome (Unit {0})) → Translation-room g s room → (x : State) → x ≡ room .after → (words : List ℕ)
           → length words ≡ g .W

@@ -17,6 +17,7 @@ use Rattle.scope.specs.Steps.{mark-old, cache-follows, translate}
 use Rattle.scope.specs.Replies.{DONE}
 use Rattle.scope.specs.Requests.{Replied, replied, write-steps}
 use Rattle.scope.specs.Sound.{current, Sound}
+use Rattle.flash.specs.Bounded.{accepted-region}
 use Rattle.flash.specs.Words.{Lengths}
 use Rattle.flash.specs.Listed.{cost, cost-++, cost-none}
 use Rattle.region.specs.Holds.{Holds, Renames, contents}
@@ -70,7 +71,7 @@ module _ {g : Geometry} (ok : Accepted g) (l i : ℕ) (buffer : List ℕ) (s : S
       record {
         sound = sound-from (follows .index)
             (written-holds w (holds .besides) (current g s₄) renames)
-            (record { entries = set .step .holds .fits; agree = places .agree });
+            (record { entries = set .step .holds .entries; agree = places .agree });
         lengths =
             record {
               chip-fits = w .lengths .chip-fits;
@@ -117,7 +118,7 @@ module _ {g : Geometry} (ok : Accepted g) (l i : ℕ) (buffer : List ℕ) (s : S
   placing-law room long =
       let q = program-next g Data l buffer s in
       let old = decode (physical-at i (q .after .cache)) in
-      let w = page-written g Data l buffer (current g s) s ok len long (holds .fits) room (holds .maps) below old
+      let w = page-written g Data l buffer (current g s) s (accepted-region ok Data) len long (holds .fits) room (holds .maps) below old
       (ap decode (sym old-page)) in
       let m = mark-old g old (q .after) in
       record {
@@ -179,6 +180,6 @@ module _ {g : Geometry} (ok : Accepted g) (l : ℕ) (buffer : List ℕ) (s : Sta
       let inv : Follows g l i [] s₁ =
       record { index = index-of sound₁; cache = cache-of sound₁; waiting = none-waits; rank = a .rank } in
       let r = make-room g Data (cache-follows g) s₁ in
-      let b = make-room-law (cache-follower ok l i) ok s₁ (a .kept .lengths) (data-of sound₁) inv in
+      let b = make-room-law (cache-follower ok l i) (accepted-region ok Data) s₁ (a .kept .lengths) (data-of sound₁) inv in
       together t r (placing g l i buffer (r .after)) a b
       (placing-law ok l i buffer (r .after) (b .lengths) (b .holds) (b .inv) below (b .room) long)

@@ -7,13 +7,14 @@ use mathlib.Core.List.{List, [], _∷_, _++_}
 use native.Mathlib.Omega.{arith}
 use native.Mathlib.Nat.{mul-le-mul-left}
 use lib.ListN.{length}
-use Rattle.scope.specs.Geometry.{Geometry, Accepted}
+use Rattle.scope.specs.Geometry.{Geometry}
 use Rattle.scope.specs.Regions.{Region, page-in, Has-block}
 use Rattle.scope.specs.SmallRecord.{open-block, next-offset, opened}
 use Rattle.scope.specs.Lent.{valid, decode, State, Mapping, state-of}
 use Rattle.scope.specs.Operations.{Erase, Outcome, apply, look, perform, set-small, _>>=_}
 use Rattle.scope.specs.Room.{Following, erased-blocks, victim, move-pages, open-lowest, collect}
 use Rattle.scope.specs.Laws.Applied.{Same-flash}
+use Rattle.flash.specs.Bounded.{Region-bounded}
 use Rattle.flash.specs.Words.{Lengths}
 use Rattle.flash.specs.Pages.{erase-block}
 use Rattle.flash.specs.Kept.{apply-keeps-lengths, apply-keeps-beside}
@@ -132,9 +133,9 @@ module _ {g : Geometry} {r : Region} {follow : Following} {settling : ℕ} {view
         costs = made .costs;
       }
 
-  pub collect-law : (s : State) → Accepted g → Lengths g s → Holds g r s (view [] s) → Inv [] s
+  pub collect-law : (s : State) → Region-bounded g r → Lengths g s → Holds g r s (view [] s) → Inv [] s
       → g .P ≤ next-offset r (s .small) → erased-blocks g r s < 2 → Room-made g r settling view Inv s (collect g r follow s)
-  collect-law s accepted lengths holds inv full few = rw collect-is made
+  collect-law s bounds lengths holds inv full few = rw collect-is made
     where
       v : ℕ
       v = victim g r s
@@ -143,13 +144,13 @@ module _ {g : Geometry} {r : Region} {follow : Following} {settling : ℕ} {view
       s₁ = opened-lowest g r s
 
       start : Starts g r view Inv v s₁ × Keeps g r view [] s [] s₁
-      start = collection-starts (F .mover) s accepted lengths holds inv full few
+      start = collection-starts (F .mover) s bounds lengths holds inv full few
 
       o : Outcome (List Mapping)
       o = move-pages g r follow v (g .P) s₁
 
       copied : Copied g r view Inv v (g .P) s₁ o
-      copied = copied-since (F .mover) accepted (start .0) (g .P) (omega arith)
+      copied = copied-since (F .mover) bounds (start .0) (g .P) (omega arith)
 
       made : Room-made g r settling view Inv s (collects g v o (follow .settled (o .value) (o .after)))
       made = room-made-after s s₁ _ (record { chip = refl; spare = refl }) (start .1)

@@ -8,7 +8,7 @@ use native.Mathlib.Omega.{arith}
 use lib.Dec.{eqb}
 use lib.ListN.{length, length-append}
 use Rattle.scope.specs.Counting.{count}
-use Rattle.scope.specs.Geometry.{Geometry, Accepted}
+use Rattle.scope.specs.Geometry.{Geometry}
 use Rattle.scope.specs.Regions.{Region, page-in, Has-block}
 use Rattle.scope.specs.SmallRecord.{open-block, next-offset}
 use Rattle.scope.specs.Lent.{valid, State, Mapping, state-of, is-valid}
@@ -16,6 +16,7 @@ use Rattle.scope.specs.Blocks.{valid-pages}
 use Rattle.scope.specs.Operations.{Outcome, give, _>>=_}
 use Rattle.scope.specs.Room.{Following, move-if-valid, move-pages}
 use Rattle.scope.specs.Laws.Applied.{flash-refl}
+use Rattle.flash.specs.Bounded.{Region-bounded}
 use Rattle.flash.specs.Cases.{last}
 use Rattle.flash.specs.Counting.{count-upto}
 use Rattle.flash.specs.Places.{page-in-region, page-in-same}
@@ -45,7 +46,7 @@ few-moved {g} {v = v} {n} {s} h room copied =
     omega (arith, copied .offset, count-upto n (g .P) (λ i. is-valid (page-in g v i) (s .spare)) h)
 
 module _ {g : Geometry} {r : Region} {follow : Following} {view : View} {Inv : Invariant}
-    (F : Mover g r follow view Inv) (accepted : Accepted g) (v : ℕ) (s : State)
+    (F : Mover g r follow view Inv) (bounds : Region-bounded g r) (v : ℕ) (s : State)
     (here : Has-block g r v) (closed : v ≢ open-block r (s .small)) (room : valid-pages g (s .spare) v < g .P) where
   copied-none : Copying g r view Inv [] s → next-offset r (s .small) ≡ 0
       → Copied g r view Inv v 0 s (record { value = []; after = s; did = [] })
@@ -92,4 +93,4 @@ module _ {g : Geometry} {r : Region} {follow : Following} {view : View} {Inv : I
   move-pages-law (suc n) h copying empty =
       let before = move-pages-law n (omega arith) copying empty in
       copied-next n (move-pages g r follow v n s) (move-if-valid g r follow (page-in g v n) (move-pages g r follow v n s .after)) h before
-      (move-if-valid-law F accepted (page-in g v n) _ _ (before .copying) (few-moved (omega arith) room before) (page-in-region g r v n here h))
+      (move-if-valid-law F bounds (page-in g v n) _ _ (before .copying) (few-moved (omega arith) room before) (page-in-region g r v n here h))

@@ -14,6 +14,7 @@ use Rattle.scope.specs.Operations.{Outcome, give, set-directory, _>>=_}
 use Rattle.scope.specs.Room.{make-room}
 use Rattle.scope.specs.Steps.{directory-names-it, directory-follows}
 use Rattle.scope.specs.Laws.Applied.{flash-refl}
+use Rattle.flash.specs.Bounded.{accepted-region}
 use Rattle.flash.specs.Words.{Lengths}
 use Rattle.flash.specs.Heads.{head-same, Same-rest, rest-same, rest-trans}
 use Rattle.flash.specs.SamePages.{Same-pages, same-refl, same-trans}
@@ -97,7 +98,7 @@ pub record Translation-room (g : Geometry) (s : State) (o : Outcome (Unit {0})) 
 pub translation-room-law : (g : Geometry) (s : State) → Accepted g → Lengths g s → Holds g Translation s (in-directory (s .directory))
     → Translation-room g s (make-room g Translation directory-follows s)
 translation-room-law g s accepted lengths holds =
-    let made = make-room-law (directory-follower g s) accepted s lengths holds start in
+    let made = make-room-law (directory-follower g s) (accepted-region accepted Translation) s lengths holds start in
     let s′ = make-room g Translation directory-follows s .after in
     record {
       holds = made .holds;

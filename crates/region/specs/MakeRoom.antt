@@ -6,13 +6,14 @@ use mathlib.Core.List.{[]}
 use native.Mathlib.Omega.{arith}
 use borrow.Author.Tests.{leb-true, leb-false, lt-ltb, le-ltb}
 use lib.Dec.{leb}
-use Rattle.scope.specs.Geometry.{Geometry, Accepted}
+use Rattle.scope.specs.Geometry.{Geometry}
 use Rattle.scope.specs.Regions.{Region}
 use Rattle.scope.specs.SmallRecord.{next-offset}
 use Rattle.scope.specs.Lent.{State}
 use Rattle.scope.specs.Operations.{Outcome, give, look, set-small, _>>=_}
 use Rattle.scope.specs.Room.{Following, erased-blocks, lowest-erased, open-lowest, open-or-collect, make-room}
 use Rattle.scope.specs.Laws.Applied.{flash-refl}
+use Rattle.flash.specs.Bounded.{Region-bounded}
 use Rattle.flash.specs.Cases.{on, below?}
 use Rattle.flash.specs.Words.{Lengths}
 use Rattle.flash.specs.Listed.{cost-none}
@@ -41,7 +42,7 @@ unfolding open-lowest _>>=_ look set-small
 open-lowest-is g r s = refl
 
 module _ {g : Geometry} {r : Region} {follow : Following} {settling : ℕ} {view : View} {Inv : Invariant}
-    (F : Follower g r follow settling view Inv) (accepted : Accepted g) (s : State) (lengths : Lengths g s)
+    (F : Follower g r follow settling view Inv) (bounds : Region-bounded g r) (s : State) (lengths : Lengths g s)
     (holds : Holds g r s (view [] s)) (inv : Inv [] s) where
   idle-law : next-offset r (s .small) < g .P → Room-made g r settling view Inv s (record { value = tt; after = s; did = [] })
   idle-law room =
@@ -69,7 +70,7 @@ module _ {g : Geometry} {r : Region} {follow : Following} {settling : ℕ} {view
           besides = subst (Besides g r (s .spare)) (sym (open-with r (lowest-erased g r s) 0 (s .small))) (two-erased g r s two _);
           maps = copying .maps;
         };
-        room = subst (λ n. n < g .P) (sym (offset-with r (lowest-erased g r s) 0 (s .small))) (accepted .P-from);
+        room = subst (λ n. n < g .P) (sym (offset-with r (lowest-erased g r s) 0 (s .small))) (bounds .bounded .P-from);
         keeps = keeps;
         inv = copying .inv;
         lengths = copying .lengths;
@@ -82,7 +83,7 @@ module _ {g : Geometry} {r : Region} {follow : Following} {settling : ℕ} {view
   open-or-collect-law full =
       on (leb 2 (erased-blocks g r s))
       (λ e. rw (e, open-lowest-is) (open-lowest-law full (leb-true 2 _ e)))
-      (λ e. rw e (collect-law F s accepted lengths holds inv full (leb-false 2 _ e)))
+      (λ e. rw e (collect-law F s bounds lengths holds inv full (leb-false 2 _ e)))
 
   pub make-room-law : Room-made g r settling view Inv s (make-room g r follow s)
   make-room-law =

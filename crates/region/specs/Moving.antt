@@ -7,7 +7,7 @@ use mathlib.Core.List.{List, [], _∷_, _++_, append-nil}
 use native.Mathlib.Omega.{arith}
 use lib.ListN.{length}
 use borrow.Author.Tests.{eqb-true, eqb-false}
-use Rattle.scope.specs.Geometry.{Geometry, Accepted}
+use Rattle.scope.specs.Geometry.{Geometry}
 use Rattle.scope.specs.Regions.{Region, owners, Has-page}
 use Rattle.scope.specs.SmallRecord.{open-block, next-offset}
 use Rattle.scope.specs.Lent.{valid, Place, decode, State, Mapping, words-of, state-of, owner-of, is-valid}
@@ -15,6 +15,7 @@ use Rattle.scope.specs.Operations.{Read, Outcome, apply, give, look, perform, _
 use Rattle.scope.specs.Room.{Following, read-page, program-next, move-page, move-if-valid}
 use Rattle.scope.specs.Steps.{mark-old}
 use Rattle.scope.specs.Laws.Applied.{flash-refl}
+use Rattle.flash.specs.Bounded.{Region-bounded}
 use Rattle.flash.specs.Cases.{on, same?}
 use Rattle.flash.specs.Words.{Lengths, length-words-of}
 use Rattle.flash.specs.Places.{page-on-chip, page-in-region}
@@ -80,7 +81,7 @@ unfolding move-page read-page mark-old _>>=_ look perform apply
 move-page-is g r follow p s = refl
 
 module _ {g : Geometry} {r : Region} {follow : Following} {view : View} {Inv : Invariant}
-    (F : Mover g r follow view Inv) (accepted : Accepted g) where
+    (F : Mover g r follow view Inv) (bounds : Region-bounded g r) where
   -- The parts as variables: page p was k's, and what follows has been told.
   moved-so : (p k : ℕ) (w : List Mapping) (s : State) (o : Outcome ℕ) (o′ : Outcome (Unit {0})) (m : Outcome (List Mapping))
       → decode (view w s k) ≡ Place p → Page-written g r k (words-of g p (s .chip)) (view w s) s o o′
@@ -160,7 +161,7 @@ module _ {g : Geometry} {r : Region} {follow : Following} {view : View} {Inv : I
       o′ = mark-old g (Place p) (o .after)
 
       wrote : Page-written g r k words (view w s) s o o′
-      wrote = page-written g r k words (view w s) s accepted (copying .lengths)
+      wrote = page-written g r k words (view w s) s bounds (copying .lengths)
           (length-words-of g p (s .chip) (page-on-chip g r p here) (copying .lengths .chip-fits))
           (copying .fits) room (copying .maps) owned (Place p) is-place
 

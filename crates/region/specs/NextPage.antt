@@ -6,7 +6,7 @@ use mathlib.Core.Logic.{_≢_}
 use mathlib.Core.List.{List, [], _∷_}
 use native.Mathlib.Omega.{arith}
 use lib.ListN.{length}
-use Rattle.scope.specs.Geometry.{Geometry, Accepted}
+use Rattle.scope.specs.Geometry.{Geometry}
 use Rattle.scope.specs.Regions.{Region, owners, page-in, Has-page}
 use Rattle.scope.specs.SmallRecord.{open-block, next-offset, advanced}
 use Rattle.scope.specs.Lent.{Entry, Place, Nowhere, decode, invalid, State, with-small, state-of, owner-of}
@@ -15,6 +15,7 @@ use Rattle.scope.specs.Room.{program-next}
 use Rattle.scope.specs.Steps.{mark-old}
 use Rattle.scope.specs.Sound.{Names}
 use Rattle.scope.specs.Laws.Applied.{flash-refl}
+use Rattle.flash.specs.Bounded.{Region-bounded}
 use Rattle.flash.specs.Words.{Lengths}
 use Rattle.flash.specs.Pages.{page-trans, Programmed, Marked, program-page, mark-page}
 use Rattle.flash.specs.Places.{page-on-chip, page-in-region}
@@ -94,7 +95,7 @@ pub written-elsewhere : {g : Geometry} {r : Region} {k : ℕ} {words : List ℕ}
 written-elsewhere w = record { pages = w .replacement .elsewhere; directory = w .directory; cache = w .cache; rest = w .rest }
 
 module _ (g : Geometry) (r : Region) (k : ℕ) (words : List ℕ) (view : ℕ → ℕ) (s : State)
-    (accepted : Accepted g) (lengths : Lengths g s) (full-page : length words ≡ g .W)
+    (bounds : Region-bounded g r) (lengths : Lengths g s) (full-page : length words ≡ g .W)
     (fits : Region-fits g r (s .chip) (s .spare) (open-block r (s .small)) (next-offset r (s .small)))
     (room : next-offset r (s .small) < g .P) (maps : Maps g r (s .spare) view) (owned : k < owners g r) where
   abbrev q : ℕ
@@ -128,7 +129,7 @@ module _ (g : Geometry) (r : Region) (k : ℕ) (words : List ℕ) (view : ℕ �
       → Replacement g r k words (s .chip) (s .spare) chip′ spare′ (open-block r (s .small)) (next-offset r (s .small)) view
   replaced {chip′} {spare′} old e did =
       replace-law g r k words (s .chip) (s .spare) chip′ spare′ (open-block r (s .small)) (next-offset r (s .small)) view
-      accepted fits room maps owned (rw e did)
+      bounds fits room maps owned (rw e did)
 
   pub page-written : (old : Entry) → decode (view k) ≡ old
       → Page-written g r k words view s (program-next g r k words s) (mark-old g old (program-next g r k words s .after))

@@ -5,15 +5,15 @@ use mathlib.Core.Path.{_≡_, refl, sym, ap, subst, _∙_}
 use mathlib.Core.Logic.{_≢_, _⊎_, ⊎-elim, inl, inr}
 use mathlib.Core.List.{List}
 use native.Mathlib.Omega.{arith}
-use native.Mathlib.Nat.{mul-le-mul}
 use borrow.Author.Tests.{ne-eqb}
-use Rattle.scope.specs.Geometry.{Geometry, Accepted}
+use Rattle.scope.specs.Geometry.{Geometry}
 use Rattle.scope.specs.Regions.{Region, owners, page-in, Has-page}
 use Rattle.scope.specs.Lent.{none, erased, valid, invalid, Entry, Place, Nowhere, decode, words-of, state-of, owner-of}
 use Rattle.scope.specs.Sound.{Page-fits, Pages-fit, Owners-differ, Names}
+use Rattle.flash.specs.Bounded.{Region-bounded, region-few}
 use Rattle.flash.specs.Cases.{same?, last}
 use Rattle.flash.specs.Pages.{Page-same}
-use Rattle.flash.specs.Places.{other, page-on-chip, page-other, page-in-region, page-in-same}
+use Rattle.flash.specs.Places.{other, page-other, page-in-region, page-in-same}
 use Rattle.flash.specs.SamePages.{Pages-same}
 use Rattle.region.specs.Holds.{Region-fits, Besides, Maps, Renames, contents, valid-page-named}
 use Rattle.region.specs.Carried.{page-fits-same, Owner-same, names-kept, contents-kept}
@@ -33,9 +33,9 @@ old? (Place o) p f g = same? o p (λ e. f (ap Place e)) (λ ne. g (λ e. ne (cc)
 old? Nowhere p f g = g (λ e. let z : _≡_ {A = ℕ} 0 1 = cc in omega arith)
 
 -- A page number is no *none*.
-pub place-of-page : (g : Geometry) (r : Region) (p : ℕ) → Accepted g → Has-page g r p → decode p ≡ Place p
-place-of-page g r p accepted here =
-    rw (ne-eqb p none (omega (arith, page-on-chip g r p here, mul-le-mul (accepted .D+T-to) (accepted .P-to))))
+pub place-of-page : (g : Geometry) (r : Region) (p : ℕ) → Region-bounded g r → Has-page g r p → decode p ≡ Place p
+place-of-page g r p bounds here =
+    rw (ne-eqb p none (omega (arith, here .1, region-few (bounds .bounded) r)))
 
 -- What a replacement gives; of the map, once it names the new page for k.
 pub record Replacement (g : Geometry) (r : Region) (k : ℕ) (words chip spare chip′ spare′ : List ℕ) (opened offset : ℕ)
@@ -65,7 +65,7 @@ programmed-fits {p = p} {spare = spare} state owner =
     not-erased e = ⊎-elim (λ h. omega arith) (λ h. omega arith) state
 
 module _ (g : Geometry) (r : Region) (k : ℕ) (words chip spare chip′ spare′ : List ℕ) (opened offset : ℕ) (view : ℕ → ℕ)
-    (accepted : Accepted g) (fits : Region-fits g r chip spare opened offset) (room : offset < g .P)
+    (bounds : Region-bounded g r) (fits : Region-fits g r chip spare opened offset) (room : offset < g .P)
     (maps : Maps g r spare view) (owned : k < owners g r)
     (did : Replaced g (page-in g opened offset) k words (decode (view k)) chip spare chip′ spare′) where
   abbrev q : ℕ
@@ -179,7 +179,7 @@ module _ (g : Geometry) (r : Region) (k : ℕ) (words chip spare chip′ spare�
       }
 
   new-place : (view′ : ℕ → ℕ) → Renames (owners g r) k q view view′ → decode (view′ k) ≡ Place q
-  new-place view′ renames = ap decode (renames .there) ∙ place-of-page g r q accepted here
+  new-place view′ renames = ap decode (renames .there) ∙ place-of-page g r q bounds here
 
   pub replace-law : Replacement g r k words chip spare chip′ spare′ opened offset view
   replace-law =

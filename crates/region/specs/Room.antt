@@ -10,13 +10,14 @@ use native.Mathlib.Omega.{arith}
 use lib.Dec.{eqb, ltb}
 use borrow.Author.Tests.{eqb-true, eqb-false, eq-eqb, ne-eqb, ltb-true, ltb-false, not-true, not-false}
 use Rattle.scope.specs.Counting.{count, some}
-use Rattle.scope.specs.Geometry.{Geometry, M, Accepted}
-use Rattle.scope.specs.Regions.{Region, Data, Translation, first-block, region-blocks, first-page, region-pages, owners, page-in, Has-block, Has-page}
+use Rattle.scope.specs.Geometry.{Geometry}
+use Rattle.scope.specs.Regions.{Region, first-block, region-blocks, first-page, region-pages, owners, page-in, Has-block, Has-page}
 use Rattle.scope.specs.Lent.{erased, valid, State, state-of, owner-of, is-valid}
 use Rattle.scope.specs.Blocks.{wholly-erased, no-erased-page, valid-pages}
 use Rattle.scope.specs.Sound.{Pages-fit, Owners-differ, Wholly-erased, Full}
 use Rattle.scope.specs.Room.{erased-blocks, lowest-erased, victim}
 use Rattle.scope.specs.Laws.Decided.{wholly-erased-decided, full-decided}
+use Rattle.flash.specs.Bounded.{Region-bounded}
 use Rattle.flash.specs.Cases.{on, same?, and-true, true-and, and-cases, clash, not-of-false}
 use Rattle.flash.specs.Counting.{some-found, none-some, sum, count-same, sum-same, count-blocks, count-one, count-split, pigeonhole, count-at-most-one}
 use Rattle.flash.specs.Searching.{lowest-found, fewest-found}
@@ -27,16 +28,15 @@ by-number : (g : Geometry) (r : Region) (X : ℕ → Type 0) → ((i : ℕ) → 
     → (b : ℕ) → Has-block g r b → X b
 by-number g r X each b h = subst X (omega (arith, h .0)) (each (b - first-block g r) (omega (arith, h .0, h .1)))
 
--- Accepted geometries leave a block and a page more than the owners need.
+-- A block and a page more than the owners need.
 room : (n P K : ℕ) → 2 ≤ n → 1 ≤ K → K ≤ (n - 1) * P - 1 → K + P < n * P
 room n P K h k l =
     let m : ℕ = n - 1 in
     let e : n ≡ suc m = omega arith in
     rw e (omega arith)
 
-pub room-left : (g : Geometry) (r : Region) → Accepted g → owners g r + g .P < region-blocks g r * g .P
-room-left g Data a = room (g .D) (g .P) (g .L) (a .D-from) (a .L-from) (a .L-to)
-room-left g Translation a = room (g .T) (g .P) (M g) (a .T-from) (a .M-from) (a .M-to)
+pub room-left : (g : Geometry) (r : Region) → Region-bounded g r → owners g r + g .P < region-blocks g r * g .P
+room-left g r bounds = room (region-blocks g r) (g .P) (owners g r) (bounds .blocks-from) (bounds .owners-from) (bounds .owners-to)
 
 -- By pigeonhole: valid pages have different owners (rule 2), all below `owners` (rule 1).
 pub valid-at-most-owners : (g : Geometry) (r : Region) (chip spare : List ℕ) → Pages-fit g r chip spare → Owners-differ g r spare
@@ -95,9 +95,9 @@ pub record Crowded (g : Geometry) (r : Region) (spare : List ℕ) (e : ℕ) : Ty
   pub others-full : (b : ℕ) → Has-block g r b → b ≢ e → Full g spare b
 
 -- The room argument: a full block with an invalid page.
-pub some-victim : (g : Geometry) (r : Region) (chip spare : List ℕ) (e : ℕ) → Accepted g
+pub some-victim : (g : Geometry) (r : Region) (chip spare : List ℕ) (e : ℕ) → Region-bounded g r
     → Pages-fit g r chip spare → Owners-differ g r spare → Crowded g r spare e → (v : ℕ) × Victim-law g r spare v
-some-victim g r chip spare e accepted fit differ crowded =
+some-victim g r chip spare e bounds fit differ crowded =
     on (some (region-blocks g r) room-in) found none-found
   where
     size : ℕ → ℕ
@@ -126,7 +126,7 @@ some-victim g r chip spare e accepted fit differ crowded =
     none-found h =
         absurd (omega (
           arith,
-          room-left g r accepted,
+          room-left g r bounds,
           valid-at-most-owners g r chip spare fit differ,
           valid-by-blocks g r spare,
           sum-but-one (region-blocks g r) (g .P) (e - first-block g r) size (λ i k apart.
@@ -237,8 +237,8 @@ is-crowded g r s opened offset fits (b, here, _, empty) all few =
           (λ e. ⊎-elim (λ h. absurd (apart (one-erased g r s few c _ in-c in-region h is-empty))) (λ h. h) (fits .others c in-c e));
     }
 
-pub victim-of-crowded : (g : Geometry) (r : Region) (s : State) (opened offset e : ℕ) → Accepted g
+pub victim-of-crowded : (g : Geometry) (r : Region) (s : State) (opened offset e : ℕ) → Region-bounded g r
     → Region-fits g r (s .chip) (s .spare) opened offset → Crowded g r (s .spare) e → Victim-law g r (s .spare) (victim g r s)
-victim-of-crowded g r s opened offset e accepted fits crowded =
-    let (v, good) = some-victim g r (s .chip) (s .spare) e accepted (fits .pages-fit) (fits .owners-differ) crowded in
+victim-of-crowded g r s opened offset e bounds fits crowded =
+    let (v, good) = some-victim g r (s .chip) (s .spare) e bounds (fits .pages-fit) (fits .owners-differ) crowded in
     victim-is-good g r s v good

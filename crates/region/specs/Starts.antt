@@ -4,13 +4,14 @@ use Prim.Native.Nat.{ℕ, _≤_, _<_}
 use mathlib.Core.Path.{_≡_, refl, sym, ap, subst, subst₂, _∙_}
 use mathlib.Core.Logic.{_≢_}
 use mathlib.Core.List.{List, []}
-use Rattle.scope.specs.Geometry.{Geometry, Accepted}
+use Rattle.scope.specs.Geometry.{Geometry}
 use Rattle.scope.specs.Regions.{Region, owners, page-in, Has-block}
 use Rattle.scope.specs.SmallRecord.{open-block, next-offset, opened}
 use Rattle.scope.specs.Lent.{erased, decode, State, Mapping, with-small, state-of}
 use Rattle.scope.specs.Blocks.{valid-pages}
 use Rattle.scope.specs.Sound.{Wholly-erased}
 use Rattle.scope.specs.Room.{Following, erased-blocks, lowest-erased, victim, move-pages}
+use Rattle.flash.specs.Bounded.{Region-bounded}
 use Rattle.flash.specs.Words.{Lengths}
 use Rattle.flash.specs.Heads.{opened-rest}
 use Rattle.flash.specs.SamePages.{same-refl}
@@ -66,22 +67,22 @@ pub record Starts (g : Geometry) (r : Region) (view : View) (Inv : Invariant) (v
 
 -- After n pages of it: the law of the definition.
 pub copied-since : {g : Geometry} {r : Region} {follow : Following} {view : View} {Inv : Invariant} {v : ℕ} {s : State}
-    → Mover g r follow view Inv → Accepted g → Starts g r view Inv v s → (n : ℕ) → n ≤ g .P
+    → Mover g r follow view Inv → Region-bounded g r → Starts g r view Inv v s → (n : ℕ) → n ≤ g .P
     → Copied g r view Inv v n s (move-pages g r follow v n s)
-copied-since {v = v} {s} F accepted starts n h =
-    move-pages-law F accepted v s (starts .in-region) (starts .closed) (starts .some-invalid) n h (starts .copying) (starts .empty)
+copied-since {v = v} {s} F bounds starts n h =
+    move-pages-law F bounds v s (starts .in-region) (starts .closed) (starts .some-invalid) n h (starts .copying) (starts .empty)
 
 -- It does where the open block is full and fewer than two are erased, and each owner's words are as they were.
 pub collection-starts : {g : Geometry} {r : Region} {follow : Following} {view : View} {Inv : Invariant}
-    → Mover g r follow view Inv → (s : State) → Accepted g → Lengths g s → Holds g r s (view [] s) → Inv [] s
+    → Mover g r follow view Inv → (s : State) → Region-bounded g r → Lengths g s → Holds g r s (view [] s) → Inv [] s
     → g .P ≤ next-offset r (s .small) → erased-blocks g r s < 2
     → Starts g r view Inv (victim g r s) (opened-lowest g r s) × Keeps g r view [] s [] (opened-lowest g r s)
-collection-starts {g} {r} {view = view} {Inv} F s accepted lengths holds inv full few = (
+collection-starts {g} {r} {view = view} {Inv} F s bounds lengths holds inv full few = (
   record {
     in-region = law .in-region;
-    closed = λ e. law .full 0 (accepted .P-from)
+    closed = λ e. law .full 0 (bounds .bounded .P-from)
         (subst (λ b. state-of (page-in g b 0) (s .spare) ≡ erased) (sym (e ∙ open-with r (lowest-erased g r s) 0 (s .small)))
-        (crowded .wholly-erased 0 (accepted .P-from)));
+        (crowded .wholly-erased 0 (bounds .bounded .P-from)));
     some-invalid = law .some-invalid;
     copying = opened-so .0;
     empty = offset-with r (lowest-erased g r s) 0 (s .small);
@@ -93,7 +94,7 @@ collection-starts {g} {r} {view = view} {Inv} F s accepted lengths holds inv ful
     crowded = is-crowded g r s _ _ (holds .fits) (holds .besides) full few
 
     law : Victim-law g r (s .spare) (victim g r s)
-    law = victim-of-crowded g r s _ _ _ accepted (holds .fits) crowded
+    law = victim-of-crowded g r s _ _ _ bounds (holds .fits) crowded
 
     opened-so : Copying g r view Inv [] (opened-lowest g r s) × Keeps g r view [] s [] (opened-lowest g r s)
     opened-so = open-lowest-keeps F s (record { fits = holds .fits; maps = holds .maps; inv = inv; lengths = lengths }) full

@@ -11,6 +11,7 @@ use Rattle.scope.specs.Geometry.{Geometry}
 use Rattle.scope.specs.Lent.{State, most-requests}
 use Rattle.scope.specs.Replies.{Size, right-sizes}
 use Rattle.scope.specs.Calls.{state-sizes, buffer-sizes}
+use Rattle.flash.specs.Tests.{and-assoc}
 
 -- The sizes of what a run of n requests lends: scope's `run-sizes` of lists of these lengths.
 abbrev pub sizes-of-run : Geometry → ℕ → ℕ → ℕ → List Size
@@ -67,14 +68,10 @@ module _ (g : Geometry) (s : State) where
       ≡ right-sizes (state-sizes g s) && run-right g n words answers others
   unfolding right-sizes
   with-run n words answers others =
-      regroup (right-sizes (state-sizes g s ++ sizes-of-run g n words answers)) (leb n most-requests) others
+      and-assoc (right-sizes (state-sizes g s ++ sizes-of-run g n words answers)) (leb n most-requests) others
       ∙ with-more (state-sizes g s) (sizes-of-run g n words answers) (leb n most-requests && others)
       ∙ ap (λ (b : Bool). right-sizes (state-sizes g s) && b) (last (eqb words (n * g .W)) (eqb answers n) (leb n most-requests))
     where
-      regroup : (a b c : Bool) → a && b && c ≡ a && (b && c)
-      regroup true b c = refl
-      regroup false b c = refl
-
       last : (a b c : Bool) → (a && (b && true)) && (c && others) ≡ c && (a && (b && others))
       last true true true = refl
       last true true false = refl

@@ -14,6 +14,7 @@ use Rattle.scope.specs.Cache.{set-entry}
 use Rattle.scope.specs.Steps.{cache-follows, translate}
 use Rattle.scope.specs.Replies.{DONE, UNWRITTEN}
 use Rattle.scope.specs.Requests.{Replied, replied, read-place, read-steps, write-steps}
+use Rattle.flash.specs.Bounded.{accepted-bounded, accepted-region}
 use Rattle.flash.specs.Places.{page-on-chip}
 use Rattle.flash.specs.Words.{Lengths}
 use Rattle.cache.specs.Ranks.{Has-rank}
@@ -108,7 +109,7 @@ pub place-ready : {l : ℕ} {g : Geometry} {s : State} {c : Counted} {chip spare
 place-ready a translates e long =
     let at = translated a translates in
     record {
-      chip-lent = record { accepted = a .ready .accepted; chip-fits = at .lengths .chip-fits };
+      chip-lent = record { bounded = accepted-bounded (a .ready .accepted); chip-fits = at .lengths .chip-fits };
       on-chip = λ p q. entry-on-chip at (a .below) p (sym e ∙ q);
       long = long;
       countable = countable-then a translates 1 (omega arith);
@@ -157,7 +158,7 @@ module _ {l : ℕ} {g : Geometry} {s s₁ : State} {x : ℕ} {c c₁ : Counted} 
       }
 
   made : Room-made g Data (update-bound g) (place-while g) (Follows g l x) s₁ (make-room g Data (cache-follows g) s₁)
-  made = make-room-law (cache-follower ok l x) ok s₁ (at .lengths) (data-of (at .sound))
+  made = make-room-law (cache-follower ok l x) (accepted-region ok Data) s₁ (at .lengths) (data-of (at .sound))
       (record { index = index-of (at .sound); cache = cache-of (at .sound); waiting = none-waits; rank = at .rank })
 
   pub writing-ready : {chip spare directory cache buffer : List ℕ} {w : Work}
@@ -165,8 +166,8 @@ module _ {l : ℕ} {g : Geometry} {s s₁ : State} {x : ℕ} {c c₁ : Counted} 
       → length buffer ≡ g .W → Writing-ready g x chip spare cache buffer w
   writing-ready {chip} {spare} {directory} {cache} {w = w} makes long =
       record {
-        chip-lent = record { accepted = ok; chip-fits = then .lengths .chip-fits };
-        spare-lent = record { accepted = ok; spare-fits = then .lengths .spare-fits };
+        chip-lent = record { bounded = accepted-bounded ok; chip-fits = then .lengths .chip-fits };
+        spare-lent = record { bounded = accepted-bounded ok; spare-fits = then .lengths .spare-fits };
         lies = entry-lies then;
         on-chip = entry-on-chip then (a .below);
         next = record {

@@ -13,6 +13,7 @@ use Rattle.scope.specs.Sound.{Sound, current}
 use Rattle.scope.specs.Operations.{Erase, look, perform, set-small, _>>=_}
 use Rattle.scope.specs.Room.{open-lowest, move-pages, make-room}
 use Rattle.scope.specs.Steps.{update-all, cache-follows}
+use Rattle.flash.specs.Bounded.{accepted-bounded, accepted-region}
 use Rattle.flash.specs.Listed.{cost}
 use Rattle.flash.specs.Words.{Lengths}
 use Rattle.cache.specs.Waiting.{Waits}
@@ -66,7 +67,7 @@ module _ {g : Geometry} {chip spare directory cache : List ℕ} {w : Work}
   pub start-ready : Collect-ready g Data v chip spare w
   start-ready =
       record {
-        accepted = ready .accepted;
+        bounds = accepted-region (ready .accepted) Data;
         chip-fits = ready .lengths .chip-fits;
         spare-fits = ready .lengths .spare-fits;
         places = current g s;
@@ -80,12 +81,12 @@ module _ {g : Geometry} {chip spare directory cache : List ℕ} {w : Work}
 
   begins : Starts g Data (place-while g) (Follows g l 0) v (opened-lowest g Data s)
   begins = subst (λ (x : ℕ). Starts g Data (place-while g) (Follows g l 0) x (opened-lowest g Data s)) (chosen .found s refl)
-      (collection-starts (cache-follower (ready .accepted) l 0 .mover) s (ready .accepted) (ready .lengths) (data-of (ready .sound))
-      (follows-first (ready .sound) (room-ready .some-used)) (chosen .full) (chosen .few s refl) .0)
+      (collection-starts (cache-follower (ready .accepted) l 0 .mover) s (accepted-region (ready .accepted) Data) (ready .lengths)
+      (data-of (ready .sound)) (follows-first (ready .sound) (room-ready .some-used)) (chosen .full) (chosen .few s refl) .0)
 
   copied : Copied g Data (place-while g) (Follows g l 0) v (g .P) (opened-lowest g Data s)
       (move-pages g Data (cache-follows g) v (g .P) (opened-lowest g Data s))
-  copied = copied-since (cache-follower (ready .accepted) l 0 .mover) (ready .accepted) begins (g .P) (omega arith)
+  copied = copied-since (cache-follower (ready .accepted) l 0 .mover) (accepted-region (ready .accepted) Data) begins (g .P) (omega arith)
 
   after-copying : let o = start-collect g Data (cache-follows g) v s in After-copying g (o .value) (o .after)
   unfolding start-collect open-lowest look set-small _>>=_
@@ -143,8 +144,8 @@ module _ {g : Geometry} {chip spare directory cache : List ℕ} {w : Work}
       erase-ready on-chip =
           let lengths : Lengths g (state chip₂ spare₂ directory₂ cache₁ (w₂ .rec)) =
           subst (Lengths g) (settles .after) (settled .lengths) in (
-            record { accepted = ready .accepted; chip-fits = lengths .chip-fits },
-            record { accepted = ready .accepted; spare-fits = lengths .spare-fits },
+            record { bounded = accepted-bounded (ready .accepted); chip-fits = lengths .chip-fits },
+            record { bounded = accepted-bounded (ready .accepted); spare-fits = lengths .spare-fits },
             on-chip,
             countable-after 1 (update-bound g * (g .P - 1))
                 (countable-after (1 + update-bound g * (g .P - 1)) (2 * (g .P - 1)) (less-room (omega arith) (ready .countable))

@@ -7,25 +7,25 @@ use Rattle.scope.specs.SmallRecord.{SmallRecord}
 use Rattle.scope.specs.Sound.{Owners-differ, Directory-names, Entries-fit, Places-hold, Unchanged-agree, Sound, current}
 use Rattle.lent.specs.Model.{state, small}
 use Rattle.lent.specs.declared.Record.{Record}
-use Rattle.survey.specs.Survey.{Region-holds}
+use Rattle.survey.specs.Survey.{Pages-and-blocks}
 use Rattle.mapping.specs.Stored.{parts}
 
 -- Rules 1 and 3 of each region, and rule 4, which rule 2 of the translation region is decided with.
-pub record Flash-holds (g : Geometry) (chip spare directory : List ℕ) (s : SmallRecord) : Type 0 where
-  pub in-data : Region-holds g Data chip spare s
-  pub in-translation : Region-holds g Translation chip spare s
+pub record Flash-rules (g : Geometry) (chip spare directory : List ℕ) (s : SmallRecord) : Type 0 where
+  pub in-data : Pages-and-blocks g Data chip spare s
+  pub in-translation : Pages-and-blocks g Translation chip spare s
   pub differ : Owners-differ g Translation spare
   pub names : Directory-names g spare directory
 
 -- Rules 5 to 7; rule 2 of the data region is decided with rule 6.
-pub record Cache-holds (g : Geometry) (chip spare directory cache : List ℕ) (used : ℕ) : Type 0 where
+pub record Cache-rules (g : Geometry) (chip spare directory cache : List ℕ) (used : ℕ) : Type 0 where
   pub entries : Entries-fit g cache used
   pub differ : Owners-differ g Data spare
   pub places : Places-hold g (parts chip spare directory cache used)
   pub agree : Unchanged-agree g (parts chip [] directory cache used)
 
 module _ (g : Geometry) (chip spare directory cache : List ℕ) (rec : Record) where
-  pub flash-of-sound : Sound g (state chip spare directory cache rec) → Flash-holds g chip spare directory (small rec)
+  pub flash-of-sound : Sound g (state chip spare directory cache rec) → Flash-rules g chip spare directory (small rec)
   flash-of-sound s =
       record {
         in-data = record { pages = s .rule-1 Data; blocks = s .rule-3 Data };
@@ -34,7 +34,7 @@ module _ (g : Geometry) (chip spare directory cache : List ℕ) (rec : Record) w
         names = s .rule-4;
       }
 
-  pub cache-of-sound : Sound g (state chip spare directory cache rec) → Cache-holds g chip spare directory cache (rec .used)
+  pub cache-of-sound : Sound g (state chip spare directory cache rec) → Cache-rules g chip spare directory cache (rec .used)
   unfolding current
   cache-of-sound s =
       record {
@@ -44,7 +44,7 @@ module _ (g : Geometry) (chip spare directory cache : List ℕ) (rec : Record) w
         agree = s .rule-7;
       }
 
-  pub sound-of-both : Flash-holds g chip spare directory (small rec) → Cache-holds g chip spare directory cache (rec .used)
+  pub sound-of-both : Flash-rules g chip spare directory (small rec) → Cache-rules g chip spare directory cache (rec .used)
       → Sound g (state chip spare directory cache rec)
   unfolding current
   sound-of-both f c =
@@ -58,7 +58,7 @@ module _ (g : Geometry) (chip spare directory cache : List ℕ) (rec : Record) w
         rule-7 = c .agree;
       }
     where
-      of-region : (r : Region) → Region-holds g r chip spare (small rec)
+      of-region : (r : Region) → Pages-and-blocks g r chip spare (small rec)
       of-region Data = f .in-data
       of-region Translation = f .in-translation
 

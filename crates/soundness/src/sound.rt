@@ -15,8 +15,8 @@ ghost use Rattle.flash.specs.Owners.{Owners-fit, valid-in};
 ghost use Rattle.lent.specs.Model.{geometry, state, small};
 ghost use Rattle.words.specs.Census.{Census};
 ghost use Rattle.words.specs.Filter.{Filter};
-ghost use Rattle.survey.specs.Survey.{Found};
-ghost use Rattle.soundness.specs.Whole.{Flash-holds, Cache-holds};
+ghost use Rattle.survey.specs.Survey.{Surveyed};
+ghost use Rattle.soundness.specs.Whole.{Flash-rules, Cache-rules};
 use lent::FILTER_WORDS;
 use lent::Geometry;
 use lent::Record;
@@ -42,7 +42,7 @@ fn flash_sound(
     requires { ⌜ length (now spare) ≡ spare-size (geometry g) ⌝ }
     requires { ⌜ length (now directory) ≡ directory-size (geometry g) ⌝ }
     requires { ⌜ blocks (geometry g) ≤ length (now census) ⌝ }
-    ensures { λ r. ⌜ Found r (Flash-holds (geometry g) (now (chip .entry)) (now (spare .entry)) (now (directory .entry)) (small rec))
+    ensures { λ r. ⌜ Surveyed r (Flash-rules (geometry g) (now (chip .entry)) (now (spare .entry)) (now (directory .entry)) (small rec))
         (valid-in (geometry g) Data (now (spare .entry)))
         (Census (geometry g) (now (spare .entry)) (now (census .exit))) ⌝ }
 {
@@ -78,7 +78,7 @@ fn cache_sound(
     requires { ⌜ Directory-names (geometry g) (now spare) (now directory) ⌝ }
     requires { ⌜ valid ≡ valid-in (geometry g) Data (now spare) ⌝ }
     ensures { λ r. ⌜ Decides r
-        (Cache-holds (geometry g) (now (chip .entry)) (now (spare .entry)) (now (directory .entry)) (now (cache .entry)) used) ⌝ }
+        (Cache-rules (geometry g) (now (chip .entry)) (now (spare .entry)) (now (directory .entry)) (now (cache .entry)) used) ⌝ }
     ensures { λ r. ⌜ (r ≡ true → Filter (now (cache .entry)) used (now (filter .exit))) ⌝ }
 {
     if !entries_fit(g, cache, used, filter) {

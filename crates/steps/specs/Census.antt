@@ -11,15 +11,16 @@ use lib.Dec.{eqb, ltb}
 use lib.ListN.{length, getD, set, length-set}
 use lib.Seq.{getD-set-same, getD-set-other}
 use Rattle.scope.specs.Counting.{count, lowest, fewest}
-use Rattle.scope.specs.Geometry.{Geometry, Accepted, most-pages-in-block, most-blocks, blocks, pages}
+use Rattle.scope.specs.Geometry.{Geometry, most-pages-in-block, most-blocks, blocks, pages}
 use Rattle.scope.specs.Regions.{Region, Data, Translation, first-block, region-blocks, page-in}
 use Rattle.scope.specs.Lent.{State, none, erased, valid, invalid, spare-words, state-of, with-state, with-claim, with-erased}
 use Rattle.scope.specs.Blocks.{wholly-erased}
 use Rattle.scope.specs.Room.{erased-blocks, lowest-erased, victim}
+use Rattle.flash.specs.Bounded.{Bounded}
 use Rattle.flash.specs.Cases.{same?, last, clash}
 use Rattle.flash.specs.Counting.{sum, sum-same, count-same}
 use Rattle.flash.specs.Searching.{Is-fewest, fewest-cases}
-use Rattle.flash.specs.Stores.{slot-below, slot-same, getD-sets-inside, record-kept, block-filled, block-kept}
+use Rattle.flash.specs.Stores.{slot-below, slot-same, getD-sets-inside, slot-kept, block-filled, block-kept}
 use Rattle.words.specs.Searches.{fewest-unique}
 use Rattle.words.specs.Census.{weight, weigh, Census, weighs-little, erased-told, full-told, valid-told}
 use Rattle.steps.specs.Lies.{Spare-lent, spare-lies}
@@ -57,7 +58,7 @@ module _ (n : ℕ) (f k : ℕ → Bool) (size size′ : ℕ → ℕ) (e : (i : �
       (fewest-cases n k size′))
       (fewest-cases n f size)
 
-module _ {g : Geometry} (ok : Accepted g) {spare census : List ℕ} (kept : Census g spare census) (r : Region) where
+module _ {g : Geometry} (bounded : Bounded g) {spare census : List ℕ} (kept : Census g spare census) (r : Region) where
   on-chip : (i : ℕ) → i < region-blocks g r → first-block g r + i < blocks g
   on-chip i h = in-region r h
     where
@@ -77,15 +78,15 @@ module _ {g : Geometry} (ok : Accepted g) {spare census : List ℕ} (kept : Cens
   blocks-few e f = few r e f
     where
       few : {first n : ℕ} (r : Region) → first ≡ first-block g r → n ≡ region-blocks g r → first + n ≤ most-blocks
-      few Data e f = omega (arith, ok .D+T-to)
-      few Translation e f = omega (arith, ok .D+T-to)
+      few Data e f = omega (arith, bounded .blocks-to)
+      few Translation e f = omega (arith, bounded .blocks-to)
 
   number : (i : ℕ) → i < region-blocks g r → getD census (first-block g r + i) 0 ≡ weigh g spare (first-block g r + i)
   number i h = kept .each (first-block g r + i) (on-chip i h)
 
   is-erased-block : (i : ℕ) → i < region-blocks g r
       → wholly-erased g spare (first-block g r + i) ≡ eqb (getD census (first-block g r + i) 0) (256 * g .P)
-  is-erased-block i h = erased-told g (ok .P-to) spare (first-block g r + i) ∙ ap (λ (x : ℕ). eqb x (256 * g .P)) (sym (number i h))
+  is-erased-block i h = erased-told g (bounded .P-to) spare (first-block g r + i) ∙ ap (λ (x : ℕ). eqb x (256 * g .P)) (sym (number i h))
 
   module _ {first n k : ℕ} (is-first : first ≡ first-block g r) (is-n : n ≡ region-blocks g r) (s : State) (lent : s .spare ≡ spare) where
     pub erased-counted : k ≡ count n (λ i. eqb (getD census (first + i) 0) (256 * g .P)) → erased-blocks g r s ≡ k
@@ -105,8 +106,8 @@ module _ {g : Geometry} (ok : Accepted g) {spare census : List ℕ} (kept : Cens
         rw (found, is-first, is-n, lent)
         (ap (λ (m : ℕ). first-block g r + m)
         (fewest-same (region-blocks g r) _ _ _ _
-        (λ i h. full-told g (ok .P-to) spare (first-block g r + i) ∙ ap (λ (x : ℕ). ltb x 256) (sym (number i h)))
-        (λ i h p. number i h ∙ valid-told g (ok .P-to) spare (first-block g r + i) p)))
+        (λ i h. full-told g (bounded .P-to) spare (first-block g r + i) ∙ ap (λ (x : ℕ). ltb x 256) (sym (number i h)))
+        (λ i h p. number i h ∙ valid-told g (bounded .P-to) spare (first-block g r + i) p)))
 
 -- ---- a page's state changed
 
@@ -145,7 +146,7 @@ claimed-restates p owner {spare} h e =
           ∙ getD-sets-inside spare (p * spare-words) (valid ∷ owner ∷ []) 0 none (omega arith) (omega arith);
       others = λ q other.
           ap (λ (k : ℕ). getD (with-claim p owner spare) k none) (omega arith)
-          ∙ record-kept spare spare-words p q 0 none (valid ∷ owner ∷ []) refl (omega arith) other
+          ∙ slot-kept spare spare-words p q 0 none (valid ∷ owner ∷ []) refl (omega arith) other
           ∙ ap (λ (k : ℕ). getD spare k none) (omega arith);
     })
 
@@ -201,7 +202,7 @@ module _ {g : Geometry} {spare census : List ℕ} (lent : Spare-lent g spare) (k
       record {
         inside = omega (arith, kept .long);
         has = rw (← its-state) (number-has kept b i h k);
-        little = number-little kept b i h k (lent .accepted .P-to);
+        little = number-little kept b i h k (lent .bounded .P-to);
       }
 
   restated : {x : ℕ} {spare′ census′ : List ℕ} → Restated q x spare spare′

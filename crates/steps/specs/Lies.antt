@@ -7,31 +7,32 @@ use native.Mathlib.Nat.{mul-le-mul-right, add-mul, mod-lt}
 use native.Mathlib.Numerals.{add-one}
 use native.Mathlib.Omega.{arith}
 use lib.ListN.{length}
-use Rattle.scope.specs.Geometry.{Geometry, Accepted, most-pages-in-block, most-pages, blocks, pages}
+use Rattle.scope.specs.Geometry.{Geometry, most-pages-in-block, most-pages, blocks, pages}
 use Rattle.scope.specs.Regions.{Region, Has-block, page-in}
 use Rattle.scope.specs.SmallRecord.{SmallRecord, open-block, next-offset, with-open, advanced}
 use Rattle.scope.specs.Lent.{spare-words, chip-size, spare-size, translation-word}
 use Rattle.lent.specs.declared.Record.{Record}
 use Rattle.lent.specs.Model.{small}
+use Rattle.flash.specs.Bounded.{Bounded, few-pages}
 use Rattle.flash.specs.Cases.{below?}
 use Rattle.flash.specs.Stores.{slot-below}
 use Rattle.flash.specs.Places.{block-on-chip}
 
--- A chip of the right size; a spare of the right size.
+-- A chip of the right size; a spare of the right size. What is lent may be a chip without translation blocks.
 pub record Chip-lent (g : Geometry) (chip : List ℕ) : Type 0 where
-  pub accepted : Accepted g
+  pub bounded : Bounded g
   pub chip-fits : length chip ≡ chip-size g
 
 pub record Spare-lent (g : Geometry) (spare : List ℕ) : Type 0 where
-  pub accepted : Accepted g
+  pub bounded : Bounded g
   pub spare-fits : length spare ≡ spare-size g
 
 -- So it stays where its length does.
 pub chip-still : {g : Geometry} {chip chip′ : List ℕ} → Chip-lent g chip → length chip′ ≡ length chip → Chip-lent g chip′
-chip-still lent e = record { accepted = lent .accepted; chip-fits = e ∙ lent .chip-fits }
+chip-still lent e = record { bounded = lent .bounded; chip-fits = e ∙ lent .chip-fits }
 
 pub spare-still : {g : Geometry} {spare spare′ : List ℕ} → Spare-lent g spare → length spare′ ≡ length spare → Spare-lent g spare′
-spare-still lent e = record { accepted = lent .accepted; spare-fits = e ∙ lent .spare-fits }
+spare-still lent e = record { bounded = lent .bounded; spare-fits = e ∙ lent .spare-fits }
 
 -- ---- pages
 
@@ -45,32 +46,29 @@ pub record Spare-lies (spare : List ℕ) (p : ℕ) : Type 0 where
   pub page-to : p < most-pages
   pub words : (p + 1) * spare-words ≤ length spare
 
-pub few-pages : {g : Geometry} → Accepted g → pages g ≤ most-pages
-few-pages {g} ok = omega (arith, mul-le-mul-right (g .P) (ok .D+T-to), ok .P-to)
-
 pub words-lie : {g : Geometry} {chip : List ℕ} → Chip-lent g chip → (p : ℕ) → p < pages g → Words-lie g chip p
 words-lie {g} lent p h =
     record {
-      page-to = omega (arith, few-pages (lent .accepted));
-      W-to = lent .accepted .W-to;
+      page-to = omega (arith, few-pages (lent .bounded));
+      W-to = lent .bounded .W-to;
       words = omega (arith, mul-le-mul-right (g .W) h, lent .chip-fits);
     }
 
 pub spare-lies : {g : Geometry} {spare : List ℕ} → Spare-lent g spare → (p : ℕ) → p < pages g → Spare-lies spare p
 spare-lies lent p h =
-    record { page-to = omega (arith, few-pages (lent .accepted)); words = omega (arith, lent .spare-fits) }
+    record { page-to = omega (arith, few-pages (lent .bounded)); words = omega (arith, lent .spare-fits) }
 
 -- A translation page's word for a logical page.
 pub record Word-lies (g : Geometry) (chip : List ℕ) (p l : ℕ) : Type 0 where
   pub page-to : p * g .W ≤ length chip
   pub word-to : translation-word g l < 512
-  pub place : p * g .W + translation-word g l < length chip
+  pub inside : p * g .W + translation-word g l < length chip
 
 pub word-lies : {g : Geometry} {chip : List ℕ} → Chip-lent g chip → (p l : ℕ) → p < pages g → Word-lies g chip p l
 word-lies lent p l h =
-    let below = mod-lt l (lent .accepted .W-from) in
+    let below = mod-lt l (lent .bounded .W-from) in
     let page = words-lie lent p h in
-    record { page-to = omega arith; word-to = omega arith; place = omega arith }
+    record { page-to = omega arith; word-to = omega arith; inside = omega arith }
 
 -- Two pages lie apart, or the first lies no nearer to the front.
 pub pages-apart : (w p q : ℕ) → (p * w + w ≤ q * w) ⊎ (q * w ≤ p * w)
@@ -91,13 +89,13 @@ pub block-lies : {g : Geometry} {chip spare : List ℕ} → Chip-lent g chip →
     → Block-lies g chip spare b
 block-lies {g} chip spare b h =
     let behind : b * g .P + g .P ≤ pages g = omega (arith, mul-le-mul-right (g .P) h) in
-    let most : g .P * g .W ≤ most-pages-in-block * g .W = mul-le-mul-right (g .W) (chip .accepted .P-to) in
+    let most : g .P * g .W ≤ most-pages-in-block * g .W = mul-le-mul-right (g .W) (chip .bounded .P-to) in
     let in-words : (b * g .P + g .P) * g .W ≤ pages g * g .W = mul-le-mul-right (g .W) behind in
     record {
-      P-to = chip .accepted .P-to;
-      W-to = chip .accepted .W-to;
-      first-to = omega (arith, few-pages (chip .accepted), chip .accepted .P-from);
-      size-to = omega (arith, chip .accepted .W-to);
+      P-to = chip .bounded .P-to;
+      W-to = chip .bounded .W-to;
+      first-to = omega (arith, few-pages (chip .bounded), chip .bounded .P-from);
+      size-to = omega (arith, chip .bounded .W-to);
       words = omega (arith, add-mul (b * g .P) (g .P) (g .W), chip .chip-fits);
       spares = omega (arith, spare .spare-fits);
     }
@@ -119,8 +117,8 @@ pub next-on-chip : {g : Geometry} {r : Region} {s : SmallRecord} → Has-next g 
 next-on-chip {g} {r} {s} h =
     slot-below (g .P) (blocks g) (open-block r s) (next-offset r s) (block-on-chip g r (open-block r s) (h .in-region)) (h .room)
 
-pub next-to : {g : Geometry} {r : Region} {s : SmallRecord} → Accepted g → Has-next g r s → next-page g r s < most-pages
-next-to ok h = omega (arith, few-pages ok, next-on-chip h)
+pub next-to : {g : Geometry} {r : Region} {s : SmallRecord} → Bounded g → Has-next g r s → next-page g r s < most-pages
+next-to bounded h = omega (arith, few-pages bounded, next-on-chip h)
 
 -- Its words lie in the chip, and its spare words in the spare.
 module _ {g : Geometry} {r : Region} {s : SmallRecord} (next : Has-next g r s) {q : ℕ} (is-next : q ≡ next-page g r s) where

@@ -8,13 +8,13 @@ use words::census::count_equal;
 use words::census::fewest_below;
 use words::census::lowest_equal;
 ghost use mathlib.Core.Path.{_≡_};
+ghost use Rattle.flash.specs.Bounded.{Bounded};
 ghost use Rattle.lent.specs.Model.{geometry, small, region};
 ghost use Rattle.scope.specs.Regions.{first-block, region-blocks};
 ghost use Rattle.scope.specs.SmallRecord.{open-block, next-offset, with-open};
 ghost use Rattle.scope.specs.Lent.{State};
 ghost use Rattle.scope.specs.Room.{erased-blocks, lowest-erased, victim, open-lowest};
 ghost use Rattle.lent.specs.Shapes.{Does-by-spare};
-ghost use Rattle.scope.specs.Geometry.{Accepted};
 ghost use Rattle.words.specs.Census.{Census};
 
 pub fn first_block(g: Geometry, r: Region) -> u32
@@ -74,7 +74,7 @@ pub fn with_open(rec: Record, r: Region, b: u32, offset: u32) -> Record
 
 // How many blocks are wholly erased.
 pub fn erased_blocks(g: Geometry, r: Region, spare: &[u32], census: &[u32]) -> u32
-    requires { ⌜ Accepted (geometry g) × Census (geometry g) (now spare) (now census) ⌝ }
+    requires { ⌜ Bounded (geometry g) × Census (geometry g) (now spare) (now census) ⌝ }
     ensures { λ n. ⌜ ((s : State) → s .spare ≡ now (spare .entry) → erased-blocks (geometry g) (region r) s ≡ n) ⌝ }
 {
     let first = first_block(g, r) as usize;
@@ -84,7 +84,7 @@ pub fn erased_blocks(g: Geometry, r: Region, spare: &[u32], census: &[u32]) -> u
 
 // The lowest of them.
 pub fn lowest_erased(g: Geometry, r: Region, spare: &[u32], census: &[u32]) -> u32
-    requires { ⌜ Accepted (geometry g) × Census (geometry g) (now spare) (now census) ⌝ }
+    requires { ⌜ Bounded (geometry g) × Census (geometry g) (now spare) (now census) ⌝ }
     ensures { λ b. ⌜ ((s : State) → s .spare ≡ now (spare .entry) → lowest-erased (geometry g) (region r) s ≡ b) ⌝ }
 {
     let first = first_block(g, r) as usize;
@@ -94,7 +94,7 @@ pub fn lowest_erased(g: Geometry, r: Region, spare: &[u32], census: &[u32]) -> u
 
 // The block to collect.
 pub fn victim(g: Geometry, r: Region, spare: &[u32], census: &[u32]) -> u32
-    requires { ⌜ Accepted (geometry g) × Census (geometry g) (now spare) (now census) ⌝ }
+    requires { ⌜ Bounded (geometry g) × Census (geometry g) (now spare) (now census) ⌝ }
     ensures { λ v. ⌜ ((s : State) → s .spare ≡ now (spare .entry) → victim (geometry g) (region r) s ≡ v) ⌝ }
 {
     let first = first_block(g, r) as usize;
@@ -104,7 +104,7 @@ pub fn victim(g: Geometry, r: Region, spare: &[u32], census: &[u32]) -> u32
 
 // The lowest wholly erased block becomes the open one.
 pub fn open_lowest(work: Work, g: Geometry, r: Region, spare: &[u32], census: &[u32]) -> Work
-    requires { ⌜ Accepted (geometry g) × Census (geometry g) (now spare) (now census) ⌝ }
+    requires { ⌜ Bounded (geometry g) × Census (geometry g) (now spare) (now census) ⌝ }
     ensures { λ x. ⌜ Does-by-spare (open-lowest (geometry g) (region r)) (now (spare .entry)) work tt x ⌝ }
 {
     let b = lowest_erased(g, r, spare, census);

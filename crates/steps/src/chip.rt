@@ -29,11 +29,12 @@ use words::spare::state_at;
 ghost use mathlib.Core.Path.{_≡_};
 ghost use Prim.Native.Nat.{ℕ, _+_, _*_, _≤_, _<_};
 ghost use lib.ListN.{length, set};
-ghost use Rattle.scope.specs.Geometry.{Accepted, blocks, pages};
+ghost use Rattle.scope.specs.Geometry.{blocks, pages};
 ghost use Rattle.scope.specs.Lent.{invalid, Place, spare-words, is-valid, with-state, translation-word};
 ghost use Rattle.scope.specs.Operations.{Erase, perform};
 ghost use Rattle.scope.specs.Room.{read-page, program-next};
 ghost use Rattle.scope.specs.Steps.{word-for};
+ghost use Rattle.flash.specs.Bounded.{Bounded};
 ghost use Rattle.lent.specs.Model.{geometry, small, region, entry};
 ghost use Rattle.lent.specs.Shapes.{Does-flash, Does-by-chip, Room-to-count};
 ghost use Rattle.steps.specs.Lies.{Chip-lent, Spare-lent, next-page, Has-next};
@@ -105,7 +106,7 @@ pub fn mark_old(g: Geometry, old: Entry, spare: &mut [u32], census: &mut [u32])
 
 // The open block's next page.
 pub fn next_page(rec: Record, g: Geometry, r: Region) -> u32
-    requires { ⌜ Accepted (geometry g) × Has-next (geometry g) (region r) (small rec) ⌝ }
+    requires { ⌜ Bounded (geometry g) × Has-next (geometry g) (region r) (small rec) ⌝ }
     ensures { λ q. ⌜ q ≡ next-page (geometry g) (region r) (small rec) ⌝ }
 {
     open_block(rec, r) * g.p + next_offset(rec, r)

@@ -108,10 +108,10 @@ block-fits : (P e : ℕ) (o A N : Bool) → A ≡ eqb e P → N ≡ eqb e 0
 block-fits P e true A N a n = or-right (eqb 0 P) refl
 block-fits P e false A N a n = sym (ap₂ (λ (x y : Bool). x || y) a n)
 
-found-more : (P total e : ℕ) (o b A : Bool) → 1 ≤ P → A ≡ eqb e P → eqb (cond o 0 e) P || eqb (cond o 0 e) 0 ≡ true
+surveyed-more : (P total e : ℕ) (o b A : Bool) → 1 ≤ P → A ≡ eqb e P → eqb (cond o 0 e) P || eqb (cond o 0 e) 0 ≡ true
     → eqb total 0 ≡ not b → eqb (total + cond o 0 e) 0 ≡ not (b || (not o && A))
-found-more P total e true b A h a whole found = rw (add-zero total, or-none b {b = false} refl) found
-found-more P total e false b A h a whole found =
+surveyed-more P total e true b A h a whole found = rw (add-zero total, or-none b {b = false} refl) found
+surveyed-more P total e false b A h a whole found =
     or-cases (eqb e P) (eqb e 0) whole
     (λ p.
     let is : e ≡ P = eqb-true e P p in
@@ -161,7 +161,7 @@ module _ (P first : ℕ) (spare : List ℕ) (opened : ℕ) where
       rw (add-one, is)
       (record {
         fit = true-and (s .fit) (sym (fits-at n) ∙ whole′);
-        found = found-more P total (erased-in P spare (first + n)) (eqb (first + n) opened) (besides P first spare opened n) (all P f) h
+        found = surveyed-more P total (erased-in P spare (first + n)) (eqb (first + n) opened) (besides P first spare opened n) (all P f) h
             (sym (all-counted P f)) whole′ (s .found);
         small = omega (arith, s .small, suc-mul n P, adds-most n);
       })

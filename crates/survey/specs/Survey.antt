@@ -30,7 +30,7 @@ use Rattle.survey.specs.declared.blocks.Survey.{Survey}
 -- ---- a region
 
 -- Rules 1 and 3 of a region.
-pub record Region-holds (g : Geometry) (r : Region) (chip spare : List ℕ) (small : SmallRecord) : Type 0 where
+pub record Pages-and-blocks (g : Geometry) (r : Region) (chip spare : List ℕ) (small : SmallRecord) : Type 0 where
   pub pages : Pages-fit g r chip spare
   pub blocks : Blocks-fit g r spare (open-block r small) (next-offset r small)
 
@@ -55,17 +55,17 @@ whole-reaches g r chip spare census chip-fits spare-fits census-fits =
     on-chip Translation = omega arith
 
 -- What a walk found: whether what it tests holds, and, where it does, a count, and what the census then has.
-pub record Found (s : Survey) (Holds : Type 0) (valid : ℕ) (Numbered : Type 0) : Type 0 where
+pub record Surveyed (s : Survey) (Holds : Type 0) (valid : ℕ) (Numbered : Type 0) : Type 0 where
   pub tells : Decides (s .fits) Holds
   pub counts : s .fits ≡ true → s .valid ≡ valid
   pub numbers : s .fits ≡ true → Numbered
 
 -- A walk that stopped early.
-pub found-broken : (s : Survey) {Holds : Type 0} (valid : ℕ) {Numbered : Type 0} → s .fits ≡ false → Decides false Holds → Found s Holds valid Numbered
-found-broken s valid fails refuses = record { tells = decides-by fails refuses; counts = λ p. clash p fails; numbers = λ p. clash p fails }
+pub surveyed-broken : (s : Survey) {Holds : Type 0} (valid : ℕ) {Numbered : Type 0} → s .fits ≡ false → Decides false Holds → Surveyed s Holds valid Numbered
+surveyed-broken s valid fails refuses = record { tells = decides-by fails refuses; counts = λ p. clash p fails; numbers = λ p. clash p fails }
 
-pub found-stopped : (s : Survey) (test : Bool) (valid : ℕ) {Numbered : Type 0} → s .fits ≡ false → false ≡ test → Found s (test ≡ true) valid Numbered
-found-stopped s test valid fails is = found-broken s valid fails (decides-test is)
+pub surveyed-stopped : (s : Survey) (test : Bool) (valid : ℕ) {Numbered : Type 0} → s .fits ≡ false → false ≡ test → Surveyed s (test ≡ true) valid Numbered
+surveyed-stopped s test valid fails is = surveyed-broken s valid fails (decides-test is)
 
 -- The pages of the row, counted from its first block's first.
 abbrev pub row-fits : ℕ → ℕ → ℕ → ℕ → List ℕ → List ℕ → ℕ → Bool
@@ -75,14 +75,14 @@ abbrev pub row-valid : ℕ → ℕ → List ℕ → ℕ → Bool
 row-valid P first spare j = is-valid (first * P + j) spare
 
 -- Scope's rules of a region are those of its row of blocks.
-pub found-region : (g : Geometry) (r : Region) (chip spare : List ℕ) (small : SmallRecord) (s : Survey) (limit : ℕ) {Numbered : Type 0} → limit ≡ owners g r
-    → Found s
+pub surveyed-region : (g : Geometry) (r : Region) (chip spare : List ℕ) (small : SmallRecord) (s : Survey) (limit : ℕ) {Numbered : Type 0} → limit ≡ owners g r
+    → Surveyed s
     (rule-3 (g .P) (first-block g r) (region-blocks g r) spare (open-block r small) (next-offset r small)
     && all (region-pages g r) (row-fits (g .W) limit (g .P) (first-block g r) chip spare) ≡ true)
     (count (region-pages g r) (row-valid (g .P) (first-block g r) spare))
     Numbered
-    → Found s (Region-holds g r chip spare small) (valid-in g r spare) Numbered
-found-region g r chip spare small s limit is f =
+    → Surveyed s (Pages-and-blocks g r chip spare small) (valid-in g r spare) Numbered
+surveyed-region g r chip spare small s limit is f =
     let blocks-decide =
     decides-by (rule-3-region g r spare (open-block r small) (next-offset r small)) (blocks-fit-decided g r spare (open-block r small) (next-offset r small)) in
     let pages-decide = decides-by (rule-1-region g r chip spare limit is) (pages-fit-decided g r chip spare) in

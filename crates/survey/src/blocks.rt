@@ -21,7 +21,7 @@ ghost use Rattle.flash.specs.Owners.{valid-in};
 ghost use Rattle.lent.specs.Model.{geometry, small as small-record};
 ghost use Rattle.survey.specs.Blocks.{open-fits, rule-3};
 ghost use Rattle.survey.specs.Census.{Taken, Taken-in};
-ghost use Rattle.survey.specs.Survey.{Found, Reaches, Region-holds, rules, row-fits, row-valid};
+ghost use Rattle.survey.specs.Survey.{Surveyed, Reaches, Pages-and-blocks, rules, row-fits, row-valid};
 
 // What a walk finds: whether the rules hold, and, where they do, how many pages are valid.
 pub struct Survey {
@@ -98,7 +98,7 @@ fn walk(
     requires { ⌜ (first + n) * p * w ≤ length (now chip) ⌝ }
     requires { ⌜ (first + n) * p * spare-words ≤ length (now spare) ⌝ }
     requires { ⌜ first + n ≤ length (now census) ⌝ }
-    ensures { λ r. ⌜ Found r (rules w limit p first (now (chip .entry)) (now (spare .entry)) opened n ≡ true)
+    ensures { λ r. ⌜ Surveyed r (rules w limit p first (now (chip .entry)) (now (spare .entry)) opened n ≡ true)
         (count (n * p) (row-valid p first (now (spare .entry))))
         (Taken p first n (now (spare .entry)) (now (census .entry)) (now (census .exit))) ⌝ }
 {
@@ -143,7 +143,7 @@ fn region_fits(
     requires { ⌜ (first + n) * p * w ≤ length (now chip) ⌝ }
     requires { ⌜ (first + n) * p * spare-words ≤ length (now spare) ⌝ }
     requires { ⌜ first + n ≤ length (now census) ⌝ }
-    ensures { λ r. ⌜ Found r
+    ensures { λ r. ⌜ Surveyed r
         (rule-3 p first n (now (spare .entry)) opened offset
         && all (n * p) (row-fits w limit p first (now (chip .entry)) (now (spare .entry))) ≡ true)
         (count (n * p) (row-valid p first (now (spare .entry))))
@@ -174,7 +174,7 @@ pub fn data_fits(
 ) -> Survey
     requires { ⌜ Accepted (geometry g) ⌝ }
     requires { ⌜ Reaches (geometry g) Data (now chip) (now spare) (now census) ⌝ }
-    ensures { λ r. ⌜ Found r (Region-holds (geometry g) Data (now (chip .entry)) (now (spare .entry)) (small-record small))
+    ensures { λ r. ⌜ Surveyed r (Pages-and-blocks (geometry g) Data (now (chip .entry)) (now (spare .entry)) (small-record small))
         (valid-in (geometry g) Data (now (spare .entry)))
         (Taken-in (geometry g) Data (now (spare .entry)) (now (census .entry)) (now (census .exit))) ⌝ }
 {
@@ -202,7 +202,7 @@ pub fn translation_fits(
 ) -> Survey
     requires { ⌜ Accepted (geometry g) ⌝ }
     requires { ⌜ Reaches (geometry g) Translation (now chip) (now spare) (now census) ⌝ }
-    ensures { λ r. ⌜ Found r (Region-holds (geometry g) Translation (now (chip .entry)) (now (spare .entry)) (small-record small))
+    ensures { λ r. ⌜ Surveyed r (Pages-and-blocks (geometry g) Translation (now (chip .entry)) (now (spare .entry)) (small-record small))
         (valid-in (geometry g) Translation (now (spare .entry)))
         (Taken-in (geometry g) Translation (now (spare .entry)) (now (census .entry)) (now (census .exit))) ⌝ }
 {

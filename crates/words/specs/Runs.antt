@@ -59,17 +59,17 @@ sets-own l at n h =
     sets-eq (take n (drop at l)) l at (omega arith) ∙ (rw (size, ← take-add at n l) (take-append-drop (at + n) l))
 
 -- The first n words of vs are stored in l₀, from `at` on.
-pub record Stored (l₀ : List ℕ) (at : ℕ) (vs l : List ℕ) (n : ℕ) : Type 0 where
+pub record Stored-upto (l₀ : List ℕ) (at : ℕ) (vs l : List ℕ) (n : ℕ) : Type 0 where
   pub up-to : n ≤ length vs
   pub words : l ≡ sets l₀ at (take n vs)
   pub as-long : length l ≡ length l₀
 
 module _ {l₀ : List ℕ} {at : ℕ} {vs : List ℕ} where
-  pub none-stored : Stored l₀ at vs l₀ 0
+  pub none-stored : Stored-upto l₀ at vs l₀ 0
   none-stored = record { up-to = omega arith; words = refl; as-long = refl }
 
-  pub one-stored : {l : List ℕ} {n i v : ℕ} → Stored l₀ at vs l n → n < length vs → i ≡ at + n → v ≡ getD vs n 0
-      → Stored l₀ at vs (set l i v) (n + 1)
+  pub one-stored : {l : List ℕ} {n i v : ℕ} → Stored-upto l₀ at vs l n → n < length vs → i ≡ at + n → v ≡ getD vs n 0
+      → Stored-upto l₀ at vs (set l i v) (n + 1)
   one-stored {l} {n} {i} {v} h k place value =
       record {
         up-to = omega arith;
@@ -81,11 +81,11 @@ module _ {l₀ : List ℕ} {at : ℕ} {vs : List ℕ} where
         as-long = length-set l i v ∙ h .as-long;
       }
 
-  pub all-stored : {l : List ℕ} {n : ℕ} → Stored l₀ at vs l n → length vs ≤ n → l ≡ sets l₀ at vs
+  pub all-stored : {l : List ℕ} {n : ℕ} → Stored-upto l₀ at vs l n → length vs ≤ n → l ≡ sets l₀ at vs
   all-stored {l} {n} h k = h .words ∙ ap (sets l₀ at) (take-all n vs k)
 
   -- Before the run and past what is stored, nothing has changed.
-  pub stored-kept : {l : List ℕ} {n : ℕ} → Stored l₀ at vs l n → (j : ℕ) → (j < at) ⊎ (at + n ≤ j) → getD l j 0 ≡ getD l₀ j 0
+  pub stored-kept : {l : List ℕ} {n : ℕ} → Stored-upto l₀ at vs l n → (j : ℕ) → (j < at) ⊎ (at + n ≤ j) → getD l j 0 ≡ getD l₀ j 0
   stored-kept {l} {n} h j apart =
       let len : length (take n vs) ≡ n = length-take-le n vs (h .up-to) in
       ap (λ (x : List ℕ). getD x j 0) (h .words)

@@ -36,17 +36,17 @@ module _ (size : ℕ → ℕ) (limit n : ℕ) where
   abbrev f : ℕ → Bool
   f i = ltb (size i) limit
 
-  pub record Found (i at best : ℕ) : Type 0 where
+  pub record Some-best (i at best : ℕ) : Type 0 where
     pub fewest-one : Is-fewest i f size at
     pub its-size : best ≡ size at
 
-  pub record Not-found (i at best : ℕ) : Type 0 where
+  pub record No-best (i at best : ℕ) : Type 0 where
     pub fails : (k : ℕ) → k < i → f k ≡ false
     pub is-n : at ≡ n
     pub none : best ≡ limit
 
   abbrev pub Best-so-far : ℕ → ℕ → ℕ → Type 0
-  Best-so-far i at best = Found i at best ⊎ Not-found i at best
+  Best-so-far i at best = Some-best i at best ⊎ No-best i at best
 
   pub best-of-none : Best-so-far 0 n limit
   best-of-none = inr (record { fails = λ k h. absurd (omega arith); is-n = refl; none = refl })

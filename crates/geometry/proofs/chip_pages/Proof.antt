@@ -1,8 +1,7 @@
 -- `geometry::chip_pages` meets its contract.
 use native.Mathlib.Omega.{arith}
 use borrow.Author.Needs.{needs}
-use Rattle.lent.specs.Model.{geometry}
-use Rattle.geometry.specs.Bounds.{pages-most}
+use Rattle.flash.specs.Bounded.{accepted-bounded, few-pages}
 use Rattle.geometry.proofs.chip_pages.Statement.{statement}
 use Rattle.geometry.proofs.chip_pages.Tie as tie
 
@@ -19,7 +18,7 @@ cast-result-3 : tie.Need-cast-result-3
 cast-result-3 c = search needs
 
 mul-result : tie.Need-mul-result
-mul-result c = omega (arith, pages-most (geometry (c .before .before .before .args .g)) (c .before .before .before .pre))
+mul-result c = omega (arith, few-pages (accepted-bounded (c .before .before .before .pre)))
 
 returns : tie.Need-returns
 returns c = search needs

@@ -10,9 +10,9 @@ use borrow.Author.Tests.{eq-eqb, ne-eqb}
 use Rattle.scope.specs.Geometry.{most-pages}
 use Rattle.scope.specs.Lent.{chip-size, spare-size}
 use Rattle.scope.specs.Replies.{right-sizes}
+use Rattle.flash.specs.Bounded.{accepted-bounded, few-pages}
 use Rattle.flash.specs.Tests.{and-passed}
 use Rattle.lent.specs.Model.{geometry}
-use Rattle.geometry.specs.Bounds.{pages-most}
 use Rattle.geometry.proofs.sizes_right.Statement.{statement}
 use Rattle.geometry.proofs.sizes_right.Tie as tie
 
@@ -48,7 +48,7 @@ cast-if1 c = search needs
 mul-if1 : tie.Need-mul-if1
 mul-if1 c =
     let g = geometry (c .before .before .args .g) in
-    let few : c .before .chip-pages .result ≤ most-pages = omega (arith, pages-most g (c .before .before .pre), c .before .chip-pages .ensures) in
+    let few : c .before .chip-pages .result ≤ most-pages = omega (arith, few-pages (accepted-bounded (c .before .before .pre)), c .before .chip-pages .ensures) in
     omega (arith, mul-le-mul {n₁ = c .before .chip-pages .result} {m₁ = g .W} {n₂ = most-pages} {m₂ = 512} few (c .before .before .pre .W-to))
 
 returns : tie.Need-returns
@@ -56,7 +56,7 @@ unfolding right-sizes
 returns c = simp (ne-eqb _ _ (λ e. c .if1 .taken (e ∙ sym (chip-should (c .before)))))
 
 mul-if2 : tie.Need-mul-if2
-mul-if2 c = omega (arith, pages-most (geometry (c .before .before .before .args .g)) (c .before .before .before .pre), c .before .before .chip-pages .ensures)
+mul-if2 c = omega (arith, few-pages (accepted-bounded (c .before .before .before .pre)), c .before .before .chip-pages .ensures)
 
 returns-2 : tie.Need-returns-2
 unfolding right-sizes

@@ -1,5 +1,6 @@
 -- `index::update_one` meets its contract: the definition's steps, the one word set in the page that is programmed.
 use borrow.Author.Needs.{needs}
+use Rattle.flash.specs.Bounded.{accepted-bounded}
 use Rattle.index.specs.Index.{chip-of}
 use Rattle.index.specs.Writing.{page-ready, still-roomy, next-here, one-word, finish-ready, update-does}
 use Rattle.index.proofs.update_one.Statement.{statement}
@@ -17,7 +18,7 @@ next-page-requires : tie.Need-next-page-requires
 next-page-requires c κs =
     let begun = c .before .before .before .before .before .before .before .before .before in
     let ready = page-ready _ (begun .before .before .before .before .before .before .before .before .before .before .pre .0) in
-    (ready .lent .accepted, still-roomy ready (begun .begin .ensures .0) .next)
+    (accepted-bounded (ready .lent .accepted), still-roomy ready (begun .begin .ensures .0) .next)
 
 set-word-requires : tie.Need-set-word-requires
 set-word-requires c κs =

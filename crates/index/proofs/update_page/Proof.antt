@@ -1,5 +1,6 @@
 -- `index::update_page` meets its contract: the definition's steps, the words of all that waits set in the page that is programmed.
 use borrow.Author.Needs.{needs}
+use Rattle.flash.specs.Bounded.{accepted-bounded}
 use Rattle.index.specs.Index.{chip-of}
 use Rattle.index.specs.Writing.{still-roomy, next-here, all-words, finish-ready, update-does}
 use Rattle.index.proofs.update_page.Statement.{statement}
@@ -14,7 +15,7 @@ next-page-requires : tie.Need-next-page-requires
 next-page-requires c κs =
     let begun = c .before .before .before .before .before .before .before .before .before in
     let ready = begun .before .before .before .before .before .before .before .before .before .pre .0 in
-    (ready .lent .accepted, still-roomy ready (begun .begin .ensures .0) .next)
+    (accepted-bounded (ready .lent .accepted), still-roomy ready (begun .begin .ensures .0) .next)
 
 set-words-requires : tie.Need-set-words-requires
 set-words-requires c κs =

@@ -1,6 +1,7 @@
 -- `index::room::room` meets its contract: room is there or was made by the choice, or is by a collection.
 use mathlib.Core.Path.{subst}
 use borrow.Author.Needs.{needs}
+use Rattle.flash.specs.Bounded.{accepted-bounded}
 use Rattle.scope.specs.Regions.{Translation}
 use Rattle.scope.specs.Steps.{directory-follows}
 use Rattle.lent.specs.Model.{geometry}
@@ -13,7 +14,9 @@ abbrev start : tie.After-choose → tie.Start
 start c = c .before .before .before .before .before .before .before
 
 choose-requires : tie.Need-choose-requires
-choose-requires c κs = let begun = c .before .before .before .before .before .before in (begun .pre .0 .lent .accepted, begun .pre .1)
+choose-requires c κs =
+    let begun = c .before .before .before .before .before .before in
+    (accepted-bounded (begun .pre .0 .lent .accepted), begun .pre .1)
 
 enum-told : tie.Need-enum-told
 enum-told c = search needs

@@ -10,9 +10,10 @@ use Rattle.scope.specs.Geometry.{most-pages}
 use Rattle.scope.specs.Laws.Decides.{Decides}
 use Rattle.scope.specs.Lent.{is-valid}
 use Rattle.scope.specs.Regions.{Data, first-page, region-pages}
+use Rattle.flash.specs.Bounded.{accepted-bounded, accepted-region, region-few, owners-few}
 use Rattle.flash.specs.Counting.{count-le}
 use Rattle.lent.specs.Model.{geometry}
-use Rattle.geometry.specs.Bounds.{data-small, region-small, owners-small}
+use Rattle.geometry.specs.Bounds.{data-few}
 use Rattle.mapping.specs.Places.{Current-places, places-by-sums}
 use Rattle.mapping.specs.Stored.{parts}
 use Rattle.mapping.specs.Tally.{tallied-most}
@@ -39,7 +40,7 @@ tally-cached-requires c κs =
     let pre = c .before .before .before .before .before .before .before .pre in
     let few = pre .1 .1 .1 .1 .0 .at-most in (
       (omega (arith, few, pre .1 .0 .cache-fits), omega (arith, few, pre .0 .C-to)),
-      (omega (arith, pre .1 .0 .spare-fits, add-mul (g .D) (g .T) (g .P)), data-small g (pre .0)),
+      (omega (arith, pre .1 .0 .spare-fits, add-mul (g .D) (g .T) (g .P)), data-few (pre .0)),
     )
 
 tally-hidden-requires : tie.Need-tally-hidden-requires
@@ -59,12 +60,12 @@ sums-agree-requires c κs =
     let few = pre .1 .1 .1 .1 .0 .at-most in
     let valid-most = count-le (region-pages g Data) (λ i. is-valid (first-page g Data + i) (now (start .args .spare))) in (
       (
-        tallied-most _ _ most-pages _ _ (c .before .before .before .tally-stored .ensures) (owners-small g Data (pre .0)),
+        tallied-most _ _ most-pages _ _ (c .before .before .before .tally-stored .ensures) (owners-few (accepted-region (pre .0) Data)),
         tallied-most _ _ most-pages _ _ (c .before .before .tally-cached .ensures) (omega (arith, few, pre .0 .C-to)),
         tallied-most _ _ most-pages _ _ (c .before .tally-hidden .ensures) (omega (arith, few, pre .0 .C-to)),
       ),
-      owners-small g Data (pre .0),
-      omega (arith, pre .1 .1 .1 .1 .1, valid-most, region-small g Data (pre .0)),
+      owners-few (accepted-region (pre .0) Data),
+      omega (arith, pre .1 .1 .1 .1 .1, valid-most, region-few (accepted-bounded (pre .0)) Data),
     )
 
 returns : tie.Need-returns

@@ -5,8 +5,7 @@ use mathlib.Core.Path.{subst}
 use Prim.Native.Nat.{ℕ, _*_}
 use borrow.Author.Needs.{needs}
 use denote.Ref.{now}
-use Rattle.lent.specs.Model.{geometry}
-use Rattle.geometry.specs.Bounds.{data-small}
+use Rattle.geometry.specs.Bounds.{data-few}
 use Rattle.mapping.specs.Named.{owns, is-none}
 use Rattle.mapping.specs.Tally.{Tallied-word}
 use Rattle.mapping.proofs.places.hidden.Statement.{statement}
@@ -29,7 +28,7 @@ tallied-requires c κs =
     let a = c .before .before .before .before .before .before .args in
     let pre = c .before .before .before .before .before .before .pre in (
       pre .1 .1,
-      (omega (arith, pre .1 .0, add-mul (a .g .d) (a .g .t) (a .g .p)), data-small (geometry (a .g)) (pre .0)),
+      (omega (arith, pre .1 .0, add-mul (a .g .d) (a .g .t) (a .g .p)), data-few (pre .0)),
     )
 
 returns : tie.Need-returns

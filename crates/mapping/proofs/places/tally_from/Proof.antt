@@ -9,8 +9,9 @@ use denote.Ref.{now}
 use Rattle.scope.specs.Geometry.{M, most-pages}
 use Rattle.scope.specs.Lent.{Nowhere, named}
 use Rattle.scope.specs.Regions.{Translation}
+use Rattle.flash.specs.Bounded.{accepted-region, owners-few}
 use Rattle.lent.specs.Model.{geometry, entry}
-use Rattle.geometry.specs.Bounds.{data-small, owners-small}
+use Rattle.geometry.specs.Bounds.{data-few}
 use Rattle.mapping.specs.Tally.{room-less}
 use Rattle.mapping.specs.Translated.{held-by, pages-nowhere, page-place, page-starts, read-here, read-on-chip}
 use Rattle.mapping.proofs.places.tally_from.Statement.{statement}
@@ -80,7 +81,7 @@ mul-least c =
     omega (
       arith,
       mul-le-mul {n₁ = c .erased-run .result} {m₁ = g .W} {n₂ = most-pages} {m₂ = 512}
-          (omega (arith, run-ends c, owners-small g Translation ok)) (ok .W-to),
+          (omega (arith, run-ends c, owners-few (accepted-region ok Translation))) (ok .W-to),
     )
 
 cast-least : tie.Need-cast-least
@@ -106,7 +107,7 @@ returns c =
     record {
       goes-on = omega (arith, run .ensures .starts);
       ends = run-ends (c .before .before .before);
-      counted = pages-nowhere g ok (data-small g ok) (now (a .chip)) (now (a .spare)) (now (a .directory)) (a .t) (run .result) (a .sum) _
+      counted = pages-nowhere g ok (data-few ok) (now (a .chip)) (now (a .spare)) (now (a .directory)) (a .t) (run .result) (a .sum) _
           (nowhere told) (run .ensures)
           (ap (λ (k : ℕ). a .sum .nones + (k - a .t * a .g .w)) (c .before .least .ensures)) refl;
     }
@@ -157,7 +158,7 @@ returns-2 c =
     record {
       goes-on = omega arith;
       ends = omega (arith, pre .1 .1 .1 .1 .1);
-      counted = page-place g (pre .0) (data-small g (pre .0)) (now (a .chip)) (now (a .spare)) (now (a .directory)) (a .t) (a .sum) (c .tally-held .result) _
+      counted = page-place g (pre .0) (data-few (pre .0)) (now (a .chip)) (now (a .spare)) (now (a .directory)) (a .t) (a .sum) (c .tally-held .result) _
           (pre .1 .1 .1 .1 .1)
           (e ∙ read-here (now (a .directory)) (a .t) (omega (arith, pre .1 .1 .1 .0, pre .1 .1 .1 .1 .1)))
           (read-on-chip g (now (a .chip)) (now (a .directory)) (a .t) _ (pre .1 .0) (pre .1 .1 .1 .0) (pre .1 .1 .1 .1 .0) (pre .1 .1 .1 .1 .1) e)

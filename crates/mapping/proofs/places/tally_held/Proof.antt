@@ -7,8 +7,9 @@ use native.Mathlib.Nat.{add-mul}
 use borrow.Author.Needs.{needs}
 use denote.Ref.{now}
 use Rattle.scope.specs.Regions.{Data}
+use Rattle.flash.specs.Bounded.{accepted-region, owners-few}
 use Rattle.lent.specs.Model.{geometry}
-use Rattle.geometry.specs.Bounds.{data-small, owners-small}
+use Rattle.geometry.specs.Bounds.{data-few}
 use Rattle.mapping.specs.Tally.{Tallied-words}
 use Rattle.mapping.specs.Translated.{part-held, part-short}
 use Rattle.mapping.proofs.places.tally_held.Statement.{statement}
@@ -59,8 +60,8 @@ tally-words-requires c κs =
     let room = pre .1 .0 .2 in (
       record { nones-fit = omega (arith, short .0, room .nones-fit); good-fit = omega (arith, short .0, room .good-fit) },
       (
-        omega (arith, short .1, pre .1 .0 .1, owners-small g Data (pre .0)),
-        (omega (arith, pre .1 .1, add-mul (a .g .d) (a .g .t) (a .g .p)), data-small g (pre .0)),
+        omega (arith, short .1, pre .1 .0 .1, owners-few (accepted-region (pre .0) Data)),
+        (omega (arith, pre .1 .1, add-mul (a .g .d) (a .g .t) (a .g .p)), data-few (pre .0)),
       ),
     )
 

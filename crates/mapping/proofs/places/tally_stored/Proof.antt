@@ -4,8 +4,8 @@ use Prim.Native.Nat.{_+_, _-_, _≤_}
 use lib.ListN.{length}
 use denote.Ref.{now}
 use Rattle.scope.specs.Regions.{Data}
+use Rattle.flash.specs.Bounded.{accepted-region, owners-few}
 use Rattle.lent.specs.Model.{geometry}
-use Rattle.geometry.specs.Bounds.{owners-small}
 use Rattle.mapping.specs.Tally.{nothing, room-enough, tallied-room, most-counted}
 use Rattle.mapping.specs.Translated.{held-by, Tallied-pages, pages-start, pages-more, pages-done}
 use Rattle.mapping.proofs.places.tally_stored.Statement.{statement}
@@ -38,7 +38,7 @@ tally-from-requires c κs =
               start .pre .1 .1 .1 .1,
               omega (arith, start .pre .1 .1 .1 .0),
               tallied-room nothing (turn .sum) (held-by (geometry (a .g)) (turn .t)) (a .g .l + a .g .w) most-counted _ _ (turn .inv .1) room-enough
-                  (omega (arith, owners-small (geometry (a .g)) Data (start .pre .0), start .pre .0 .W-to)),
+                  (omega (arith, owners-few (accepted-region (start .pre .0) Data), start .pre .0 .W-to)),
             ),
           ),
         ),

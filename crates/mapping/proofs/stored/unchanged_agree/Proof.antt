@@ -2,20 +2,20 @@
 use Prim.Native.Nat.{_-_}
 use borrow.Author.Needs.{needs}
 use denote.Ref.{now}
-use Rattle.flash.specs.Tests.{decides-by, Tested, tested-none, tested-more, tested-stops, tested-done}
+use Rattle.flash.specs.Tests.{decides-by, Passed-upto, passed-none, passed-more, passed-stops, passed-done}
 use Rattle.lent.specs.Model.{geometry}
 use Rattle.mapping.specs.Stored.{agrees, agree-decided}
 use Rattle.mapping.proofs.stored.unchanged_agree.Statement.{statement}
 use Rattle.mapping.proofs.stored.unchanged_agree.Tie as tie
 
 abbrev Inv-loop : tie.InvT-loop
-Inv-loop g chip directory cache used n i₀ i = Tested n (agrees (geometry g) chip directory cache) i
+Inv-loop g chip directory cache used n i₀ i = Passed-upto n (agrees (geometry g) chip directory cache) i
 
 abbrev μ-loop : tie.MeasureT-loop
 μ-loop g chip directory cache used n i₀ i = n - i
 
 loop-holds : tie.Need-loop-holds Inv-loop μ-loop
-loop-holds c = tested-none _ _
+loop-holds c = passed-none _ _
 
 agrees-requires : tie.Need-agrees-requires Inv-loop μ-loop
 agrees-requires c κs = search needs
@@ -25,7 +25,7 @@ returns c =
     let start = c .before .before .before .before .before .before .before in
     let a = start .args in
     decides-by
-    (tested-stops _ _ (c .before .agrees .result) (c .before .before .before .loop .inv) (c .before .before .loop-test .taken)
+    (passed-stops _ _ (c .before .agrees .result) (c .before .before .before .loop .inv) (c .before .before .loop-test .taken)
     (c .before .agrees .ensures) (c .if1 .taken))
     (agree-decided (geometry (a .g)) (now (a .chip)) (now (a .directory)) (now (a .cache)) (a .used) (start .pre .1 .1))
 
@@ -37,13 +37,13 @@ loop-less c = search needs
 
 loop-again : tie.Need-loop-again Inv-loop μ-loop
 loop-again c =
-    tested-more _ _ (c .before .agrees .result) (c .before .before .before .loop .inv) (c .before .before .loop-test .taken)
+    passed-more _ _ (c .before .agrees .result) (c .before .before .before .loop .inv) (c .before .before .loop-test .taken)
     (c .before .agrees .ensures) (c .if1 .left)
 
 returns-2 : tie.Need-returns-2 Inv-loop μ-loop
 returns-2 c =
     let a = c .before .before .before .before .before .args in
-    decides-by (tested-done _ _ (c .before .loop .inv) (c .loop-test .left))
+    decides-by (passed-done _ _ (c .before .loop .inv) (c .loop-test .left))
     (agree-decided (geometry (a .g)) (now (a .chip)) (now (a .directory)) (now (a .cache)) (a .used) (c .before .before .before .before .before .pre .1 .1))
 
 pub unchanged-agree-spec : {M : Type 1} → statement M

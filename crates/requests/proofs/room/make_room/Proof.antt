@@ -1,6 +1,7 @@
 -- `requests::room::make_room` meets its contract: room is there or was made by the choice, or is by a collection.
 use mathlib.Core.Path.{subst}
 use borrow.Author.Needs.{needs}
+use Rattle.flash.specs.Bounded.{accepted-bounded}
 use Rattle.scope.specs.Regions.{Data}
 use Rattle.scope.specs.Steps.{cache-follows}
 use Rattle.lent.specs.Model.{geometry}
@@ -14,7 +15,9 @@ abbrev start : tie.After-choose → tie.Start
 start c = c .before .before .before .before .before .before .before .before
 
 choose-requires : tie.Need-choose-requires
-choose-requires c κs = let begun = c .before .before .before .before .before .before .before in (begun .pre .0 .ready .accepted, begun .pre .1 .0)
+choose-requires c κs =
+    let begun = c .before .before .before .before .before .before .before in
+    (accepted-bounded (begun .pre .0 .ready .accepted), begun .pre .1 .0)
 
 enum-told : tie.Need-enum-told
 enum-told c = search needs

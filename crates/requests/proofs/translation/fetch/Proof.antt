@@ -2,6 +2,7 @@
 use mathlib.Core.Path.{sym, _∙_}
 use native.Mathlib.Omega.{arith}
 use borrow.Author.Needs.{needs}
+use Rattle.flash.specs.Bounded.{accepted-bounded}
 use Rattle.promises.specs.Index.{page-below}
 use Rattle.lent.specs.Model.{geometry}
 use Rattle.requests.specs.Translating.{fetch-does, read-keeps-used}
@@ -20,7 +21,7 @@ named-requires c κs =
 word-for-requires : tie.Need-word-for-requires
 word-for-requires c κs =
     let ready = c .before .before .before .before .before .pre .0 in (
-      record { accepted = ready .accepted; chip-fits = ready .chip-fits },
+      record { bounded = accepted-bounded (ready .accepted); chip-fits = ready .chip-fits },
       λ q e. ready .on-chip q (sym (c .named .ensures) ∙ e),
       ready .countable,
     )

@@ -9,7 +9,7 @@ use Rattle.flash.specs.Owners.{owners-fit}
 use Rattle.flash.specs.Tests.{part-passed, part-refused}
 use Rattle.lent.specs.Model.{geometry}
 use Rattle.survey.specs.Census.{both-taken}
-use Rattle.survey.specs.Survey.{found-broken, whole-reaches}
+use Rattle.survey.specs.Survey.{surveyed-broken, whole-reaches}
 use Rattle.soundness.proofs.sound.flash_sound.Statement.{statement}
 use Rattle.soundness.proofs.sound.flash_sound.Tie as tie
 
@@ -25,7 +25,7 @@ same-length c = search needs
 
 returns : tie.Need-returns
 returns c =
-    found-broken _ _ (not-true _ (c .if1 .taken))
+    surveyed-broken _ _ (not-true _ (c .if1 .taken))
     (part-refused (c .before .before .before .before .data-fits .ensures .tells) (c .if1 .taken) (λ f. f .in-data))
 
 translation-fits-requires : tie.Need-translation-fits-requires
@@ -44,7 +44,7 @@ same-length-2 c = search needs
 
 returns-2 : tie.Need-returns-2
 returns-2 c =
-    found-broken _ _ (not-true _ (c .if2 .taken))
+    surveyed-broken _ _ (not-true _ (c .if2 .taken))
     (part-refused (c .before .before .before .before .translation-fits .ensures .tells) (c .if2 .taken) (λ f. f .in-translation))
 
 directory-names-requires : tie.Need-directory-names-requires

@@ -12,7 +12,7 @@ cast-w : tie.Need-cast-w
 cast-w c = search needs
 
 next-page-requires : tie.Need-next-page-requires
-next-page-requires c κs = (c .before .before .before .before .pre .0 .0 .accepted, c .before .before .before .before .pre .1 .0)
+next-page-requires c κs = (c .before .before .before .before .pre .0 .0 .bounded, c .before .before .before .before .pre .1 .0)
 
 cast-q : tie.Need-cast-q
 cast-q c = search needs

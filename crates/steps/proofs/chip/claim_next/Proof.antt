@@ -59,7 +59,7 @@ next-offset-requires c κs = search needs
 next-page-requires : tie.Need-next-page-requires
 next-page-requires c κs =
     let start = c .before .before .before .before .before .before in
-    (start .pre .0 .0 .accepted, start .pre .0 .1)
+    (start .pre .0 .0 .bounded, start .pre .0 .1)
 
 cast-at : tie.Need-cast-at
 cast-at c = search needs

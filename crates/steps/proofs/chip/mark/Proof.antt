@@ -19,19 +19,19 @@ in-block : (start : tie.Start)
     → let a = start .args in
     (a .p / a .g .p < blocks (geometry (a .g))) × (a .p % a .g .p < a .g .p)
     × (a .p ≡ page-in (geometry (a .g)) (a .p / a .g .p) (a .p % a .g .p))
-in-block start = page-lies (geometry (start .args .g)) (start .args .p) (start .pre .0 .0 .accepted .P-from) (start .pre .0 .1)
+in-block start = page-lies (geometry (start .args .g)) (start .args .p) (start .pre .0 .0 .bounded .P-from) (start .pre .0 .1)
 
 -- Where its state has been read.
 abbrev given : tie.After-state-at → tie.Start
 given seen = seen .before .before .before .before .before .before
 
 div-restate : tie.Need-div-restate
-div-restate c = omega (arith, c .before .before .before .before .pre .0 .0 .accepted .P-from)
+div-restate c = omega (arith, c .before .before .before .before .pre .0 .0 .bounded .P-from)
 
 cast-restate : tie.Need-cast-restate
 cast-restate c =
     let start = c .before .before .before .before in
-    omega (arith, in-block start .0, start .pre .0 .0 .accepted .D+T-to)
+    omega (arith, in-block start .0, start .pre .0 .0 .bounded .blocks-to)
 
 state-at-requires : tie.Need-state-at-requires
 state-at-requires c κs = in-spare (c .before .before .before .before .before) .words

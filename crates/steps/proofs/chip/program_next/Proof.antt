@@ -13,7 +13,7 @@ cast-w c = search needs
 next-page-requires : tie.Need-next-page-requires
 next-page-requires c κs =
     let start = c .before .before .before .before .before .before in
-    (start .pre .0 .0 .accepted, start .pre .1 .0 .0)
+    (start .pre .0 .0 .bounded, start .pre .1 .0 .0)
 
 cast-q : tie.Need-cast-q
 cast-q c = search needs

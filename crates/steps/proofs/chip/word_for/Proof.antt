@@ -23,7 +23,7 @@ returns c =
     let start = c .before .before .before in
     let a = start .args in
     let g = geometry (a .g) in
-    word-does g (a .l) (entry (a .page)) (start .pre .0 .accepted .W-from)
+    word-does g (a .l) (entry (a .page)) (start .pre .0 .bounded .W-from)
     (sym (ap (λ (e : Entry). in-page g (a .chip .now) (a .l) (entry e)) (c .enum-told .given .1)))
     refl (sym (ap (λ (e : Entry). read-if-place (entry e) (counts (a .work .counts))) (c .enum-told .given .1)))
 
@@ -70,8 +70,8 @@ returns-2 c =
     let g = geometry (a .g) in
     let named = page .page .given .1 in
     let lies = word-lies (start .pre .0) _ (a .l) (start .pre .1 _ (ap entry named)) in
-    word-does g (a .l) (entry (a .page)) (start .pre .0 .accepted .W-from)
-    (getD-any (a .chip .now) _ 0 none (lies .place) ∙ sym (ap (λ (e : Entry). in-page g (a .chip .now) (a .l) (entry e)) named))
+    word-does g (a .l) (entry (a .page)) (start .pre .0 .bounded .W-from)
+    (getD-any (a .chip .now) _ 0 none (lies .inside) ∙ sym (ap (λ (e : Entry). in-page g (a .chip .now) (a .l) (entry e)) named))
     (c .before .as-it-is .ensures)
     (c .count-read .ensures ∙ sym (ap (λ (e : Entry). read-if-place (entry e) (counts (a .work .counts))) named))
 

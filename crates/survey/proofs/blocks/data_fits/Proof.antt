@@ -3,7 +3,7 @@ use mathlib.Core.Path.{refl}
 use borrow.Author.Needs.{needs}
 use Rattle.scope.specs.Regions.{Data}
 use Rattle.lent.specs.Model.{geometry, small}
-use Rattle.survey.specs.Survey.{found-region}
+use Rattle.survey.specs.Survey.{surveyed-region}
 use Rattle.survey.proofs.blocks.data_fits.Statement.{statement}
 use Rattle.survey.proofs.blocks.data_fits.Tie as tie
 
@@ -32,7 +32,7 @@ returns : tie.Need-returns
 returns c =
     let a = c .before .before .before .before .before .before .before .before .before .before .before .before .args in
     let walk = c .before .before .region-fits in
-    found-region (geometry (a .g)) Data (a .chip .now) (a .spare .now) (small (a .small)) (walk .result) (a .g .l) refl (walk .ensures)
+    surveyed-region (geometry (a .g)) Data (a .chip .now) (a .spare .now) (small (a .small)) (walk .result) (a .g .l) refl (walk .ensures)
 
 pub data-fits-spec : {M : Type 1} → statement M
 data-fits-spec =

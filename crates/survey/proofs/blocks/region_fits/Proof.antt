@@ -4,7 +4,7 @@ use borrow.Author.Needs.{needs}
 use borrow.Author.Tests.{le-leb, lt-leb, lt-ltb, le-ltb}
 use Rattle.flash.specs.Tests.{refused, passed}
 use Rattle.survey.specs.Blocks.{rule-3, blocks-inside, block-inside}
-use Rattle.survey.specs.Survey.{found-stopped}
+use Rattle.survey.specs.Survey.{surveyed-stopped}
 use Rattle.survey.proofs.blocks.region_fits.Statement.{statement}
 use Rattle.survey.proofs.blocks.region_fits.Tie as tie
 
@@ -13,7 +13,7 @@ broken-requires c κs = search needs
 
 returns : tie.Need-returns
 unfolding rule-3
-returns c = found-stopped _ _ _ (c .broken .ensures) (simp (lt-leb _ _ (c .before .if1 .taken)))
+returns c = surveyed-stopped _ _ _ (c .broken .ensures) (simp (lt-leb _ _ (c .before .if1 .taken)))
 
 add-if2 : tie.Need-add-if2
 add-if2 c =
@@ -25,7 +25,7 @@ broken-requires-2 c κs = search needs
 
 returns-2 : tie.Need-returns-2
 unfolding rule-3
-returns-2 c = found-stopped _ _ _ (c .broken2 .ensures) (simp (le-leb _ _ (c .before .before .if1 .left), le-ltb _ _ (c .before .if2 .taken)))
+returns-2 c = surveyed-stopped _ _ _ (c .broken2 .ensures) (simp (le-leb _ _ (c .before .before .if1 .left), le-ltb _ _ (c .before .if2 .taken)))
 
 broken-requires-3 : tie.Need-broken-requires-3
 broken-requires-3 c κs = search needs
@@ -33,7 +33,7 @@ broken-requires-3 c κs = search needs
 returns-3 : tie.Need-returns-3
 unfolding rule-3
 returns-3 c =
-    found-stopped _ _ _ (c .broken3 .ensures)
+    surveyed-stopped _ _ _ (c .broken3 .ensures)
     (simp (le-leb _ _ (c .before .before .before .if1 .left), lt-ltb _ _ (c .before .before .if2 .left), lt-leb _ _ (c .before .if3 .taken)))
 
 open-fits-requires : tie.Need-open-fits-requires
@@ -47,7 +47,7 @@ broken-requires-4 c κs = search needs
 returns-4 : tie.Need-returns-4
 unfolding rule-3
 returns-4 c =
-    found-stopped _ _ _ (c .broken4 .ensures)
+    surveyed-stopped _ _ _ (c .broken4 .ensures)
     (simp (
       le-leb _ _ (c .before .before .before .before .before .if1 .left),
       lt-ltb _ _ (c .before .before .before .before .if2 .left),

@@ -2,9 +2,9 @@
 use native.Mathlib.Omega.{arith}
 use borrow.Author.Needs.{needs}
 use Rattle.scope.specs.Regions.{Translation}
+use Rattle.flash.specs.Bounded.{accepted-region, owners-few}
 use Rattle.lent.specs.Model.{geometry, small}
-use Rattle.geometry.specs.Bounds.{owners-small}
-use Rattle.survey.specs.Survey.{found-region}
+use Rattle.survey.specs.Survey.{surveyed-region}
 use Rattle.survey.proofs.blocks.translation_fits.Statement.{statement}
 use Rattle.survey.proofs.blocks.translation_fits.Tie as tie
 
@@ -17,7 +17,7 @@ translation-pages-requires c κs = search needs
 cast-region-fits-2 : tie.Need-cast-region-fits-2
 cast-region-fits-2 c =
     let start = c .before .before .before .before .before in
-    omega (arith, c .translation-pages .ensures, owners-small (geometry (start .args .g)) Translation (start .pre .0))
+    omega (arith, c .translation-pages .ensures, owners-few (accepted-region (start .pre .0) Translation))
 
 cast-region-fits-3 : tie.Need-cast-region-fits-3
 cast-region-fits-3 c = search needs
@@ -45,7 +45,7 @@ returns c =
     let a = c .before .before .before .before .before .before .before .before .before .before .before .before .before .before .args in
     let walk = c .before .before .region-fits in
     let limit = c .before .before .before .before .before .before .before .before .before .translation-pages in
-    found-region (geometry (a .g)) Translation (a .chip .now) (a .spare .now) (small (a .small)) (walk .result) (limit .result) (limit .ensures)
+    surveyed-region (geometry (a .g)) Translation (a .chip .now) (a .spare .now) (small (a .small)) (walk .result) (limit .result) (limit .ensures)
     (walk .ensures)
 
 pub translation-fits-spec : {M : Type 1} → statement M

@@ -12,7 +12,7 @@ use Rattle.flash.specs.Tests.{refused, passed, decides-test}
 use Rattle.geometry.specs.Sizes.{piece-inside}
 use Rattle.survey.specs.Blocks.{adds, blocks-inside}
 use Rattle.survey.specs.Census.{Taken, taken-none, taken-more, taken-all, few-found}
-use Rattle.survey.specs.Survey.{Walked, walked-none, walked-more, walked-all, pages-stop, blocks-stop, few-valid, found-stopped}
+use Rattle.survey.specs.Survey.{Walked, walked-none, walked-more, walked-all, pages-stop, blocks-stop, few-valid, surveyed-stopped}
 use Rattle.survey.proofs.blocks.walk.Statement.{statement}
 use Rattle.survey.proofs.blocks.walk.Tie as tie
 
@@ -93,7 +93,7 @@ returns : tie.Need-returns Inv-loop μ-loop
 returns c =
     let l = c .before .before .before in
     let a = start (turn l) .args in
-    found-stopped _ _ _ (c .broken .ensures)
+    surveyed-stopped _ _ _ (c .broken .ensures)
     (pages-stop (a .w) (a .limit) (a .p) (a .first) (a .chip .now) (a .spare .now) (a .opened) (turn l .loop .i) (a .n) (l .look .result)
     (omega arith) (l .look .ensures) (not-true _ (c .before .if1 .taken)))
 
@@ -114,7 +114,7 @@ returns-2 c =
     let b = c .before .before .before in
     let l = looked b in
     let a = start (turn l) .args in
-    found-stopped _ _ _ (c .broken2 .ensures)
+    surveyed-stopped _ _ _ (c .broken2 .ensures)
     (blocks-stop (a .w) (a .limit) (a .p) (a .first) (a .chip .now) (a .spare .now) (a .opened) (turn l .loop .i) (a .n) (b .besides .result)
     (omega arith) (added b) (refused (c .before .before .none-or-all .ensures) (c .before .if2 .taken)))
 

@@ -3,12 +3,12 @@ use Prim.Native.Nat.{_-_}
 use mathlib.Core.Path.{refl}
 use lib.ListN.{length}
 use borrow.Author.Needs.{needs}
-use Rattle.words.specs.Runs.{Stored, none-stored, one-stored, all-stored}
+use Rattle.words.specs.Runs.{Stored-upto, none-stored, one-stored, all-stored}
 use Rattle.words.proofs.runs.copy_in.Statement.{statement}
 use Rattle.words.proofs.runs.copy_in.Tie as tie
 
 abbrev Inv-loop : tie.InvT-loop
-Inv-loop dst₀ at src i₀ dst i = Stored dst₀ at src dst i
+Inv-loop dst₀ at src i₀ dst i = Stored-upto dst₀ at src dst i
 
 abbrev μ-loop : tie.MeasureT-loop
 μ-loop dst₀ at src i₀ dst i = length src - i

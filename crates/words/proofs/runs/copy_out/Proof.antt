@@ -4,12 +4,12 @@ use mathlib.Core.Path.{sym, _∙_}
 use native.Mathlib.Omega.{arith}
 use lib.ListN.{length, take, drop}
 use borrow.Author.Needs.{needs}
-use Rattle.words.specs.Runs.{Stored, none-stored, one-stored, all-stored, sets-whole, length-part, part-at}
+use Rattle.words.specs.Runs.{Stored-upto, none-stored, one-stored, all-stored, sets-whole, length-part, part-at}
 use Rattle.words.proofs.runs.copy_out.Statement.{statement}
 use Rattle.words.proofs.runs.copy_out.Tie as tie
 
 abbrev Inv-loop : tie.InvT-loop
-Inv-loop dst₀ src from i₀ dst i = Stored dst₀ 0 (take (length dst₀) (drop from src)) dst i
+Inv-loop dst₀ src from i₀ dst i = Stored-upto dst₀ 0 (take (length dst₀) (drop from src)) dst i
 
 abbrev μ-loop : tie.MeasureT-loop
 μ-loop dst₀ src from i₀ dst i = length dst₀ - i

@@ -6,12 +6,12 @@ use mathlib.Core.Logic.{inl, inr, ⊎-elim}
 use native.Mathlib.Omega.{arith}
 use lib.ListN.{take, drop}
 use borrow.Author.Needs.{needs}
-use Rattle.words.specs.Runs.{Stored, none-stored, one-stored, all-stored, stored-kept, length-part, part-at}
+use Rattle.words.specs.Runs.{Stored-upto, none-stored, one-stored, all-stored, stored-kept, length-part, part-at}
 use Rattle.words.proofs.runs.copy_within.Statement.{statement}
 use Rattle.words.proofs.runs.copy_within.Tie as tie
 
 abbrev Inv-loop : tie.InvT-loop
-Inv-loop s₀ from to n i₀ s i = Stored s₀ to (take n (drop from s₀)) s i
+Inv-loop s₀ from to n i₀ s i = Stored-upto s₀ to (take n (drop from s₀)) s i
 
 abbrev μ-loop : tie.MeasureT-loop
 μ-loop s₀ from to n i₀ s i = n - i

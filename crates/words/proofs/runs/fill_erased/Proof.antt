@@ -4,12 +4,12 @@ use mathlib.Core.Path.{refl, sym}
 use lib.ListN.{replicate, length-replicate, getD-replicate}
 use borrow.Author.Needs.{needs}
 use Rattle.scope.specs.Lent.{erased}
-use Rattle.words.specs.Runs.{Stored, none-stored, one-stored, all-stored}
+use Rattle.words.specs.Runs.{Stored-upto, none-stored, one-stored, all-stored}
 use Rattle.words.proofs.runs.fill_erased.Statement.{statement}
 use Rattle.words.proofs.runs.fill_erased.Tie as tie
 
 abbrev Inv-loop : tie.InvT-loop
-Inv-loop s₀ at n i₀ s i = Stored s₀ at (replicate n erased) s i
+Inv-loop s₀ at n i₀ s i = Stored-upto s₀ at (replicate n erased) s i
 
 abbrev μ-loop : tie.MeasureT-loop
 μ-loop s₀ at n i₀ s i = n - i
