@@ -46,6 +46,10 @@ blank g =
       small = fresh g;
     }
 
+-- Where any state will do.
+abbrev pub some-state : State
+some-state = blank (record { P = 0; W = 0; D = 0; T = 0; L = 0; C = 0 })
+
 pub blank-lengths : (g : Geometry) → Lengths g (blank g)
 blank-lengths g =
     record {
