@@ -9,7 +9,7 @@ use Rattle.scope.specs.SmallRecord.{SmallRecord, with-used}
 use Rattle.scope.specs.Lent.{State, logical-at, with-cache, with-small}
 use Rattle.scope.specs.Operations.{Operation, Outcome, give, set-cache, set-small, _>>=_}
 use Rattle.scope.specs.Cache.{touch, enter, dropped, forget, set-entry}
-use Rattle.scope.specs.Laws.Applied.{Same-flash}
+use Rattle.scope.specs.Laws.Applied.{Same-flash, flash-as}
 use Rattle.flash.specs.Heads.{Same-head, head-same, with-used-head}
 use Rattle.cache.specs.Ranks.{Has-rank}
 use Rattle.cache.specs.Holds.{Found, Hit, Miss, updated, Cache-holds}
@@ -48,7 +48,7 @@ module _ {g : Geometry} (s : State) (small : SmallRecord) (heads : (r : Region) 
     {m : ℕ → Found} where
   cache-alone : {A : Type 0} {x : A} → Cache-holds g cache (small .used) m → Cache-step g s (outcome x cache small s) [] (small .used) m
   cache-alone h =
-      record { did = refl; flash = record { chip = refl; spare = refl }; directory = refl; heads = heads; used = refl; holds = h }
+      record { did = refl; flash = flash-as refl; directory = refl; heads = heads; used = refl; holds = h }
 
   rank-handed : {l : ℕ} → Holds-at g cache (small .used) m l 0 → Rank-handed g s (outcome 0 cache small s) [] (small .used) m l
   rank-handed h = record { step = cache-alone (h .holds); rank = h .rank }

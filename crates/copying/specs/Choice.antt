@@ -8,13 +8,14 @@ use borrow.Author.Tests.{lt-ltb, le-ltb, le-leb, lt-leb}
 use Rattle.scope.specs.Geometry.{Geometry}
 use Rattle.scope.specs.Regions.{Region, Data, Translation}
 use Rattle.scope.specs.SmallRecord.{SmallRecord, next-offset, opened}
-use Rattle.scope.specs.Lent.{State, Mapping}
-use Rattle.scope.specs.Operations.{Counts, counts-add, counted, Erase, Outcome, Step, look, perform, set-small, _>>=_}
+use Rattle.scope.specs.Lent.{State, Mapping, with-flash}
+use Rattle.scope.specs.Operations.{Counts, Erase, Step, look, perform, set-small, _>>=_}
 use Rattle.scope.specs.Room.{Following, erased-blocks, lowest-erased, victim, open-lowest, move-pages, collect, open-or-collect, make-room}
+use Rattle.flash.specs.Words.{blank}
 use Rattle.region.specs.Apart.{waits-all, copies-keep-used, follow-each, Apart, copies-then-follow, follow-one-more}
 use Rattle.region.specs.Starts.{opened-lowest}
 use Rattle.lent.specs.declared.Work.{Work}
-use Rattle.lent.specs.Model.{small, state}
+use Rattle.lent.specs.Model.{small, with-rec}
 use Rattle.lent.specs.Does.{Does}
 use Rattle.lent.specs.DoesLaws.{does-give, does-look, does-look-at, does-bind, does-cond-true, does-cond-false, does-same}
 use Rattle.lent.specs.Shapes.{Does-flash, Does-by-spare}
@@ -46,13 +47,13 @@ module _ (g : Geometry) (r : Region) {spare : List ℕ} {w : Work} where
   opens-keeps-used : {w′ : Work} → Does-by-spare (open-lowest g r) spare w tt w′ → w′ .rec .used ≡ w .rec .used
   unfolding open-lowest look set-small _>>=_
   opens-keeps-used opens =
-      sym (ap (λ (x : State). x .small .used) (opens [] [] [] .after)) ∙ opened-keeps-used r _ (small (w .rec))
+      sym (ap (λ (x : State). x .small .used) (opens (blank g) .after)) ∙ opened-keeps-used r _ (small (w .rec))
 
   pub room-chosen : next-offset r (small (w .rec)) < g .P → Chosen g r spare w There
   unfolding make-room
   room-chosen h =
       record {
-        does = λ follow chip directory cache. does-bind _ (does-look _)
+        does = λ follow s. does-bind _ (does-look _)
             (does-cond-true _ _ _ (lt-ltb (next-offset r (small (w .rec))) (g .P) h) (does-give tt));
         keeps-used = refl;
       }
@@ -62,9 +63,9 @@ module _ (g : Geometry) (r : Region) {spare : List ℕ} {w : Work} where
     unfolding make-room open-or-collect
     open-chosen two opens =
         record {
-          does = λ follow chip directory cache. does-bind _ (does-look _)
+          does = λ follow s. does-bind _ (does-look _)
               (does-cond-false _ _ _ (le-ltb (next-offset r (small (w .rec))) (g .P) full)
-              (does-bind _ (does-look-at _ (erased _ refl)) (does-cond-true _ _ _ (le-leb 2 n two) (opens chip directory cache))));
+              (does-bind _ (does-look-at _ (erased _ refl)) (does-cond-true _ _ _ (le-leb 2 n two) (opens s))));
           keeps-used = opens-keeps-used opens;
         }
 
@@ -82,8 +83,8 @@ pub start-keeps-used : (g : Geometry) (r : Region) (v : ℕ) {chip spare chip′
     → Does-flash (start-collect g r waits-all v) chip spare w moves chip′ spare′ w′ → w′ .rec .used ≡ w .rec .used
 unfolding start-collect open-lowest look set-small _>>=_
 start-keeps-used g r v {chip} {spare} {w = w} does =
-    let s : State = state chip spare [] [] (w .rec) in
-    sym (ap (λ (x : State). x .small .used) (does [] [] .after))
+    let s : State = with-flash chip spare (with-rec (w .rec) (blank g)) in
+    sym (ap (λ (x : State). x .small .used) (does (blank g) .after))
     ∙ copies-keep-used g r v (g .P) (opened-lowest g r s)
     ∙ opened-keeps-used r (lowest-erased g r s) (small (w .rec))
 
@@ -117,13 +118,13 @@ goes-on g r follow v starts settles erases =
     (does-bind (λ (_ : Unit {0}). perform g (Erase v)) settles erases) in
     record { value = d .value; after = d .after; counting = d .counting }
 
-pub collect-does : {g : Geometry} {r : Region} (follow : Following) {v : ℕ} {chip spare directory cache : List ℕ} {w : Work}
+pub collect-does : {g : Geometry} {r : Region} (follow : Following) {v : ℕ} {chip spare : List ℕ} {w : Work} (s : State)
     {c c₁ c₂ c₃ : Counts} {s₁ s₂ s₃ : State} {waiting : List Mapping} → To-collect g r spare w v
-    → Does (start-collect g r follow v) (state chip spare directory cache (w .rec)) c waiting s₁ c₁
+    → Does (start-collect g r follow v) (with-flash chip spare (with-rec (w .rec) s)) c waiting s₁ c₁
     → Does (follow .settled waiting) s₁ c₁ tt s₂ c₂ → Does (perform g (Erase v)) s₂ c₂ tt s₃ c₃
-    → Does (make-room g r follow) (state chip spare directory cache (w .rec)) c tt s₃ c₃
+    → Does (make-room g r follow) (with-flash chip spare (with-rec (w .rec) s)) c tt s₃ c₃
 unfolding make-room open-or-collect collect
-collect-does {g} {r} follow {v} {w = w} chosen starts settles erases =
+collect-does {g} {r} follow {v} {w = w} s chosen starts settles erases =
     does-bind _ (does-look _) (does-cond-false _ _ _ (le-ltb (next-offset r (small (w .rec))) (g .P) (chosen .full))
     (does-bind _ (does-look _) (does-cond-false _ _ _ (lt-leb 2 _ (chosen .few _ refl))
     (does-bind _ (does-look-at _ (chosen .found _ refl)) (goes-on g r follow v starts settles erases)))))

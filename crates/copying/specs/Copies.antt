@@ -8,15 +8,17 @@ use mathlib.Core.List.{List, [], _∷_, _++_}
 use native.Mathlib.Numerals.{add-one}
 use native.Mathlib.Omega.{arith}
 use lib.Dec.{eqb}
-use lib.ListN.{length, replicate}
+use lib.ListN.{length}
 use Rattle.scope.specs.Counting.{count}
 use Rattle.scope.specs.Geometry.{Geometry, pages}
 use Rattle.scope.specs.Regions.{Region, owners, page-in}
 use Rattle.scope.specs.SmallRecord.{next-offset}
-use Rattle.scope.specs.Lent.{none, valid, State, Mapping, directory-size, cache-size, is-valid}
+use Rattle.scope.specs.Lent.{valid, State, Mapping, with-flash, is-valid}
 use Rattle.scope.specs.Operations.{Operation, Step, give}
 use Rattle.scope.specs.Room.{move-if-valid, move-pages}
 use Rattle.flash.specs.Bounded.{Region-bounded}
+use Rattle.scope.specs.Laws.Applied.{flash-as}
+use Rattle.flash.specs.Words.{blank}
 use Rattle.flash.specs.Heads.{head-same}
 use Rattle.flash.specs.Counting.{count-upto}
 use Rattle.flash.specs.Places.{page-on-chip, page-in-region}
@@ -26,7 +28,7 @@ use Rattle.region.specs.Apart.{waits-all}
 use Rattle.region.specs.Copied.{Copied, few-moved}
 use Rattle.region.specs.Starts.{Starts, copied-since}
 use Rattle.lent.specs.declared.Work.{Work}
-use Rattle.lent.specs.Model.{state, small}
+use Rattle.lent.specs.Model.{small, with-rec}
 use Rattle.lent.specs.DoesLaws.{does-give, does-look-at, does-bind, does-value}
 use Rattle.lent.specs.Shapes.{Does-flash, Room-to-count, less-room, room-after}
 use Rattle.steps.specs.Lies.{Chip-lent, Spare-lent, Has-next}
@@ -48,7 +50,7 @@ noting g r places =
     record {
       moved = λ w k q s lengths inv owned here. record {
         no-operation = refl;
-        flash = record { chip = refl; spare = refl };
+        flash = flash-as refl;
         head = head-same r refl;
         lengths = lengths;
         at-most-one = omega arith;
@@ -62,9 +64,9 @@ noting g r places =
       seen = λ w s s′ lengths lengths′ same inv k h. refl;
     }
 
--- The state that the law is asked of: directory and cache are *none* throughout, since no copy looks at them.
+-- The state that the law is asked of: the other lists are *none* throughout, since no copy looks at them.
 abbrev pub flash-state : Geometry → List ℕ → List ℕ → Work → State
-flash-state g chip spare w = state chip spare (replicate (directory-size g) none) (replicate (cache-size g) none) (w .rec)
+flash-state g chip spare w = with-flash chip spare (with-rec (w .rec) (blank g))
 
 -- ---- one page
 
@@ -83,13 +85,13 @@ module _ (g : Geometry) (r : Region) (p : ℕ) {chip spare : List ℕ} {w : Work
       → Does-flash (relocate g r p) chip spare w m chip′ spare′ w′
       → Does-flash (move-if-valid g r waits-all p) chip spare w (m ∷ []) chip′ spare′ w′
   unfolding move-if-valid
-  valid-copied told relocated directory cache =
-      does-bind _ (does-look-at _ told) (move-does g r waits-all p (relocated directory cache) (does-give _))
+  valid-copied told relocated s =
+      does-bind _ (does-look-at _ told) (move-does g r waits-all p (relocated s) (does-give _))
 
   -- Another is passed over.
   pub other-passed : is-valid p spare ≡ false → Does-flash (move-if-valid g r waits-all p) chip spare w [] chip spare w
   unfolding move-if-valid
-  other-passed told directory cache = does-bind _ (does-look-at _ told) (does-give [])
+  other-passed told s = does-bind _ (does-look-at _ told) (does-give [])
 
 -- What it does, with its move behind those noted before.
 pub record Does-noting (m : Step (List Mapping)) (chip spare : List ℕ) (w : Work) (moves moves′ : List Mapping) (chip′ spare′ : List ℕ) (w′ : Work)
@@ -116,7 +118,7 @@ pub record Copied-upto (g : Geometry) (r : Region) (v n : ℕ) (chip₀ spare₀
 module _ {g : Geometry} {r : Region} {v : ℕ} {chip₀ spare₀ : List ℕ} {w₀ : Work} where
   pub none-copied : Copied-upto g r v 0 chip₀ spare₀ w₀ [] chip₀ spare₀ w₀
   unfolding move-pages
-  none-copied = record { upto = omega arith; does = λ directory cache. does-give [] }
+  none-copied = record { upto = omega arith; does = λ s. does-give [] }
 
   module _ {n : ℕ} {chip spare : List ℕ} {moves : List Mapping} {w : Work} (so-far : Copied-upto g r v n chip₀ spare₀ w₀ moves chip spare w) where
     pub one-copied : {chip′ spare′ : List ℕ} {moves′ : List Mapping} {w′ : Work} → n < g .P
@@ -126,8 +128,8 @@ module _ {g : Geometry} {r : Region} {v : ℕ} {chip₀ spare₀ : List ℕ} {w�
     one-copied h copies =
         record {
           upto = omega arith;
-          does = λ directory cache. rw add-one
-              (does-value (does-bind _ (so-far .does directory cache) (does-bind _ (copies .does directory cache) (does-give _)))
+          does = λ s. rw add-one
+              (does-value (does-bind _ (so-far .does s) (does-bind _ (copies .does s) (does-give _)))
               (sym (copies .noted)));
         }
 
@@ -144,7 +146,7 @@ module _ {g : Geometry} {r : Region} {v : ℕ} {chip₀ spare₀ : List ℕ} {w�
       -- The law, of what the code has left.
       so : Copied g r (noted-view (ready .places)) (Noted-owners g r) v n s₀ (record { value = moves; after = s; did = did })
       so =
-          let does = so-far .does (replicate (directory-size g) none) (replicate (cache-size g) none) in
+          let does = so-far .does (blank g) in
           subst₂ (λ (x : List Mapping) (y : State). Copied g r (noted-view (ready .places)) (Noted-owners g r) v n s₀
           (record { value = x; after = y; did = did })) (does .value) (does .after)
           (copied-since (noting g r (ready .places)) (ready .bounds) (ready .starts) n (so-far .upto))
@@ -156,7 +158,7 @@ module _ {g : Geometry} {r : Region} {v : ℕ} {chip₀ spare₀ : List ℕ} {w�
       room-left : (m k : ℕ) → 2 * next-offset r (small (w .rec)) ≤ k → Room-to-count (m + k) (w₀ .counts) → Room-to-count m (w .counts)
       room-left m k h counts =
           room-after m k (w₀ .counts) (w .counts) did counts (omega (arith, so .costs))
-          (so-far .does (replicate (directory-size g) none) (replicate (cache-size g) none) .counting)
+          (so-far .does (blank g) .counting)
 
       pub copied-chip : Chip-lent g chip
       copied-chip = record { bounded = ready .bounds .bounded; chip-fits = so .copying .lengths .chip-fits }

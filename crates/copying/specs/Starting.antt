@@ -3,17 +3,17 @@ use Prim.Native.Nat.{ℕ, _+_, _*_, _-_, _<_}
 use mathlib.Core.Path.{_≡_, refl, subst₂}
 use mathlib.Core.List.{List, []}
 use native.Mathlib.Omega.{arith}
-use lib.ListN.{length, getD, replicate, length-replicate}
+use lib.ListN.{length, getD}
 use Rattle.scope.specs.Geometry.{Geometry, blocks}
 use Rattle.scope.specs.Regions.{Region, owners}
 use Rattle.scope.specs.SmallRecord.{open-block, next-offset}
-use Rattle.scope.specs.Lent.{none, State, chip-size, spare-size, directory-size, cache-size}
+use Rattle.scope.specs.Lent.{State, with-flash, chip-size, spare-size}
 use Rattle.scope.specs.Operations.{Counts, counts-add, counted, look, set-small, _>>=_}
 use Rattle.scope.specs.Room.{open-lowest, move-pages}
 use Rattle.flash.specs.Bounded.{Region-bounded}
 use Rattle.flash.specs.Listed.{cost-none}
 use Rattle.flash.specs.Places.{block-on-chip}
-use Rattle.flash.specs.Words.{Lengths}
+use Rattle.flash.specs.Words.{Lengths, lengths-with-flash, blank, blank-lengths}
 use Rattle.region.specs.Holds.{Region-holds}
 use Rattle.region.specs.Apart.{waits-all}
 use Rattle.region.specs.Starts.{Starts, opened-lowest, collection-starts}
@@ -66,19 +66,13 @@ module _ {g : Geometry} {r : Region} {v : ℕ} {chip spare : List ℕ} {w w₁ :
   s₁ = flash-state g chip spare w₁
 
   lengths : Lengths g s
-  lengths =
-      record {
-        chip-fits = ready .chip-fits;
-        spare-fits = ready .spare-fits;
-        directory-fits = length-replicate (directory-size g) none;
-        cache-fits = length-replicate (cache-size g) none;
-      }
+  lengths = lengths-with-flash (blank g) (blank-lengths g) (ready .chip-fits) (ready .spare-fits)
 
   -- Opening leaves the counts as they are.
   room-still : (m : ℕ) → Room-to-count m (w .counts) → Room-to-count m (w₁ .counts)
   room-still m counts =
       room-after m 0 (w .counts) (w₁ .counts) [] (less-room (omega arith) counts) (omega (arith, cost-none))
-      (opening-counts g r (opened chip (replicate (directory-size g) none) (replicate (cache-size g) none)))
+      (opening-counts g r (opened s))
 
   pub copy-ready : Copy-ready g r v chip spare w₁
   copy-ready =
@@ -86,7 +80,7 @@ module _ {g : Geometry} {r : Region} {v : ℕ} {chip spare : List ℕ} {w w₁ :
         bounds = ready .bounds;
         places = ready .places;
         starts = subst₂ (Starts g r (noted-view (ready .places)) (Noted-owners g r)) (ready .chosen .found s refl)
-            (opened-is g r (opened chip (replicate (directory-size g) none) (replicate (cache-size g) none)))
+            (opened-is g r (opened s))
             (collection-starts (noting g r (ready .places)) s (ready .bounds) lengths (ready .holds) (λ k z. absurd z)
             (ready .chosen .full) (ready .chosen .few s refl) .0);
         countable = room-still (2 * (g .P - 1)) (ready .countable);
@@ -96,7 +90,7 @@ module _ {g : Geometry} {r : Region} {v : ℕ} {chip spare : List ℕ} {w w₁ :
       (copies : Does-flash (move-pages g r waits-all v (g .P)) chip spare w₁ (first-moves n moves) chip₂ spare₂ w₂) where
     pub started-does : Does-flash (start-collect g r waits-all v) chip spare w (first-moves n moves) chip₂ spare₂ w₂
     unfolding start-collect
-    started-does directory cache = does-bind _ (opened chip directory cache) (copies directory cache)
+    started-does t = does-bind _ (opened (with-flash chip spare t)) (copies t)
 
     all : Copied-upto g r v (g .P) chip spare w₁ (first-moves n moves) chip₂ spare₂ w₂
     all = record { upto = omega arith; does = copies }

@@ -11,7 +11,7 @@ use Rattle.scope.specs.Lent.{none, entry-words, cache-size}
 use Rattle.scope.specs.Cache.{entry-at, without, touch, enter, forget, set-entry}
 use Rattle.lent.specs.declared.Work.{Work}
 use Rattle.lent.specs.Model.{small, counts}
-use Rattle.lent.specs.DoesLaws.{does-ends, state-same, does-give, does-bind, does-set-cache, does-set-small}
+use Rattle.lent.specs.DoesLaws.{does-ends, cache-same, does-give, does-bind, does-set-cache, does-set-small}
 use Rattle.lent.specs.Shapes.{Does-cache}
 
 -- A cache of the right size, with no more entries in use than it has.
@@ -22,27 +22,27 @@ pub record Cache-lent (g : Geometry) (cache : List ℕ) (used : ℕ) : Type 0 wh
 module _ {cache cache′ : List ℕ} where
   pub touch-does : (i : ℕ) {w : Work} → cache′ ≡ entry-at i cache ++ without i cache → Does-cache (touch i) cache w 0 cache′ w
   unfolding touch
-  touch-does i e chip spare directory =
-      does-ends (does-bind _ (does-set-cache _) (does-give 0)) (state-same refl refl refl (sym e) refl) refl
+  touch-does i e s =
+      does-ends (does-bind _ (does-set-cache _) (does-give 0)) (cache-same s (sym e) refl) refl
 
   pub set-entry-does : (i place : ℕ) {w : Work} → cache′ ≡ sets cache (i * entry-words + 1) (place ∷ 1 ∷ [])
       → Does-cache (set-entry i place) cache w tt cache′ w
   unfolding set-entry
-  set-entry-does i place e chip spare directory = does-ends (does-set-cache _) (state-same refl refl refl (sym e) refl) refl
+  set-entry-does i place e s = does-ends (does-set-cache _) (cache-same s (sym e) refl) refl
 
   module _ {w w′ : Work} (counting : w′ .counts ≡ w .counts) where
     pub enter-does : (l place : ℕ) → cache′ ≡ l ∷ place ∷ 0 ∷ without (w .rec .used) cache
         → small (w′ .rec) ≡ with-used (w .rec .used + 1) (small (w .rec)) → Does-cache (enter l place) cache w 0 cache′ w′
     unfolding enter
-    enter-does l place e more chip spare directory =
+    enter-does l place e more s =
         does-ends (does-bind _ (does-set-cache _) (does-bind _ (does-set-small _) (does-give 0)))
-        (state-same refl refl refl (sym e)
+        (cache-same s (sym e)
         (ap (λ (n : ℕ). with-used n (small (w .rec))) (sym (add-one (w .rec .used))) ∙ sym more))
         (ap counts (sym counting))
 
     pub forget-does : (i : ℕ) → cache′ ≡ sets cache (i * entry-words) (none ∷ none ∷ none ∷ [])
         → small (w′ .rec) ≡ with-used (w .rec .used - 1) (small (w .rec)) → Does-cache (forget i) cache w tt cache′ w′
     unfolding forget
-    forget-does i e less chip spare directory =
-        does-ends (does-bind _ (does-set-cache _) (does-set-small _)) (state-same refl refl refl (sym e) (sym less))
+    forget-does i e less s =
+        does-ends (does-bind _ (does-set-cache _) (does-set-small _)) (cache-same s (sym e) (sym less))
         (ap counts (sym counting))

@@ -4,10 +4,11 @@ use mathlib.Core.Path.{_≡_, sym, ap, _∙_}
 use mathlib.Core.List.{List}
 use native.Mathlib.Nat.{mul-le-mul-right}
 use native.Mathlib.Omega.{arith}
-use lib.ListN.{length, getD, drop, length-take, length-drop}
+use lib.ListN.{length, getD, drop, replicate, length-take, length-drop, length-replicate}
 use lib.Seq.{getD-take, getD-drop, ext-getD}
 use Rattle.scope.specs.Geometry.{Geometry, pages}
-use Rattle.scope.specs.Lent.{none, State, chip-size, spare-size, directory-size, cache-size, words-of, word-of}
+use Rattle.scope.specs.SmallRecord.{fresh}
+use Rattle.scope.specs.Lent.{none, State, with-flash, with-directory, with-cache, chip-size, spare-size, directory-size, cache-size, words-of, word-of}
 
 -- The lists have the sizes that 01 gives them.
 pub record Lengths-fit (g : Geometry) (chip spare directory cache : List ℕ) : Type 0 where
@@ -18,6 +19,45 @@ pub record Lengths-fit (g : Geometry) (chip spare directory cache : List ℕ) : 
 
 abbrev pub Lengths : Geometry → State → Type 0
 Lengths g s = Lengths-fit g (s .chip) (s .spare) (s .directory) (s .cache)
+
+-- Lists of the right sizes in the place of others.
+module _ {g : Geometry} (s : State) (len : Lengths g s) where
+  pub lengths-with-flash : {chip spare : List ℕ} → length chip ≡ chip-size g → length spare ≡ spare-size g
+      → Lengths g (with-flash chip spare s)
+  lengths-with-flash c p =
+      record { chip-fits = c; spare-fits = p; directory-fits = len .directory-fits; cache-fits = len .cache-fits }
+
+  pub lengths-with-directory : {directory : List ℕ} → length directory ≡ directory-size g → Lengths g (with-directory directory s)
+  lengths-with-directory d =
+      record { chip-fits = len .chip-fits; spare-fits = len .spare-fits; directory-fits = d; cache-fits = len .cache-fits }
+
+  pub lengths-with-cache : {cache : List ℕ} → length cache ≡ cache-size g → Lengths g (with-cache cache s)
+  lengths-with-cache c =
+      record { chip-fits = len .chip-fits; spare-fits = len .spare-fits; directory-fits = len .directory-fits; cache-fits = c }
+
+-- A state of the right sizes with nothing in it: what a law of whole states is asked of, for a step that is lent some of the lists.
+abbrev pub blank : Geometry → State
+blank g =
+    record {
+      chip = replicate (chip-size g) none;
+      spare = replicate (spare-size g) none;
+      directory = replicate (directory-size g) none;
+      cache = replicate (cache-size g) none;
+      small = fresh g;
+    }
+
+-- Where any state will do.
+abbrev pub some-state : State
+some-state = blank (record { P = 0; W = 0; D = 0; T = 0; L = 0; C = 0 })
+
+pub blank-lengths : (g : Geometry) → Lengths g (blank g)
+blank-lengths g =
+    record {
+      chip-fits = length-replicate (chip-size g) none;
+      spare-fits = length-replicate (spare-size g) none;
+      directory-fits = length-replicate (directory-size g) none;
+      cache-fits = length-replicate (cache-size g) none;
+    }
 
 -- Word i of a page's list of words is the page's word i.
 pub words-at : (g : Geometry) (p i : ℕ) (chip : List ℕ) → i < g .W → getD (words-of g p chip) i none ≡ word-of g p i chip

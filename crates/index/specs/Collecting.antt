@@ -7,7 +7,7 @@ use native.Mathlib.Omega.{arith}
 use lib.ListN.{length, getD}
 use Rattle.scope.specs.Geometry.{Geometry}
 use Rattle.scope.specs.Regions.{Translation}
-use Rattle.scope.specs.Lent.{Mapping}
+use Rattle.scope.specs.Lent.{Mapping, with-flash, with-directory}
 use Rattle.scope.specs.Operations.{Erase, perform}
 use Rattle.scope.specs.Room.{make-room}
 use Rattle.scope.specs.Steps.{directory-names-it, directory-follows}
@@ -18,9 +18,9 @@ use Rattle.lent.specs.declared.Work.{Work}
 use Rattle.lent.specs.DoesLaws.{does-give, does-bind}
 use Rattle.lent.specs.Shapes.{Does-flash, Does-directory, less-room}
 use Rattle.copying.specs.Moves.{move-at, first-moves, no-moves, one-more}
-use Rattle.copying.specs.Choice.{To-collect, start-collect, follow-none-does, follow-more-does, start-follows-does, collect-does}
+use Rattle.copying.specs.Choice.{To-collect, Makes-room, start-collect, follow-none-does, follow-more-does, start-follows-does, collect-does}
 use Rattle.copying.specs.Starting.{Collect-ready}
-use Rattle.index.specs.Index.{Does-index, Room-ready}
+use Rattle.index.specs.Index.{Index, lists, with-index, Does-index, Room-ready}
 
 -- ---- the directory follows
 
@@ -35,7 +35,7 @@ none-named moves n =
     record {
       upto = omega arith;
       as-long = refl;
-      does = λ w chip spare cache. rw (no-moves moves) (follow-none-does directory-follows);
+      does = λ w s. rw (no-moves moves) (follow-none-does directory-follows);
     }
 
 pub one-named : {moves : List ℕ} {n i : ℕ} {directory₀ directory directory′ : List ℕ} → Named-upto moves n i directory₀ directory → i < n
@@ -46,33 +46,40 @@ one-named {moves} {i = i} before more long names =
     record {
       upto = omega arith;
       as-long = long ∙ before .as-long;
-      does = λ w chip spare cache. rw (one-more moves i)
-          (follow-more-does directory-apart (first-moves i moves) (move-at i moves) (before .does w chip spare cache)
-          (does-bind _ (names w chip spare cache) (does-give [])));
+      does = λ w s. rw (one-more moves i)
+          (follow-more-does directory-apart (first-moves i moves) (move-at i moves) (before .does w s)
+          (does-bind _ (names w s) (does-give [])));
     }
 
 -- ---- the collection
 
-module _ {g : Geometry} {chip spare directory : List ℕ} {w : Work} {v : ℕ} (ready : Room-ready g chip spare directory w)
-    (chosen : To-collect g Translation spare w v) where
-  pub start-ready : Collect-ready g Translation v chip spare w
+module _ {g : Geometry} {x : Index} {w : Work} {v : ℕ} (ready : Room-ready g x w) (chosen : To-collect g Translation (x .spare) w v) where
+  pub start-ready : Collect-ready g Translation v (x .chip) (x .spare) w
   start-ready =
       record {
         bounds = accepted-region (ready .lent .accepted) Translation;
         chip-fits = ready .lent .chip-fits;
         spare-fits = ready .lent .spare-fits;
-        places = in-directory directory;
+        places = in-directory (x .directory);
         holds = ready .holds;
         chosen = chosen;
         countable = less-room (omega arith) (ready .counting);
       }
 
   pub collected-does : {moves : List Mapping} {chip₁ spare₁ directory₁ chip₂ spare₂ : List ℕ} {w₁ w₂ : Work}
-      → Does-flash (start-collect g Translation waits-all v) chip spare w moves chip₁ spare₁ w₁
-      → ((w : Work) → Does-directory (follow-each directory-follows moves) directory w [] directory₁ w)
+      → Does-flash (start-collect g Translation waits-all v) (x .chip) (x .spare) w moves chip₁ spare₁ w₁
+      → ((w : Work) → Does-directory (follow-each directory-follows moves) (x .directory) w [] directory₁ w)
       → Does-flash (perform g (Erase v)) chip₁ spare₁ w₁ tt chip₂ spare₂ w₂
-      → Does-index (make-room g Translation directory-follows) chip spare directory w tt chip₂ spare₂ directory₁ w₂
-  collected-does {chip₁ = chip₁} {spare₁} {directory₁} {w₁ = w₁} starts names erases cache =
-      collect-does directory-follows chosen
-      (start-follows-does directory-apart g Translation v (starts directory cache) (names w₁ chip₁ spare₁ cache))
-      (does-give tt) (erases directory₁ cache)
+      → Does-index (make-room g Translation directory-follows) x w tt (lists chip₂ spare₂ directory₁) w₂
+  collected-does {chip₁ = chip₁} {spare₁} {directory₁} {w₁ = w₁} starts names erases s =
+      collect-does directory-follows (with-directory (x .directory) s) chosen
+      (start-follows-does directory-apart g Translation v (starts (with-directory (x .directory) s))
+      (names w₁ (with-flash chip₁ spare₁ s)))
+      (does-give tt) (erases (with-directory directory₁ s))
+
+-- ---- the choice
+
+-- Room that is there, or was made by opening a block.
+pub chosen-does : {g : Geometry} {x : Index} {w w′ : Work} → Makes-room g Translation (x .spare) w w′
+    → Does-index (make-room g Translation directory-follows) x w tt x w′
+chosen-does {x = x} {w} makes s = makes .does directory-follows (with-index x w s)

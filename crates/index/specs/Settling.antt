@@ -13,14 +13,14 @@ use Rattle.scope.specs.Lent.{State, Mapping}
 use Rattle.scope.specs.Operations.{for}
 use Rattle.scope.specs.Steps.{of-page, update, update-touched, update-all}
 use Rattle.flash.specs.Bounded.{accepted-region, owners-few}
-use Rattle.flash.specs.Words.{Lengths}
+use Rattle.flash.specs.Words.{Lengths, blank}
 use Rattle.cache.specs.Waiting.{Waits, of-page-waits, waiting-below, waiting-below-le}
 use Rattle.promises.specs.Parts.{Index-holds, Index-fits}
 use Rattle.promises.specs.Update.{update-bound, Updated, update-law}
 use Rattle.lent.specs.declared.Work.{Work}
 use Rattle.lent.specs.DoesLaws.{does-give, does-for-none, does-for-more}
 use Rattle.lent.specs.Shapes.{Room-to-count, room-after, less-room}
-use Rattle.index.specs.Index.{Does-index, no-cache, index-state, Index-lent, index-lengths, lengths-lent, Index-ready}
+use Rattle.index.specs.Index.{Index, Does-index, index-state, Index-lent, index-lengths, lengths-lent, Index-ready}
 use Rattle.index.specs.Moves.{Next-touched}
 use Rattle.index.specs.Writing.{Page-ready}
 
@@ -43,48 +43,47 @@ upwards X t (suc d) step x =
     rw add-suc (step (t + d) (omega arith) (omega arith) (upwards X t d (λ k h l. step k h (omega arith)) x))
 
 -- The translation pages below t are done.
-pub record Settled-upto (g : Geometry) (ms : List Mapping) (chip spare directory : List ℕ) (w : Work) (t : ℕ)
-    (chip′ spare′ directory′ : List ℕ) (w′ : Work) : Type 0 where
-  pub does : Does-index (for t (λ k. update-touched g k (of-page g k ms))) chip spare directory w tt chip′ spare′ directory′ w′
-  pub lent : Index-lent g chip′ spare′ directory′
-  pub index : Index-holds g chip′ spare′ directory′ (w′ .rec .«open_translation») (w′ .rec .«translation_offset»)
+pub record Settled-upto (g : Geometry) (ms : List Mapping) (x : Index) (w : Work) (t : ℕ) (x′ : Index) (w′ : Work) : Type 0 where
+  pub does : Does-index (for t (λ k. update-touched g k (of-page g k ms))) x w tt x′ w′
+  pub lent : Index-lent g x′
+  pub index : Index-holds g (x′ .chip) (x′ .spare) (x′ .directory) (w′ .rec .«open_translation») (w′ .rec .«translation_offset»)
   pub counting : Room-to-count (update-bound g * left g ms t) (w′ .counts)
 
-module _ {g : Geometry} {ms : List Mapping} {chip spare directory : List ℕ} {w : Work} where
-  pub none-settled : Index-ready g chip spare directory w ms → Settled-upto g ms chip spare directory w 0 chip spare directory w
+module _ {g : Geometry} {ms : List Mapping} {x : Index} {w : Work} where
+  pub none-settled : Index-ready g x w ms → Settled-upto g ms x w 0 x w
   none-settled ready =
       record {
-        does = λ cache. does-for-none _;
+        does = λ s. does-for-none _;
         lent = ready .lent;
         index = ready .index;
         counting = less-room (mul-le-mul-left (update-bound g) (omega arith)) (ready .counting);
       }
 
-module _ {g : Geometry} {ms : List Mapping} {chip spare directory chip₁ spare₁ directory₁ : List ℕ} {w w₁ : Work} where
+module _ {g : Geometry} {ms : List Mapping} {x x₁ : Index} {w w₁ : Work} where
   -- A page that nothing waits for is passed over.
-  one-passed : {t : ℕ} → Settled-upto g ms chip spare directory w t chip₁ spare₁ directory₁ w₁ → of-page g t ms ≡ []
-      → Settled-upto g ms chip spare directory w (suc t) chip₁ spare₁ directory₁ w₁
+  one-passed : {t : ℕ} → Settled-upto g ms x w t x₁ w₁ → of-page g t ms ≡ []
+      → Settled-upto g ms x w (suc t) x₁ w₁
   unfolding update-touched
   one-passed {t} before e =
       record {
-        does = λ cache. does-for-more _ t (before .does cache) (rw e (does-give tt));
+        does = λ s. does-for-more _ t (before .does s) (rw e (does-give tt));
         lent = before .lent;
         index = before .index;
         counting = less-room (mul-le-mul-left (update-bound g) (omega (arith, left-less g ms t))) (before .counting);
       }
 
   -- To the next page that is touched.
-  pub to-next : {from m t : ℕ} → Settled-upto g ms chip spare directory w from chip₁ spare₁ directory₁ w₁ → Next-touched g ms from m t
-      → Settled-upto g ms chip spare directory w t chip₁ spare₁ directory₁ w₁
+  pub to-next : {from m t : ℕ} → Settled-upto g ms x w from x₁ w₁ → Next-touched g ms from m t
+      → Settled-upto g ms x w t x₁ w₁
   to-next {from} {t = t} before next =
       let there : from + (t - from) ≡ t = omega (arith, next .from-there) in
-      subst (λ k. Settled-upto g ms chip spare directory w k chip₁ spare₁ directory₁ w₁) there
-      (upwards (λ k. Settled-upto g ms chip spare directory w k chip₁ spare₁ directory₁ w₁) from (t - from)
+      subst (λ k. Settled-upto g ms x w k x₁ w₁) there
+      (upwards (λ k. Settled-upto g ms x w k x₁ w₁) from (t - from)
       (λ k h l so-far. one-passed so-far (next .untouched k h (omega arith))) before)
 
   -- It is ready for its update.
-  pub next-page-ready : {t : ℕ} → Settled-upto g ms chip spare directory w t chip₁ spare₁ directory₁ w₁ → t < M g → 1 ≤ length (of-page g t ms)
-      → Page-ready g chip₁ spare₁ directory₁ w₁ t
+  pub next-page-ready : {t : ℕ} → Settled-upto g ms x w t x₁ w₁ → t < M g → 1 ≤ length (of-page g t ms)
+      → Page-ready g x₁ w₁ t
   next-page-ready {t} before below touched =
       let some : update-bound g * 1 ≤ update-bound g * left g ms t = mul-le-mul-left (update-bound g) (omega (arith, left-less g ms t)) in
       record {
@@ -101,45 +100,44 @@ touched-is g t [] h = absurd (omega arith)
 touched-is g t (m ∷ ms) h = refl
 
 module _ {g : Geometry} {ms : List Mapping} {t : ℕ}
-    {chip spare directory chip₁ spare₁ directory₁ chip₂ spare₂ directory₂ : List ℕ} {w w₁ w₂ : Work}
-    (below-L : (l : ℕ) → Waits ms l → l < g .L) (before : Settled-upto g ms chip spare directory w t chip₁ spare₁ directory₁ w₁)
+    {x x₁ x₂ : Index} {w w₁ w₂ : Work}
+    (below-L : (l : ℕ) → Waits ms l → l < g .L) (before : Settled-upto g ms x w t x₁ w₁)
     (below : t < M g) (touched : 1 ≤ length (of-page g t ms))
-    (updated : Does-index (update g t (of-page g t ms)) chip₁ spare₁ directory₁ w₁ tt chip₂ spare₂ directory₂ w₂) where
+    (updated : Does-index (update g t (of-page g t ms)) x₁ w₁ tt x₂ w₂) where
   abbrev s : State
-  s = index-state g chip₁ spare₁ directory₁ w₁
+  s = index-state g x₁ w₁
 
   law : Updated g t (of-page g t ms) (update-bound g) s (update g t (of-page g t ms) s)
   law = update-law (before .lent .accepted) t (of-page g t ms) s (before .index) below
       (λ l q. let (at, waits) = of-page-waits g t ms l q in (below-L l waits, at)) (index-lengths w₁ (before .lent))
 
-  is-after : update g t (of-page g t ms) s .after ≡ index-state g chip₂ spare₂ directory₂ w₂
-  is-after = updated (no-cache g) .after
+  is-after : update g t (of-page g t ms) s .after ≡ index-state g x₂ w₂
+  is-after = updated (blank g) .after
 
-  pub one-settled : Settled-upto g ms chip spare directory w (t + 1) chip₂ spare₂ directory₂ w₂
+  pub one-settled : Settled-upto g ms x w (t + 1) x₂ w₂
   one-settled =
       let less : update-bound g * (left g ms (suc t) + 1) ≤ update-bound g * left g ms t =
       mul-le-mul-left (update-bound g) (omega (arith, left-less g ms t)) in
       rw add-one (record {
-        does = λ cache. does-for-more _ t (before .does cache) (rw (touched-is g t (of-page g t ms) touched) (updated cache));
-        lent = lengths-lent (before .lent .accepted) w₂ (subst (Lengths g) is-after (law .lengths));
+        does = λ s. does-for-more _ t (before .does s) (rw (touched-is g t (of-page g t ms) touched) (updated s));
+        lent = lengths-lent x₂ w₂ (blank g) (before .lent .accepted) (subst (Lengths g) is-after (law .lengths));
         index = subst (Index-fits g) is-after (law .index);
         counting = room-after (update-bound g * left g ms (suc t)) (update-bound g) (w₁ .counts) (w₂ .counts)
-            (update g t (of-page g t ms) s .did) (less-room (omega arith) (before .counting)) (law .costs) (updated (no-cache g) .counting);
+            (update g t (of-page g t ms) s .did) (less-room (omega arith) (before .counting)) (law .costs) (updated (blank g) .counting);
       })
 
 -- ---- the loop: t is the next page that is touched, or M
 
-pub record Settling (g : Geometry) (ms : List Mapping) (chip spare directory : List ℕ) (w : Work) (m t : ℕ)
-    (chip′ spare′ directory′ : List ℕ) (w′ : Work) : Type 0 where
+pub record Settling (g : Geometry) (ms : List Mapping) (x : Index) (w : Work) (m t : ℕ) (x′ : Index) (w′ : Work) : Type 0 where
   pub is-M : m ≡ M g
   pub up-to : t ≤ m
   pub touched : t < m → 1 ≤ length (of-page g t ms)
-  pub so-far : Settled-upto g ms chip spare directory w t chip′ spare′ directory′ w′
+  pub so-far : Settled-upto g ms x w t x′ w′
 
-module _ {g : Geometry} {ms : List Mapping} {chip spare directory : List ℕ} {w : Work} {m : ℕ}
-    (ready : Index-ready g chip spare directory w ms) where
-  pub settle-starts : {t : ℕ} → m ≡ length directory → Next-touched g ms 0 m t
-      → Settling g ms chip spare directory w m t chip spare directory w
+module _ {g : Geometry} {ms : List Mapping} {x : Index} {w : Work} {m : ℕ}
+    (ready : Index-ready g x w ms) where
+  pub settle-starts : {t : ℕ} → m ≡ length (x .directory) → Next-touched g ms 0 m t
+      → Settling g ms x w m t x w
   settle-starts is-m next =
       record {
         is-M = is-m ∙ ready .lent .directory-fits;
@@ -148,14 +146,14 @@ module _ {g : Geometry} {ms : List Mapping} {chip spare directory : List ℕ} {w
         so-far = to-next (none-settled ready) next;
       }
 
-  module _ {chip₁ spare₁ directory₁ : List ℕ} {w₁ : Work} {t : ℕ}
-      (before : Settling g ms chip spare directory w m t chip₁ spare₁ directory₁ w₁) where
-    pub settle-next : t < m → Page-ready g chip₁ spare₁ directory₁ w₁ t
+  module _ {x₁ : Index} {w₁ : Work} {t : ℕ}
+      (before : Settling g ms x w m t x₁ w₁) where
+    pub settle-next : t < m → Page-ready g x₁ w₁ t
     settle-next below = next-page-ready (before .so-far) (omega (arith, before .is-M)) (before .touched below)
 
-    pub settle-goes-on : {chip₂ spare₂ directory₂ : List ℕ} {w₂ : Work} {t′ : ℕ} → t < m
-        → Does-index (update g t (of-page g t ms)) chip₁ spare₁ directory₁ w₁ tt chip₂ spare₂ directory₂ w₂
-        → Next-touched g ms (t + 1) m t′ → Settling g ms chip spare directory w m t′ chip₂ spare₂ directory₂ w₂
+    pub settle-goes-on : {x₂ : Index} {w₂ : Work} {t′ : ℕ} → t < m
+        → Does-index (update g t (of-page g t ms)) x₁ w₁ tt x₂ w₂
+        → Next-touched g ms (t + 1) m t′ → Settling g ms x w m t′ x₂ w₂
     settle-goes-on below updated next =
         record {
           is-M = before .is-M;
@@ -165,8 +163,8 @@ module _ {g : Geometry} {ms : List Mapping} {chip spare directory : List ℕ} {w
               (one-settled (ready .below-L) (before .so-far) (omega (arith, before .is-M)) (before .touched below) updated) next;
         }
 
-    pub settle-ends : m ≤ t → Does-index (update-all g ms) chip spare directory w tt chip₁ spare₁ directory₁ w₁
+    pub settle-ends : m ≤ t → Does-index (update-all g ms) x w tt x₁ w₁
     unfolding update-all
     settle-ends all =
         let end : t ≡ M g = omega (arith, before .up-to, before .is-M) in
-        subst (λ n. Settled-upto g ms chip spare directory w n chip₁ spare₁ directory₁ w₁) end (before .so-far) .does
+        subst (λ n. Settled-upto g ms x w n x₁ w₁) end (before .so-far) .does

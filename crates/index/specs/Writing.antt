@@ -9,12 +9,12 @@ use lib.ListN.{length, set, take, drop}
 use lib.Seq.{sets, sets-eq, set-set, length-sets, length-take-le, take-at, drop-at}
 use Rattle.scope.specs.Geometry.{Geometry, M, pages}
 use Rattle.scope.specs.Regions.{Translation}
-use Rattle.scope.specs.Lent.{none, Entry, Place, State, Mapping, words-of, named, translation-page, translation-word}
+use Rattle.scope.specs.Lent.{none, Entry, Place, State, Mapping, with-flash, with-directory, words-of, named, translation-page, translation-word}
 use Rattle.scope.specs.Sound.{Names}
 use Rattle.scope.specs.Room.{make-room}
 use Rattle.scope.specs.Steps.{set-words, directory-names-it, directory-follows, update}
 use Rattle.flash.specs.Places.{page-on-chip}
-use Rattle.flash.specs.Words.{Lengths}
+use Rattle.flash.specs.Words.{Lengths, blank}
 use Rattle.region.specs.Holds.{Region-holds, Holds}
 use Rattle.region.specs.DirectoryFollows.{in-directory, translation-room-law}
 use Rattle.promises.specs.Index.{page-below}
@@ -22,25 +22,26 @@ use Rattle.promises.specs.Stored.{length-set-words}
 use Rattle.promises.specs.Update.{writing, update-bound}
 use Rattle.lent.specs.declared.Work.{Work}
 use Rattle.lent.specs.Model.{small, counts}
-use Rattle.lent.specs.DoesLaws.{does-ends, state-same, does-look, does-bind}
+use Rattle.lent.specs.Does.{Does}
+use Rattle.lent.specs.DoesLaws.{does-ends, does-look, does-bind}
 use Rattle.lent.specs.Shapes.{Does-directory, Room-to-count, room-after, less-room}
 use Rattle.words.specs.Runs.{set-before}
 use Rattle.steps.specs.Lies.{Spare-lent, words-lie, next-page, Has-next, next-same, next-on-chip}
 use Rattle.steps.specs.Chip.{marked, Claimed, program-does, mark-old-does}
 use Rattle.steps.specs.Chip.{begun-words, Begun, begun-does, length-begun, room-after-begun, no-word-set, one-word-set}
-use Rattle.index.specs.Index.{Does-index, no-cache, index-state, Index-lent, chip-of, spare-of, index-lengths, lengths-lent}
-use Rattle.index.specs.Index.{Index-ready, Room-ready}
+use Rattle.index.specs.Index.{Index, lists, with-chip, with-index, Does-index, index-state}
+use Rattle.index.specs.Index.{Index-lent, chip-of, spare-of, index-lengths, lengths-lent, Index-ready, Room-ready}
 
 -- What an update of translation page t asks for.
-pub record Page-ready (g : Geometry) (chip spare directory : List ℕ) (w : Work) (t : ℕ) : Type 0 where
-  pub lent : Index-lent g chip spare directory
-  pub holds : Region-holds g Translation chip spare (w .rec .«open_translation») (w .rec .«translation_offset») (in-directory directory)
+pub record Page-ready (g : Geometry) (x : Index) (w : Work) (t : ℕ) : Type 0 where
+  pub lent : Index-lent g x
+  pub holds : Region-holds g Translation (x .chip) (x .spare) (w .rec .«open_translation») (w .rec .«translation_offset»)
+      (in-directory (x .directory))
   pub below : t < M g
   pub counting : Room-to-count (update-bound g) (w .counts)
 
 -- One mapping's page.
-pub page-ready : {g : Geometry} {chip spare directory : List ℕ} {w : Work} (m : Mapping) → Index-ready g chip spare directory w (m ∷ [])
-    → Page-ready g chip spare directory w (translation-page g (m .logical))
+pub page-ready : {g : Geometry} {x : Index} {w : Work} (m : Mapping) → Index-ready g x w (m ∷ []) → Page-ready g x w (translation-page g (m .logical))
 page-ready m ready =
     record {
       lent = ready .lent;
@@ -49,71 +50,71 @@ page-ready m ready =
       counting = less-room (omega arith) (ready .counting);
     }
 
-pub room-ready : {g : Geometry} {chip spare directory : List ℕ} {w : Work} {t : ℕ} → Page-ready g chip spare directory w t
-    → Room-ready g chip spare directory w
+pub room-ready : {g : Geometry} {x : Index} {w : Work} {t : ℕ} → Page-ready g x w t → Room-ready g x w
 room-ready ready = record { lent = ready .lent; holds = ready .holds; counting = less-room (omega arith) (ready .counting) }
 
 -- ---- room made
 
 -- The open block has a page to take what is written, and the directory names a page of the chip, or none.
-pub record Roomy (g : Geometry) (chip spare directory : List ℕ) (w : Work) (t n : ℕ) : Type 0 where
-  pub lent : Index-lent g chip spare directory
+pub record Roomy (g : Geometry) (x : Index) (w : Work) (t n : ℕ) : Type 0 where
+  pub lent : Index-lent g x
   pub next : Has-next g Translation (small (w .rec))
-  pub listed : t < length directory
-  pub former : (p : ℕ) → named t directory ≡ Place p → p < pages g
+  pub listed : t < length (x .directory)
+  pub former : (p : ℕ) → named t (x .directory) ≡ Place p → p < pages g
   pub counting : Room-to-count n (w .counts)
 
-module _ {g : Geometry} {chip spare directory chip′ spare′ directory′ : List ℕ} {w w′ : Work} {t : ℕ}
-    (ready : Page-ready g chip spare directory w t)
-    (made : Does-index (make-room g Translation directory-follows) chip spare directory w tt chip′ spare′ directory′ w′) where
+module _ {g : Geometry} {x x′ : Index} {w w′ : Work} {t : ℕ} (ready : Page-ready g x w t)
+    (made : Does-index (make-room g Translation directory-follows) x w tt x′ w′) where
   abbrev s : State
-  s = index-state g chip spare directory w
+  s = index-state g x w
 
-  pub roomy : Roomy g chip′ spare′ directory′ w′ t 2
+  pub roomy : Roomy g x′ w′ t 2
   roomy =
       let law = translation-room-law g s (ready .lent .accepted) (index-lengths w (ready .lent)) (ready .holds) in
-      let is-after = made (no-cache g) .after in
-      let lent = lengths-lent (ready .lent .accepted) w′ (subst (Lengths g) is-after (law .lengths)) in
-      let holds = subst (λ (x : State). Holds g Translation x (in-directory (x .directory))) is-after (law .holds) in
+      let is-after = made (blank g) .after in
+      let lent = lengths-lent x′ w′ (blank g) (ready .lent .accepted) (subst (Lengths g) is-after (law .lengths)) in
+      let holds = subst (λ (y : State). Holds g Translation y (in-directory (y .directory))) is-after (law .holds) in
       record {
         lent = lent;
         next = record {
           in-region = holds .fits .in-region;
-          room = subst (λ (x : State). x .small .translation-offset < g .P) is-after (law .room);
+          room = subst (λ (y : State). y .small .translation-offset < g .P) is-after (law .room);
         };
         listed = omega (arith, lent .directory-fits, ready .below);
-        former = λ p e. page-on-chip g Translation p (subst (Names g Translation spare′ t) e (holds .maps .names t (ready .below)) .0);
+        former = λ p e. page-on-chip g Translation p (subst (Names g Translation (x′ .spare) t) e (holds .maps .names t (ready .below)) .0);
         counting = room-after 2 (2 * (g .P - 1) + 1) (w .counts) (w′ .counts) (make-room g Translation directory-follows s .did)
-            (less-room (omega (arith, ready .lent .accepted .P-from)) (ready .counting)) (law .costs) (made (no-cache g) .counting);
+            (less-room (omega (arith, ready .lent .accepted .P-from)) (ready .counting)) (law .costs) (made (blank g) .counting);
       }
 
 -- Room made, and the words that the update begins with put into the next page: over the chip and the work between the two.
-pub record Begins (g : Geometry) (t : ℕ) (chip spare directory : List ℕ) (w : Work) (chip′ spare′ directory′ : List ℕ) (w′ : Work)
-    : Type 0 where
+pub record Begins (g : Geometry) (t : ℕ) (x : Index) (w : Work) (x′ : Index) (w′ : Work) : Type 0 where
   pub chip₁ : List ℕ
   pub w₁ : Work
-  pub made : Does-index (make-room g Translation directory-follows) chip spare directory w tt chip₁ spare′ directory′ w₁
-  pub begins : Begun g Translation (named t directory′) chip₁ w₁ chip′ w′
+  pub made : Does-index (make-room g Translation directory-follows) x w tt (with-chip chip₁ x′) w₁
+  pub begins : Begun g Translation (named t (x′ .directory)) chip₁ w₁ (x′ .chip) w′
 
-pub begins-so : {g : Geometry} {t : ℕ} {chip spare directory chip₁ chip′ spare′ directory′ : List ℕ} {w w₁ w′ : Work} {former : Entry}
-    → Does-index (make-room g Translation directory-follows) chip spare directory w tt chip₁ spare′ directory′ w₁
-    → former ≡ named t directory′ → Begun g Translation former chip₁ w₁ chip′ w′ → Begins g t chip spare directory w chip′ spare′ directory′ w′
-begins-so {g} {chip₁ = chip₁} {chip′} {w₁ = w₁} {w′} made is-named begins =
-    record { chip₁ = chip₁; w₁ = w₁; made = made; begins = subst (λ e. Begun g Translation e chip₁ w₁ chip′ w′) is-named begins }
+pub begins-so : {g : Geometry} {t : ℕ} {x x₁ : Index} {chip′ : List ℕ} {w w₁ w′ : Work} {former : Entry}
+    → Does-index (make-room g Translation directory-follows) x w tt x₁ w₁ → former ≡ named t (x₁ .directory)
+    → Begun g Translation former (x₁ .chip) w₁ chip′ w′ → Begins g t x w (with-chip chip′ x₁) w′
+begins-so {g} {x₁ = x₁} {chip′} {w₁ = w₁} {w′} made is-named begins =
+    record {
+      chip₁ = x₁ .chip;
+      w₁ = w₁;
+      made = made;
+      begins = subst (λ e. Begun g Translation e (x₁ .chip) w₁ chip′ w′) is-named begins;
+    }
 
-module _ {g : Geometry} {chip spare directory chip′ spare′ directory′ : List ℕ} {w w′ : Work} {t : ℕ}
-    (ready : Page-ready g chip spare directory w t)
-    (b : Begins g t chip spare directory w chip′ spare′ directory′ w′) where
-  before : Roomy g (b .chip₁) spare′ directory′ (b .w₁) t 2
+module _ {g : Geometry} {x x′ : Index} {w w′ : Work} {t : ℕ} (ready : Page-ready g x w t) (b : Begins g t x w x′ w′) where
+  before : Roomy g (with-chip (b .chip₁) x′) (b .w₁) t 2
   before = roomy ready (b .made)
 
-  pub still-roomy : Roomy g chip′ spare′ directory′ w′ t 1
+  pub still-roomy : Roomy g x′ w′ t 1
   still-roomy =
       record {
         lent = record {
           accepted = before .lent .accepted;
           chip-fits = ap length (b .begins .stored)
-              ∙ length-sets (b .chip₁) (next-page g Translation (small (b .w₁ .rec)) * g .W) (begun-words g (named t directory′) (b .chip₁))
+              ∙ length-sets (b .chip₁) (next-page g Translation (small (b .w₁ .rec)) * g .W) (begun-words g (named t (x′ .directory)) (b .chip₁))
               ∙ before .lent .chip-fits;
           spare-fits = before .lent .spare-fits;
           directory-fits = before .lent .directory-fits;
@@ -124,8 +125,8 @@ module _ {g : Geometry} {chip spare directory chip′ spare′ directory′ : Li
         counting = room-after-begun 1 (b .begins) (before .counting);
       }
 
-  words-begun : length (begun-words g (named t directory′) (b .chip₁)) ≡ g .W
-  words-begun = length-begun (chip-of (before .lent)) (named t directory′) (before .former)
+  words-begun : length (begun-words g (named t (x′ .directory)) (b .chip₁)) ≡ g .W
+  words-begun = length-begun (chip-of (before .lent)) (named t (x′ .directory)) (before .former)
 
 -- ---- words set in the page
 
@@ -146,25 +147,24 @@ part-of-sets l i n vs len fits =
     ∙ ap (take n) (drop-at (take i l) (vs ++ drop (i + length vs) l) i (length-take-le i l (omega arith)))
     ∙ take-at vs (drop (i + length vs) l) n len
 
-module _ {g : Geometry} {chip spare directory chip′ spare′ directory′ : List ℕ} {w w′ : Work} {t q : ℕ}
-    (ready : Page-ready g chip spare directory w t)
-    (b : Begins g t chip spare directory w chip′ spare′ directory′ w′) (is-next : q ≡ next-page g Translation (small (w′ .rec))) where
+module _ {g : Geometry} {x x′ : Index} {w w′ : Work} {t q : ℕ} (ready : Page-ready g x w t) (b : Begins g t x w x′ w′)
+    (is-next : q ≡ next-page g Translation (small (w′ .rec))) where
   pub next-here : q < pages g
   next-here = rw is-next (next-on-chip (still-roomy ready b .next))
 
   abbrev words : List ℕ
-  words = begun-words g (named t directory′) (b .chip₁)
+  words = begun-words g (named t (x′ .directory)) (b .chip₁)
 
   long : length words ≡ g .W
   long = words-begun ready b
 
-  stored : chip′ ≡ sets (b .chip₁) (q * g .W) words
+  stored : x′ .chip ≡ sets (b .chip₁) (q * g .W) words
   stored =
       b .begins .stored
       ∙ ap (λ (k : ℕ). sets (b .chip₁) (k * g .W) words) (ap (λ r. next-page g Translation (small r)) (sym (b .begins .kept)) ∙ sym is-next)
 
   -- One word, and all those of a list of mappings.
-  pub one-word : {chip″ : List ℕ} (m : Mapping) → chip″ ≡ set chip′ (q * g .W + translation-word g (m .logical)) (m .physical)
+  pub one-word : {chip″ : List ℕ} (m : Mapping) → chip″ ≡ set (x′ .chip) (q * g .W + translation-word g (m .logical)) (m .physical)
       → chip″ ≡ sets (b .chip₁) (next-page g Translation (small (w′ .rec)) * g .W) (set-words g (m ∷ []) words)
   one-word m e =
       let none = no-word-set g words in
@@ -172,12 +172,12 @@ module _ {g : Geometry} {chip spare directory chip′ spare′ directory′ : Li
       (stored ∙ ap (sets (b .chip₁) (q * g .W)) (sym none)) e
       ∙ ap (λ (k : ℕ). sets (b .chip₁) (k * g .W) (set-words g (m ∷ []) words)) is-next
 
-  pub all-words : {chip″ : List ℕ} (ms : List Mapping) → chip″ ≡ sets chip′ (q * g .W) (set-words g ms (words-of g q chip′))
+  pub all-words : {chip″ : List ℕ} (ms : List Mapping) → chip″ ≡ sets (x′ .chip) (q * g .W) (set-words g ms (words-of g q (x′ .chip)))
       → chip″ ≡ sets (b .chip₁) (next-page g Translation (small (w′ .rec)) * g .W) (set-words g ms words)
   all-words ms e =
-      let in-page : words-of g q chip′ ≡ words = ap (words-of g q) stored
+      let in-page : words-of g q (x′ .chip) ≡ words = ap (words-of g q) stored
       ∙ part-of-sets (b .chip₁) (q * g .W) (g .W) words long (words-lie (chip-of (roomy ready (b .made) .lent)) q next-here .words) in
-      e ∙ ap (λ (k : List ℕ). sets chip′ (q * g .W) (set-words g ms k)) in-page
+      e ∙ ap (λ (k : List ℕ). sets (x′ .chip) (q * g .W) (set-words g ms k)) in-page
       ∙ ap (λ (k : List ℕ). sets k (q * g .W) (set-words g ms words)) stored
       ∙ sets-over (b .chip₁) (q * g .W) words (set-words g ms words) (length-set-words g ms words)
       ∙ ap (λ (k : ℕ). sets (b .chip₁) (k * g .W) (set-words g ms words)) is-next
@@ -192,8 +192,8 @@ pub record Finish-ready (g : Geometry) (spare directory : List ℕ) (w : Work) (
   pub former : (p : ℕ) → named t directory ≡ Place p → p < pages g
   pub counting : Room-to-count 1 (w .counts)
 
-pub finish-ready : {g : Geometry} {chip spare directory : List ℕ} {w : Work} {t : ℕ} → Roomy g chip spare directory w t 1
-    → Finish-ready g spare directory w t
+pub finish-ready : {g : Geometry} {x : Index} {w : Work} {t : ℕ} → Roomy g x w t 1
+    → Finish-ready g (x .spare) (x .directory) w t
 finish-ready h =
     record {
       lent = spare-of (h .lent);
@@ -206,31 +206,32 @@ finish-ready h =
 -- It is programmed with any words that stand in it.
 abbrev pub Written : Geometry → ℕ → List ℕ → List ℕ → Work → List ℕ → List ℕ → Work → Type 0
 Written g t spare directory w spare′ directory′ w′ =
-    (chip words : List ℕ)
-    → Does-index (writing g t (named t directory) words) chip spare directory w tt
-    (sets chip (next-page g Translation (small (w .rec)) * g .W) words) spare′ directory′ w′
+    (s : State) (words : List ℕ)
+    → Does (writing g t (named t directory) words) (with-index (lists (s .chip) spare directory) w s) (counts (w .counts)) tt
+    (with-index (lists (sets (s .chip) (next-page g Translation (small (w .rec)) * g .W) words) spare′ directory′) w′ s) (counts (w′ .counts))
 
 pub write-does : (g : Geometry) (t : ℕ) {former : Entry} {q : ℕ} {spare spare₁ spare₂ directory directory′ : List ℕ} {w w′ : Work}
     → former ≡ named t directory → Claimed g Translation t spare w q spare₁ w′ → spare₂ ≡ marked former spare₁
     → ((w : Work) → Does-directory (directory-names-it t q) directory w tt directory′ w)
     → Written g t spare directory w spare₂ directory′ w′
 unfolding writing
-write-does g t {former} {spare₁ = spare₁} {spare₂} {directory} {w′ = w′} is-named claimed is-marked names chip words cache =
-    does-bind _ (program-does words refl refl claimed directory cache)
-    (does-bind _ (mark-old-does g (named t directory) (is-marked ∙ ap (λ e. marked e spare₁) is-named)) (names w′ _ spare₂ cache))
+write-does g t {former} {spare₁ = spare₁} {spare₂} {directory} {w = w} {w′} is-named claimed is-marked names s words =
+    does-bind _ (program-does words refl refl claimed (with-directory directory s))
+    (does-bind _ (mark-old-does g (named t directory) (is-marked ∙ ap (λ e. marked e spare₁) is-named))
+    (names w′ (with-flash (sets (s .chip) (next-page g Translation (small (w .rec)) * g .W) words) spare₂ s)))
 
 -- All parts together, where the words of the mappings have been set in the page.
 pub update-does : {g : Geometry} {t : ℕ} (ms : List Mapping)
-    {chip spare directory chip₁ chip₂ spare₁ spare₂ directory₁ directory₂ : List ℕ} {w w₁ w₂ : Work}
-    → (b : Begins g t chip spare directory w chip₁ spare₁ directory₁ w₁)
-    → chip₂ ≡ sets (b .chip₁) (next-page g Translation (small (w₁ .rec)) * g .W) (set-words g ms (begun-words g (named t directory₁) (b .chip₁)))
-    → Written g t spare₁ directory₁ w₁ spare₂ directory₂ w₂
-    → Does-index (update g t ms) chip spare directory w tt chip₂ spare₂ directory₂ w₂
+    {x x₁ x₂ : Index} {w w₁ w₂ : Work} → (b : Begins g t x w x₁ w₁)
+    → x₂ .chip ≡ sets (b .chip₁) (next-page g Translation (small (w₁ .rec)) * g .W)
+    (set-words g ms (begun-words g (named t (x₁ .directory)) (b .chip₁)))
+    → Written g t (x₁ .spare) (x₁ .directory) w₁ (x₂ .spare) (x₂ .directory) w₂ → Does-index (update g t ms) x w tt x₂ w₂
 unfolding update writing
-update-does {g} {t} ms {spare₁ = spare₁} {directory₁ = directory₁} b is-set written cache =
+update-does {g} {t} ms {x₁ = x₁} {x₂} {w₂ = w₂} b is-set written s =
+    let made : State = with-index (with-chip (b .chip₁) x₁) (b .w₁) s in
     does-ends
-    (does-bind _ (b .made cache)
+    (does-bind _ (b .made s)
     (does-bind _ (does-look _)
-    (does-bind _ (begun-does (b .begins) spare₁ directory₁ cache)
-    (written (b .chip₁) (set-words g ms (begun-words g (named t directory₁) (b .chip₁))) cache))))
-    (state-same (sym is-set) refl refl refl refl) refl
+    (does-bind _ (begun-does (b .begins) made)
+    (written made (set-words g ms (begun-words g (named t (x₁ .directory)) (b .chip₁)))))))
+    (ap (λ (chip : List ℕ). with-index (with-chip chip x₂) w₂ s) (sym is-set)) refl

@@ -15,7 +15,7 @@ ghost use Rattle.lent.specs.Model.{geometry};
 ghost use Rattle.words.specs.Census.{Census};
 ghost use Rattle.copying.specs.Moves.{first-moves};
 ghost use Rattle.index.specs.Moves.{Waits-in};
-ghost use Rattle.index.specs.Index.{Does-index, Index-ready};
+ghost use Rattle.index.specs.Index.{index, Does-index, Index-ready};
 ghost use Rattle.index.specs.Writing.{Page-ready};
 
 pub mod page;
@@ -33,11 +33,11 @@ pub fn update_one(
     census: &mut [u32],
     directory: &mut [u32],
 ) -> Work
-    requires { ⌜ Index-ready (geometry g) (now chip) (now spare) (now directory) work (record { logical = l; physical = place } ∷ []) ⌝ }
+    requires { ⌜ Index-ready (geometry g) (index chip spare directory) work (record { logical = l; physical = place } ∷ []) ⌝ }
     requires { ⌜ Census (geometry g) (now spare) (now census) ⌝ }
     ensures { λ r. ⌜ Does-index (update (geometry g) (translation-page (geometry g) l) (record { logical = l; physical = place } ∷ []))
-        (now (chip .entry)) (now (spare .entry)) (now (directory .entry)) work tt
-        (now (chip .exit)) (now (spare .exit)) (now (directory .exit)) r ⌝ }
+        (index (chip .entry) (spare .entry) (directory .entry)) work tt
+        (index (chip .exit) (spare .exit) (directory .exit)) r ⌝ }
     ensures { λ _. ⌜ Census (geometry g) (now (spare .exit)) (now (census .exit)) ⌝ }
 {
     let t = l / g.w;
@@ -60,12 +60,12 @@ fn update_page(
     census: &mut [u32],
     directory: &mut [u32],
 ) -> Work
-    requires { ⌜ Page-ready (geometry g) (now chip) (now spare) (now directory) work t ⌝ }
+    requires { ⌜ Page-ready (geometry g) (index chip spare directory) work t ⌝ }
     requires { ⌜ Census (geometry g) (now spare) (now census) ⌝ }
     requires { ⌜ Waits-in (geometry g) n (now waiting) ⌝ }
     ensures { λ r. ⌜ Does-index (update (geometry g) t (of-page (geometry g) t (first-moves n (now (waiting .entry)))))
-        (now (chip .entry)) (now (spare .entry)) (now (directory .entry)) work tt
-        (now (chip .exit)) (now (spare .exit)) (now (directory .exit)) r ⌝ }
+        (index (chip .entry) (spare .entry) (directory .entry)) work tt
+        (index (chip .exit) (spare .exit) (directory .exit)) r ⌝ }
     ensures { λ _. ⌜ Census (geometry g) (now (spare .exit)) (now (census .exit)) ⌝ }
 {
     let begun = begin(work, g, t, chip, spare, census, directory);
@@ -86,12 +86,12 @@ pub fn settle(
     census: &mut [u32],
     directory: &mut [u32],
 ) -> Work
-    requires { ⌜ Index-ready (geometry g) (now chip) (now spare) (now directory) work (first-moves n (now waiting)) ⌝ }
+    requires { ⌜ Index-ready (geometry g) (index chip spare directory) work (first-moves n (now waiting)) ⌝ }
     requires { ⌜ Census (geometry g) (now spare) (now census) ⌝ }
     requires { ⌜ Waits-in (geometry g) n (now waiting) ⌝ }
     ensures { λ r. ⌜ Does-index (update-all (geometry g) (first-moves n (now (waiting .entry))))
-        (now (chip .entry)) (now (spare .entry)) (now (directory .entry)) work tt
-        (now (chip .exit)) (now (spare .exit)) (now (directory .exit)) r ⌝ }
+        (index (chip .entry) (spare .entry) (directory .entry)) work tt
+        (index (chip .exit) (spare .exit) (directory .exit)) r ⌝ }
     ensures { λ _. ⌜ Census (geometry g) (now (spare .exit)) (now (census .exit)) ⌝ }
 {
     let m = directory.len() as u32;

@@ -11,6 +11,7 @@ use steps::directory::named;
 use steps::directory::names_it;
 ghost use Rattle.lent.specs.Model.{geometry};
 ghost use Rattle.words.specs.Census.{Census};
+ghost use Rattle.index.specs.Index.{index};
 ghost use Rattle.index.specs.Writing.{Page-ready, Begins, Finish-ready, Written};
 
 // Room is made, and the open block's next page has the words of translation page t, or none throughout.
@@ -23,10 +24,10 @@ pub(crate) fn begin(
     census: &mut [u32],
     directory: &mut [u32],
 ) -> Work
-    requires { ⌜ Page-ready (geometry g) (now chip) (now spare) (now directory) work t ⌝ }
+    requires { ⌜ Page-ready (geometry g) (index chip spare directory) work t ⌝ }
     requires { ⌜ Census (geometry g) (now spare) (now census) ⌝ }
-    ensures { λ r. ⌜ Begins (geometry g) t (now (chip .entry)) (now (spare .entry)) (now (directory .entry)) work
-        (now (chip .exit)) (now (spare .exit)) (now (directory .exit)) r ⌝ }
+    ensures { λ r. ⌜ Begins (geometry g) t (index (chip .entry) (spare .entry) (directory .entry)) work
+        (index (chip .exit) (spare .exit) (directory .exit)) r ⌝ }
     ensures { λ _. ⌜ Census (geometry g) (now (spare .exit)) (now (census .exit)) ⌝ }
 {
     let made = room(work, g, chip, spare, census, directory);

@@ -21,7 +21,7 @@ ghost use Rattle.lent.specs.Shapes.{Does-directory};
 ghost use Rattle.words.specs.Census.{Census};
 ghost use Rattle.copying.specs.Moves.{first-moves};
 ghost use Rattle.copying.specs.Choice.{To-collect};
-ghost use Rattle.index.specs.Index.{Does-index, Room-ready};
+ghost use Rattle.index.specs.Index.{index, Does-index, Room-ready};
 
 // The directory names the pages of the first n moves.
 fn names_moved(n: usize, moves: &[u32; 192], directory: &mut [u32])
@@ -47,11 +47,11 @@ fn collect(
     census: &mut [u32],
     directory: &mut [u32],
 ) -> Work
-    requires { ⌜ Room-ready (geometry g) (now chip) (now spare) (now directory) work × To-collect (geometry g) Translation (now spare) work v ⌝ }
+    requires { ⌜ Room-ready (geometry g) (index chip spare directory) work × To-collect (geometry g) Translation (now spare) work v ⌝ }
     requires { ⌜ Census (geometry g) (now spare) (now census) ⌝ }
     ensures { λ r. ⌜ Does-index (make-room (geometry g) Translation directory-follows)
-        (now (chip .entry)) (now (spare .entry)) (now (directory .entry)) work tt
-        (now (chip .exit)) (now (spare .exit)) (now (directory .exit)) r ⌝ }
+        (index (chip .entry) (spare .entry) (directory .entry)) work tt
+        (index (chip .exit) (spare .exit) (directory .exit)) r ⌝ }
     ensures { λ _. ⌜ Census (geometry g) (now (spare .exit)) (now (census .exit)) ⌝ }
 {
     let mut moves = [0u32; 192];
@@ -80,11 +80,11 @@ pub fn room(
     census: &mut [u32],
     directory: &mut [u32],
 ) -> Work
-    requires { ⌜ Room-ready (geometry g) (now chip) (now spare) (now directory) work ⌝ }
+    requires { ⌜ Room-ready (geometry g) (index chip spare directory) work ⌝ }
     requires { ⌜ Census (geometry g) (now spare) (now census) ⌝ }
     ensures { λ r. ⌜ Does-index (make-room (geometry g) Translation directory-follows)
-        (now (chip .entry)) (now (spare .entry)) (now (directory .entry)) work tt
-        (now (chip .exit)) (now (spare .exit)) (now (directory .exit)) r ⌝ }
+        (index (chip .entry) (spare .entry) (directory .entry)) work tt
+        (index (chip .exit) (spare .exit) (directory .exit)) r ⌝ }
     ensures { λ _. ⌜ Census (geometry g) (now (spare .exit)) (now (census .exit)) ⌝ }
 {
     let choice = choose(work, g, Region::Translation, spare, census);

@@ -6,7 +6,7 @@ use mathlib.Core.List.{List, [], _++_}
 use native.Mathlib.Omega.{arith}
 use Rattle.scope.specs.Geometry.{Geometry}
 use Rattle.scope.specs.SmallRecord.{SmallRecord}
-use Rattle.scope.specs.Lent.{State, with-directory, with-cache, with-small}
+use Rattle.scope.specs.Lent.{State, with-flash, with-directory, with-cache, with-small}
 use Rattle.scope.specs.Operations.{Operation, Read, Program, Mark, Erase, apply, Counts, counts-add, no-counts, counts-of, counted, Outcome, Step, give, look, perform, set-directory, set-cache, set-small, for, _>>=_}
 use Rattle.flash.specs.Listed.{counts-same, counted-++}
 use Rattle.lent.specs.Does.{Does}
@@ -47,10 +47,19 @@ does-same {A} {c = c} e d =
       counting = ap (λ (o : Outcome A). counts-add c (counted (o .did))) e ∙ d .counting;
     }
 
--- States are equal by their five parts.
-pub state-same : {s t : State} → s .chip ≡ t .chip → s .spare ≡ t .spare → s .directory ≡ t .directory → s .cache ≡ t .cache
-    → s .small ≡ t .small → s ≡ t
-state-same a b c d e = λ i. record { chip = a i; spare = b i; directory = c i; cache = d i; small = e i }
+-- A state with equal parts in the place of its own is the same.
+module _ (s : State) {r r′ : SmallRecord} where
+  pub flash-same : {chip chip′ spare spare′ : List ℕ} → chip ≡ chip′ → spare ≡ spare′ → r ≡ r′
+      → with-flash chip spare (with-small r s) ≡ with-flash chip′ spare′ (with-small r′ s)
+  flash-same a b e = λ i. with-flash (a i) (b i) (with-small (e i) s)
+
+  pub directory-same : {directory directory′ : List ℕ} → directory ≡ directory′ → r ≡ r′
+      → with-directory directory (with-small r s) ≡ with-directory directory′ (with-small r′ s)
+  directory-same a e = λ i. with-directory (a i) (with-small (e i) s)
+
+  pub cache-same : {cache cache′ : List ℕ} → cache ≡ cache′ → r ≡ r′
+      → with-cache cache (with-small r s) ≡ with-cache cache′ (with-small r′ s)
+  cache-same a e = λ i. with-cache (a i) (with-small (e i) s)
 
 -- ---- nothing done
 

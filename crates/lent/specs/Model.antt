@@ -11,7 +11,7 @@ use Rattle.lent.specs.declared.Entry.the-variants.{Place as PlaceOf, Now
 use Rattle.scope.specs.Geometry.{Geometry}
 use Rattle.scope.specs.Regions.{Region, Data, Translation}
 use Rattle.scope.specs.SmallRecord.{SmallRecord}
-use Rattle.scope.specs.Lent.{State, Entry, Place, Nowhere}
+use Rattle.scope.specs.Lent.{State, with-small, Entry, Place, Nowhere}
 use Rattle.scope.specs.Operations.{Counts}
 
 abbrev pub geometry : Numbers → Geometry
@@ -37,6 +37,10 @@ region TranslationOf = Translation
 abbrev pub entry : Coded → Entry
 entry (PlaceOf p) = Place p
 entry NowhereOf = Nowhere
+
+-- The state with another record.
+abbrev pub with-rec : Record → State → State
+with-rec r s = with-small (small r) s
 
 -- The lent lists and the record as one state.
 abbrev pub state : List ℕ → List ℕ → List ℕ → List ℕ → Record → State

@@ -6,44 +6,45 @@ use mathlib.Core.List.{List}
 use native.Mathlib.Omega.{arith}
 use Rattle.lent.specs.declared.Counts.{Counts as Counted}
 use Rattle.lent.specs.declared.Work.{Work}
+use Rattle.scope.specs.Lent.{State, with-flash, with-directory, with-cache}
 use Rattle.scope.specs.Operations.{Operation, Step, Counts, counts-add, counted}
 use Rattle.flash.specs.Listed.{cost}
-use Rattle.lent.specs.Model.{state, counts}
+use Rattle.lent.specs.Model.{with-rec, counts}
 use Rattle.lent.specs.Does.{Does}
 use Rattle.lent.specs.DoesLaws.{one-read}
 
 -- Chip and spare, and what travels by value.
 abbrev pub Does-flash : {A : Type 0} → Step A → List ℕ → List ℕ → Work → A → List ℕ → List ℕ → Work → Type 0
 Does-flash m chip spare w x chip′ spare′ w′ =
-    (directory cache : List ℕ)
-    → Does m (state chip spare directory cache (w .rec)) (counts (w .counts)) x
-    (state chip′ spare′ directory cache (w′ .rec)) (counts (w′ .counts))
+    (s : State)
+    → Does m (with-flash chip spare (with-rec (w .rec) s)) (counts (w .counts)) x
+    (with-flash chip′ spare′ (with-rec (w′ .rec) s)) (counts (w′ .counts))
 
 -- The chip, or the spare, seen and left as it is, and what travels by value.
 abbrev pub Does-by-chip : {A : Type 0} → Step A → List ℕ → Work → A → Work → Type 0
 Does-by-chip m chip w x w′ =
-    (spare directory cache : List ℕ)
-    → Does m (state chip spare directory cache (w .rec)) (counts (w .counts)) x
-    (state chip spare directory cache (w′ .rec)) (counts (w′ .counts))
+    (s : State)
+    → Does m (with-flash chip (s .spare) (with-rec (w .rec) s)) (counts (w .counts)) x
+    (with-flash chip (s .spare) (with-rec (w′ .rec) s)) (counts (w′ .counts))
 
 abbrev pub Does-by-spare : {A : Type 0} → Step A → List ℕ → Work → A → Work → Type 0
 Does-by-spare m spare w x w′ =
-    (chip directory cache : List ℕ)
-    → Does m (state chip spare directory cache (w .rec)) (counts (w .counts)) x
-    (state chip spare directory cache (w′ .rec)) (counts (w′ .counts))
+    (s : State)
+    → Does m (with-flash (s .chip) spare (with-rec (w .rec) s)) (counts (w .counts)) x
+    (with-flash (s .chip) spare (with-rec (w′ .rec) s)) (counts (w′ .counts))
 
 -- The directory, and what travels by value; the cache, and what travels by value.
 abbrev pub Does-directory : {A : Type 0} → Step A → List ℕ → Work → A → List ℕ → Work → Type 0
 Does-directory m directory w x directory′ w′ =
-    (chip spare cache : List ℕ)
-    → Does m (state chip spare directory cache (w .rec)) (counts (w .counts)) x
-    (state chip spare directory′ cache (w′ .rec)) (counts (w′ .counts))
+    (s : State)
+    → Does m (with-directory directory (with-rec (w .rec) s)) (counts (w .counts)) x
+    (with-directory directory′ (with-rec (w′ .rec) s)) (counts (w′ .counts))
 
 abbrev pub Does-cache : {A : Type 0} → Step A → List ℕ → Work → A → List ℕ → Work → Type 0
 Does-cache m cache w x cache′ w′ =
-    (chip spare directory : List ℕ)
-    → Does m (state chip spare directory cache (w .rec)) (counts (w .counts)) x
-    (state chip spare directory cache′ (w′ .rec)) (counts (w′ .counts))
+    (s : State)
+    → Does m (with-cache cache (with-rec (w .rec) s)) (counts (w .counts)) x
+    (with-cache cache′ (with-rec (w′ .rec) s)) (counts (w′ .counts))
 
 -- Each count may grow by n and is still a 32-bit number.
 pub record Room-to-count (n : ℕ) (c : Counted) : Type 0 where

@@ -12,6 +12,7 @@ use Rattle.scope.specs.Operations.{Outcome}
 use Rattle.scope.specs.Steps.{cache-or-wait, update-all, cache-follows}
 use Rattle.scope.specs.Sound.{current}
 use Rattle.flash.specs.Words.{Lengths}
+use Rattle.flash.specs.Kept.{lengths-still}
 use Rattle.region.specs.Carried.{holds-same, contents-same}
 use Rattle.region.specs.Elsewhere.{Same-elsewhere}
 use Rattle.region.specs.Follower.{View, After-moved, After-settled, Follower}
@@ -50,13 +51,7 @@ module _ {g : Geometry} (ok : Accepted g) (l i : ℕ) where
         no-operation = f .did;
         flash = f .flash;
         head = f .heads Data;
-        lengths =
-            record {
-              chip-fits = rw (f .flash .chip) (len .chip-fits);
-              spare-fits = rw (f .flash .spare) (len .spare-fits);
-              directory-fits = rw (f .directory) (len .directory-fits);
-              cache-fits = f .long;
-            };
+        lengths = lengths-still s _ (f .flash) (f .directory) (f .long) len;
         at-most-one = f .at-most-one;
         inv =
             record {

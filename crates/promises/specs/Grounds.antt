@@ -41,6 +41,11 @@ abbrev pub Right : List Size → Type 0
 Right [] = Unit {0}
 Right (z ∷ zs) = (z .has ≡ z .should) × Right zs
 
+-- Two lists of sizes.
+pub right-both : (zs ys : List Size) → Right zs → Right ys → Right (zs ++ ys)
+right-both [] ys a b = b
+right-both (z ∷ zs) ys a b = (a .0, right-both zs ys (a .1) b)
+
 abbrev pub Wrong : List Size → Type 0
 Wrong [] = ⊥
 Wrong (z ∷ zs) = (z .has ≢ z .should) ⊎ Wrong zs

@@ -7,9 +7,10 @@ use Rattle.scope.specs.Geometry.{Geometry}
 use Rattle.scope.specs.Lent.{Entry, Place, Nowhere, decode, State}
 use Rattle.scope.specs.Regions.{Data, Translation}
 use Rattle.scope.specs.Operations.{Operation, Outcome, apply, apply-all}
-use Rattle.scope.specs.Laws.Applied.{Same-flash}
+use Rattle.scope.specs.Laws.Applied.{Same-flash, flash-as}
 use Rattle.scope.specs.Sound.{current, Sound}
 use Rattle.flash.specs.Words.{Lengths}
+use Rattle.flash.specs.Kept.{lengths-still}
 use Rattle.flash.specs.Heads.{Same-head}
 use Rattle.flash.specs.SamePages.{Same-pages, same-refl, same-trans}
 use Rattle.flash.specs.Listed.{cost, cost-++, cost-none}
@@ -53,7 +54,7 @@ kept-none {g = g} x sound len =
       lengths = len;
       places = λ l below. refl;
       pages = same-refl;
-      done = done-none g (record { chip = refl; spare = refl });
+      done = done-none g (flash-as refl);
       costs = omega (arith, cost-none);
     }
 
@@ -104,13 +105,7 @@ kept-sound {g} {s} {s′} sound index cache pages head places =
 module _ {A : Type 0} {g : Geometry} {s : State} {o : Outcome A} {ops : List Operation} {used : ℕ} {m : ℕ → Found}
     (step : Cache-step g s o ops used m) where
   pub step-lengths : Lengths g s → Lengths g (o .after)
-  step-lengths len =
-      record {
-        chip-fits = rw (step .flash .chip) (len .chip-fits);
-        spare-fits = rw (step .flash .spare) (len .spare-fits);
-        directory-fits = rw (step .directory) (len .directory-fits);
-        cache-fits = step .holds .long;
-      }
+  step-lengths = lengths-still s (o .after) (step .flash) (step .directory) (step .holds .long)
 
   pub step-pages : Same-pages g Data s (o .after)
   step-pages = rw (step .flash .chip, step .flash .spare) same-refl

@@ -11,6 +11,7 @@ use Rattle.scope.specs.Room.{read-page}
 use Rattle.scope.specs.Steps.{translate}
 use Rattle.scope.specs.Requests.{Replied, read-place, read-steps}
 use Rattle.scope.specs.Sound.{current, Sound}
+use Rattle.scope.specs.Laws.Applied.{flash-as}
 use Rattle.flash.specs.Words.{Lengths}
 use Rattle.flash.specs.SamePages.{same-refl}
 use Rattle.region.specs.Done.{done-none, done-read}
@@ -57,7 +58,7 @@ place-law g buffer Nowhere s len sound =
         lengths = len;
         places = λ l h. refl;
         pages = same-refl;
-        done = done-none g (record { chip = refl; spare = refl });
+        done = done-none g (flash-as refl);
         costs = omega arith;
       };
       tells = inr (refl, refl);

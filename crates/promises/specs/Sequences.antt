@@ -13,11 +13,11 @@ use Rattle.scope.specs.Lent.{none, State, Request, most-requests}
 use Rattle.scope.specs.Operations.{Outcome, give, _>>=_}
 use Rattle.scope.specs.Replies.{DONE, UNWRITTEN}
 use Rattle.scope.specs.Requests.{Replied, format-steps}
-use Rattle.scope.specs.Calls.{state-sizes, run-sizes, read-of, write-of, RunReplied, part, no-request, read, write, run}
+use Rattle.scope.specs.Calls.{state-sizes, buffer-sizes, run-sizes, read-of, write-of, RunReplied, part, no-request, read, write, run}
 use Rattle.scope.specs.Sound.{Sound}
 use Rattle.flash.specs.Cases.{below?}
 use Rattle.flash.specs.Clearing.{allowed-clears-each}
-use Rattle.promises.specs.Grounds.{Right, Refusal, request-grounds, single-grounds}
+use Rattle.promises.specs.Grounds.{Right, right-both, Refusal, request-grounds, single-grounds}
 use Rattle.promises.specs.Refused.{own, before-record}
 use Rattle.promises.specs.Remembered.{Call, Format, Check, Read-page, Write-page, Run, make, after-calls, history, remembered, noted, noted-records, Holding, Store, held}
 use Rattle.promises.specs.Demands.{Tells, Reads-well, Writes-well, Demand-2, Demand-3, Formats}
@@ -65,8 +65,7 @@ module _ {g : Geometry} (ok : Accepted g) where
     module _ (l : ℕ) (buffer : List ℕ) (below : l < g .L) (long : length buffer ≡ g .W) where
       admits : (q : Request) → q .kind < 2 → q .page < g .L → All-passed (single-grounds g true q buffer s)
       admits q kind below =
-          let len = stands .lengths in
-          single-passes g q buffer s ok (len .chip-fits, (len .spare-fits, (len .directory-fits, (len .cache-fits, (long, tt)))))
+          single-passes g q buffer s ok (right-both (state-sizes g s) (buffer-sizes g buffer) (lengths-right g s (stands .lengths)) (long, tt))
           (stands .sound) (request-passes g (s .small) q kind below)
 
       read-well : let o = read g true l buffer s in Reads-well g (o .value .reply) (o .did)
@@ -172,10 +171,7 @@ module _ {g : Geometry} (ok : Accepted g) where
         → length requests ≤ most-requests
         → run g true requests words answers s .value .reply ≡ DONE
     run-well requests words answers right few =
-        let sizes : Right (state-sizes g s ++ run-sizes g requests words answers) = (
-          stands .lengths .chip-fits,
-          (stands .lengths .spare-fits, (stands .lengths .directory-fits, (stands .lengths .cache-fits, right))),
-        ) in
+        let sizes = right-both (state-sizes g s) (run-sizes g requests words answers) (lengths-right g s (stands .lengths)) right in
         ap (λ (o : Outcome RunReplied). o .value .reply)
         (run-by-grounds g true requests words answers s .serves (ok, (((sizes, few), refl), (stands .sound, tt))))
         ∙ run-reply g requests (length requests) words answers s

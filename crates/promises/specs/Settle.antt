@@ -9,6 +9,7 @@ use Rattle.scope.specs.Geometry.{Geometry, Accepted, M}
 use Rattle.scope.specs.Lent.{State, Mapping, translation-page}
 use Rattle.scope.specs.Operations.{Outcome, give, for, _>>=_}
 use Rattle.scope.specs.Steps.{of-page, update-touched, update-all}
+use Rattle.scope.specs.Laws.Applied.{flash-as}
 use Rattle.flash.specs.Cases.{last}
 use Rattle.flash.specs.Words.{Lengths}
 use Rattle.flash.specs.Listed.{cost, cost-++, cost-none}
@@ -51,7 +52,7 @@ module _ {g : Geometry} (ok : Accepted g) where
         elsewhere = λ l h e. refl;
         only = only-refl;
         lengths = len;
-        done = done-none g (record { chip = refl; spare = refl });
+        done = done-none g (flash-as refl);
         costs = omega (arith, cost-none);
       }
   touched-law t (m ∷ ms) s len index below of-t =
@@ -100,7 +101,7 @@ module _ {g : Geometry} (ok : Accepted g) where
           above = λ l k e. refl;
           only = only-refl;
           lengths = len;
-          done = done-none g (record { chip = refl; spare = refl });
+          done = done-none g (flash-as refl);
           costs = omega (arith, cost-none);
         }
     settled-below (suc n) s h len index =

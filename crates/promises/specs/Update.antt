@@ -16,8 +16,9 @@ use Rattle.scope.specs.Operations.{Read, Outcome, Step, apply, give, look, perf
 use Rattle.scope.specs.Room.{read-page, program-next, make-room}
 use Rattle.scope.specs.Steps.{directory-names-it, directory-follows, begun, set-words, mark-old, update}
 use Rattle.flash.specs.Bounded.{accepted-region}
+use Rattle.scope.specs.Laws.Applied.{flash-as}
 use Rattle.flash.specs.Cases.{same?}
-use Rattle.flash.specs.Words.{Lengths, length-words-of}
+use Rattle.flash.specs.Words.{Lengths, lengths-with-directory, length-words-of}
 use Rattle.flash.specs.Places.{page-on-chip}
 use Rattle.flash.specs.Heads.{rest-same, rest-trans}
 use Rattle.flash.specs.SamePages.{same-refl, same-trans}
@@ -82,7 +83,7 @@ begun-law g t Nowhere s len names =
       long = length-replicate (g .W) none;
       word = λ i h. getD-replicate (g .W) i none none h;
       same = refl;
-      done = done-none g (record { chip = refl; spare = refl });
+      done = done-none g (flash-as refl);
       costs = omega arith;
     }
 
@@ -122,14 +123,9 @@ module _ (g : Geometry) (t : ℕ) (words : List ℕ) (s : State) (len : Lengths 
               cache = w .cache;
               rest = w .rest;
             };
-        lengths =
-            record {
-              chip-fits = w .lengths .chip-fits;
-              spare-fits = w .lengths .spare-fits;
-              directory-fits = length-set (o .after .directory) t (q .value) ∙ w .lengths .directory-fits;
-              cache-fits = w .lengths .cache-fits;
-            };
-        done = done-then (w .programmed) (done-then (w .marked) (done-none g (record { chip = refl; spare = refl })));
+        lengths = lengths-with-directory (o .after) (w .lengths)
+            (length-set (o .after .directory) t (q .value) ∙ w .lengths .directory-fits);
+        done = done-then (w .programmed) (done-then (w .marked) (done-none g (flash-as refl)));
         costs = cost-++ (q .did) (o .did ++ []) ∙ omega (arith, cost-++ (o .did) [], cost-none, w .costs-program, w .costs-mark);
       }
     where

@@ -18,7 +18,8 @@ use Rattle.scope.specs.Replies.{DONE}
 use Rattle.scope.specs.Requests.{Replied, replied, write-steps}
 use Rattle.scope.specs.Sound.{current, Sound}
 use Rattle.flash.specs.Bounded.{accepted-region}
-use Rattle.flash.specs.Words.{Lengths}
+use Rattle.flash.specs.Words.{Lengths, lengths-with-cache}
+use Rattle.scope.specs.Laws.Applied.{flash-as}
 use Rattle.flash.specs.Listed.{cost, cost-++, cost-none}
 use Rattle.region.specs.Holds.{Holds, Renames, contents}
 use Rattle.region.specs.Elsewhere.{Same-elsewhere}
@@ -72,13 +73,7 @@ module _ {g : Geometry} (ok : Accepted g) (l i : ℕ) (buffer : List ℕ) (s : S
         sound = sound-from (follows .index)
             (written-holds w (holds .besides) (current g s₄) renames)
             (record { entries = set .step .holds .entries; agree = places .agree });
-        lengths =
-            record {
-              chip-fits = w .lengths .chip-fits;
-              spare-fits = w .lengths .spare-fits;
-              directory-fits = w .lengths .directory-fits;
-              cache-fits = set .step .holds .long;
-            };
+        lengths = lengths-with-cache (o .after) (w .lengths) (set .step .holds .long);
         written = w .replacement .written (current g s₄) renames;
         keeps = w .replacement .keeps (current g s₄) renames;
       }
@@ -123,7 +118,7 @@ module _ {g : Geometry} (ok : Accepted g) (l i : ℕ) (buffer : List ℕ) (s : S
       let m = mark-old g old (q .after) in
       record {
         placed = entry-set q m w;
-        done = done-then (w .programmed) (done-then (w .marked) (done-none g (record { chip = refl; spare = refl })));
+        done = done-then (w .programmed) (done-then (w .marked) (done-none g (flash-as refl)));
         costs = cost-++ (q .did) (m .did ++ []) ∙ omega (arith, cost-++ (m .did) [], cost-none, w .costs-program, w .costs-mark);
       }
 

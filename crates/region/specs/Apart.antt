@@ -11,7 +11,7 @@ use lib.Seq.{sets}
 use Rattle.scope.specs.Geometry.{Geometry}
 use Rattle.scope.specs.Regions.{Region, Data, Translation, page-in}
 use Rattle.scope.specs.SmallRecord.{open-block, next-offset}
-use Rattle.scope.specs.Lent.{entry-words, State, Mapping, words-of, owner-of, is-valid}
+use Rattle.scope.specs.Lent.{entry-words, State, Mapping, with-directory, with-cache, words-of, owner-of, is-valid}
 use Rattle.scope.specs.Sound.{rank-of}
 use Rattle.scope.specs.Operations.{Operation, Read, Program, Mark, Outcome, Step, apply, give, look, perform, nothing, _>>=_}
 use Rattle.scope.specs.Operations.{set-directory, set-cache, set-small}
@@ -39,7 +39,7 @@ pub record Left : Type 0 where
   pub cache : List ℕ
 
 abbrev pub with-left : Left → State → State
-with-left x s = record { chip = s .chip; spare = s .spare; directory = x .directory; cache = x .cache; small = s .small }
+with-left x s = with-cache (x .cache) (with-directory (x .directory) s)
 
 abbrev pub leaving : Left → State → Outcome (List Mapping)
 leaving x s = record { value = x .waiting; after = with-left x s; did = [] }

@@ -13,7 +13,7 @@ use Rattle.scope.specs.SmallRecord.{open-block, next-offset, opened}
 use Rattle.scope.specs.Lent.{valid, decode, State, Mapping, state-of}
 use Rattle.scope.specs.Operations.{Erase, Outcome, apply, look, perform, set-small, _>>=_}
 use Rattle.scope.specs.Room.{Following, erased-blocks, victim, move-pages, open-lowest, collect}
-use Rattle.scope.specs.Laws.Applied.{Same-flash}
+use Rattle.scope.specs.Laws.Applied.{Same-flash, flash-as}
 use Rattle.flash.specs.Bounded.{Region-bounded}
 use Rattle.flash.specs.Words.{Lengths}
 use Rattle.flash.specs.Pages.{erase-block}
@@ -153,5 +153,5 @@ module _ {g : Geometry} {r : Region} {follow : Following} {settling : ℕ} {view
       copied = copied-since (F .mover) bounds (start .0) (g .P) (omega arith)
 
       made : Room-made g r settling view Inv s (collects g v o (follow .settled (o .value) (o .after)))
-      made = room-made-after s s₁ _ (record { chip = refl; spare = refl }) (start .1)
+      made = room-made-after s s₁ _ (flash-as refl) (start .1)
           (collected v s₁ o _ (start .0) copied (F .settled (o .value) (o .after) (copied .copying .lengths) (copied .copying .inv)))

@@ -13,9 +13,9 @@ use Rattle.scope.specs.Sound.{stored}
 use Rattle.scope.specs.Operations.{Outcome, give, set-directory, _>>=_}
 use Rattle.scope.specs.Room.{make-room}
 use Rattle.scope.specs.Steps.{directory-names-it, directory-follows}
-use Rattle.scope.specs.Laws.Applied.{flash-refl}
+use Rattle.scope.specs.Laws.Applied.{flash-refl, flash-as}
 use Rattle.flash.specs.Bounded.{accepted-region}
-use Rattle.flash.specs.Words.{Lengths}
+use Rattle.flash.specs.Words.{Lengths, lengths-with-directory}
 use Rattle.flash.specs.Heads.{head-same, Same-rest, rest-same, rest-trans}
 use Rattle.flash.specs.SamePages.{Same-pages, same-refl, same-trans}
 use Rattle.flash.specs.Listed.{cost, cost-none}
@@ -49,14 +49,9 @@ directory-follower g s₀ =
       mover = record {
         moved = λ w k q s lengths inv owned here. record {
           no-operation = refl;
-          flash = record { chip = refl; spare = refl };
+          flash = flash-as refl;
           head = head-same Translation refl;
-          lengths = record {
-            chip-fits = lengths .chip-fits;
-            spare-fits = lengths .spare-fits;
-            directory-fits = length-set (s .directory) k q ∙ lengths .directory-fits;
-            cache-fits = lengths .cache-fits;
-          };
+          lengths = lengths-with-directory s lengths (length-set (s .directory) k q ∙ lengths .directory-fits);
           at-most-one = omega arith;
           inv = record { data-pages = inv .data-pages; cache = inv .cache; rest = inv .rest };
           renames = record {

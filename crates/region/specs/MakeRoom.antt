@@ -12,7 +12,7 @@ use Rattle.scope.specs.SmallRecord.{next-offset}
 use Rattle.scope.specs.Lent.{State}
 use Rattle.scope.specs.Operations.{Outcome, give, look, set-small, _>>=_}
 use Rattle.scope.specs.Room.{Following, erased-blocks, lowest-erased, open-lowest, open-or-collect, make-room}
-use Rattle.scope.specs.Laws.Applied.{flash-refl}
+use Rattle.scope.specs.Laws.Applied.{flash-refl, flash-as}
 use Rattle.flash.specs.Bounded.{Region-bounded}
 use Rattle.flash.specs.Cases.{on, below?}
 use Rattle.flash.specs.Words.{Lengths}
@@ -74,7 +74,7 @@ module _ {g : Geometry} {r : Region} {follow : Following} {settling : ℕ} {view
         keeps = keeps;
         inv = copying .inv;
         lengths = copying .lengths;
-        done = done-none g (record { chip = refl; spare = refl });
+        done = done-none g (flash-as refl);
         costs = omega (arith, cost-none);
       }
 

@@ -14,7 +14,7 @@ use Rattle.scope.specs.Operations.{Program, Mark, Outcome, apply, apply-all, gi
 use Rattle.scope.specs.Room.{program-next}
 use Rattle.scope.specs.Steps.{mark-old}
 use Rattle.scope.specs.Sound.{Names}
-use Rattle.scope.specs.Laws.Applied.{flash-refl}
+use Rattle.scope.specs.Laws.Applied.{flash-refl, flash-as}
 use Rattle.flash.specs.Bounded.{Region-bounded}
 use Rattle.flash.specs.Words.{Lengths}
 use Rattle.flash.specs.Pages.{page-trans, Programmed, Marked, program-page, mark-page}
@@ -120,7 +120,7 @@ module _ (g : Geometry) (r : Region) (k : ℕ) (words : List ℕ) (view : ℕ �
   unfolding apply-all
   programs =
       record {
-        flash = record { chip = refl; spare = refl };
+        flash = flash-as refl;
         allowed = ((page-on-chip g r q here, fits .from-offset _ room (omega arith)), tt);
       }
 

@@ -6,9 +6,9 @@ use native.Mathlib.Omega.{arith}
 use lib.ListN.{length}
 use Rattle.scope.specs.Geometry.{Geometry, Accepted, pages}
 use Rattle.scope.specs.Regions.{Data}
-use Rattle.scope.specs.Lent.{Entry, Place, Nowhere, decode, State, physical-at}
+use Rattle.scope.specs.Lent.{Entry, Place, Nowhere, decode, State, with-flash, with-cache, physical-at}
 use Rattle.scope.specs.Sound.{Names, Sound}
-use Rattle.scope.specs.Operations.{Counts}
+use Rattle.scope.specs.Operations.{Counts, Step}
 use Rattle.scope.specs.Room.{read-page, program-next, make-room}
 use Rattle.scope.specs.Cache.{set-entry}
 use Rattle.scope.specs.Steps.{cache-follows, translate}
@@ -29,7 +29,7 @@ use Rattle.promises.specs.Read.{entry-place}
 use Rattle.promises.specs.Write.{placing, write-costs}
 use Rattle.lent.specs.declared.Counts.{Counts as Counted}
 use Rattle.lent.specs.declared.Work.{Work}
-use Rattle.lent.specs.Model.{small, state, counts}
+use Rattle.lent.specs.Model.{small, state, with-rec, counts}
 use Rattle.lent.specs.Does.{Does}
 use Rattle.lent.specs.DoesLaws.{does-give, does-look-at, does-bind}
 use Rattle.lent.specs.Shapes.{Does-flash, Does-by-chip, Does-cache, Room-to-count, less-room}
@@ -119,11 +119,11 @@ module _ (g : Geometry) (buffer : List ℕ) {place : Entry} {chip : List ℕ} {w
   pub read-place-does : {w′ : Work} {words : List ℕ} (p : ℕ) → place ≡ Place p → Does-by-chip (read-page g p) chip w words w′
       → Does-by-chip (read-place g buffer place) chip w (replied words DONE) w′
   unfolding read-place
-  read-place-does p e reads spare directory cache = rw e (does-bind _ (reads spare directory cache) (does-give _))
+  read-place-does p e reads s = rw e (does-bind _ (reads s) (does-give _))
 
   pub read-nowhere-does : place ≡ Nowhere → Does-by-chip (read-place g buffer place) chip w (replied buffer UNWRITTEN) w
   unfolding read-place
-  read-nowhere-does e spare directory cache = rw e (does-give _)
+  read-nowhere-does e s = rw e (does-give _)
 
 pub read-does : (g : Geometry) (l : ℕ) (buffer : List ℕ) {s s₁ s₂ : State} {c c₁ c₂ : Counts} {x : ℕ} {place : Entry}
     {r : Replied} → Does (translate g l) s c x s₁ c₁ → decode (physical-at x (s₁ .cache)) ≡ place
@@ -187,18 +187,23 @@ module _ {l : ℕ} {g : Geometry} {s s₁ : State} {x : ℕ} {c c₁ : Counted} 
             rank = made .inv .rank;
           })
 
+-- It is written whatever else the state holds.
+abbrev pub Does-placing : {A : Type 0} → Step A → List ℕ → List ℕ → List ℕ → Work → A → List ℕ → List ℕ → List ℕ → Work → Type 0
+Does-placing m chip spare cache w x chip′ spare′ cache′ w′ =
+    (s : State)
+    → Does-all m (with-cache cache (with-flash chip spare (with-rec (w .rec) s))) w x
+    (with-cache cache′ (with-flash chip′ spare′ (with-rec (w′ .rec) s))) w′
+
 pub placing-does : (g : Geometry) (l i : ℕ) {chip spare cache chip′ spare₁ spare′ cache′ buffer : List ℕ} {w w′ : Work} {q : ℕ}
     {old : Entry} → Does-flash (program-next g Data l buffer) chip spare w q chip′ spare₁ w′
     → decode (physical-at i cache) ≡ old → spare′ ≡ marked old spare₁
-    → Does-cache (set-entry i q) cache w′ tt cache′ w′ → (directory : List ℕ)
-    → Does-all (placing g l i buffer) (state chip spare directory cache (w .rec)) w (replied buffer DONE)
-    (state chip′ spare′ directory cache′ (w′ .rec)) w′
+    → Does-cache (set-entry i q) cache w′ tt cache′ w′ → Does-placing (placing g l i buffer) chip spare cache w (replied buffer DONE) chip′ spare′ cache′ w′
 unfolding placing
-placing-does g l i {cache = cache} {chip′} {old = old} programs e is-marked sets directory =
-    does-bind _ (programs directory cache)
+placing-does g l i {cache = cache} {chip′} {spare′ = spare′} {old = old} programs e is-marked sets s =
+    does-bind _ (programs (with-cache cache s))
     (does-bind _ (does-look-at _ e)
     (does-bind _ (mark-old-does g old is-marked)
-    (does-bind _ (sets chip′ _ directory) (does-give _))))
+    (does-bind _ (sets (with-flash chip′ spare′ s)) (does-give _))))
 
 pub write-does : (g : Geometry) (l : ℕ) (buffer : List ℕ) {s s₁ s₂ s₃ : State} {c c₁ c₂ c₃ : Counts} {x : ℕ} {r : Replied}
     → Does (translate g l) s c x s₁ c₁ → Does (make-room g Data (cache-follows g)) s₁ c₁ tt s₂ c₂

@@ -7,13 +7,12 @@ use native.Mathlib.Omega.{arith}
 use lib.ListN.{length}
 use Rattle.scope.specs.Geometry.{Geometry, blocks}
 use Rattle.scope.specs.Regions.{Data}
-use Rattle.scope.specs.SmallRecord.{SmallRecord}
-use Rattle.scope.specs.Lent.{State, Mapping, logical-at}
+use Rattle.scope.specs.Lent.{State, Mapping, with-flash, with-cache, logical-at}
 use Rattle.scope.specs.Sound.{Sound, current}
 use Rattle.scope.specs.Operations.{Erase, look, perform, set-small, _>>=_}
 use Rattle.scope.specs.Room.{open-lowest, move-pages, make-room}
 use Rattle.scope.specs.Steps.{update-all, cache-follows}
-use Rattle.flash.specs.Bounded.{accepted-bounded, accepted-region}
+use Rattle.flash.specs.Bounded.{accepted-region}
 use Rattle.flash.specs.Listed.{cost}
 use Rattle.flash.specs.Words.{Lengths}
 use Rattle.cache.specs.Waiting.{Waits}
@@ -26,12 +25,12 @@ use Rattle.promises.specs.Settle.{Index-settled, settle-law}
 use Rattle.promises.specs.Update.{update-bound}
 use Rattle.lent.specs.declared.Counts.{Counts as Counted}
 use Rattle.lent.specs.declared.Work.{Work}
-use Rattle.lent.specs.Model.{state}
+use Rattle.lent.specs.Model.{state, with-rec}
 use Rattle.lent.specs.Shapes.{Does-flash, Does-cache, Room-to-count, less-room}
 use Rattle.steps.specs.Lies.{Chip-lent, Spare-lent}
-use Rattle.copying.specs.Choice.{To-collect, start-collect, start-follows-does, collect-does}
+use Rattle.copying.specs.Choice.{To-collect, Makes-room, start-collect, start-follows-does, collect-does}
 use Rattle.copying.specs.Starting.{Collect-ready}
-use Rattle.index.specs.Index.{Index-ready}
+use Rattle.index.specs.Index.{Index, lists, with-index, Does-index, chip-of, spare-of, lengths-lent, Index-ready}
 use Rattle.requests.specs.Ready.{Does-all, Ready, countable-after}
 
 -- The most that room in the data region costs.
@@ -106,54 +105,57 @@ module _ {g : Geometry} {chip spare directory cache : List ℕ} {w : Work}
   module _ {chip₁ spare₁ cache₁ : List ℕ} {moves waiting : List Mapping} {w₁ : Work}
       (starts : Does-flash (start-collect g Data waits-all v) chip spare w moves chip₁ spare₁ w₁)
       (follows : Does-cache (follow-each (cache-follows g) moves) cache w₁ waiting cache₁ w₁) where
-    copies : Does-all (start-collect g Data (cache-follows g) v) s w waiting (state chip₁ spare₁ directory cache₁ (w₁ .rec)) w₁
-    copies = start-follows-does (cache-apart g) g Data v (starts directory cache) (follows chip₁ spare₁ directory)
+    abbrev s₁ : State
+    s₁ = with-cache cache₁ (with-flash chip₁ spare₁ (with-rec (w₁ .rec) s))
 
-    after : After-copying g waiting (state chip₁ spare₁ directory cache₁ (w₁ .rec))
+    copies : Does-all (start-collect g Data (cache-follows g) v) s w waiting s₁ w₁
+    copies = start-follows-does (cache-apart g) g Data v (starts s) (follows (with-flash chip₁ spare₁ s))
+
+    after : After-copying g waiting s₁
     after = subst₂ (After-copying g) (copies .value) (copies .after) after-copying
 
     waited : update-bound g * length waiting ≤ update-bound g * (g .P - 1)
     waited = mul-le-mul-left (update-bound g) (omega (arith, after .few))
 
-    pub settle-ready : Index-ready g chip₁ spare₁ directory w₁ waiting
+    pub settle-ready : Index-ready g (lists chip₁ spare₁ directory) w₁ waiting
     settle-ready =
         record {
-          lent = record {
-            accepted = ready .accepted;
-            chip-fits = after .lengths .chip-fits;
-            spare-fits = after .lengths .spare-fits;
-            directory-fits = after .lengths .directory-fits;
-          };
+          lent = lengths-lent (lists chip₁ spare₁ directory) w₁ s₁ (ready .accepted) (after .lengths);
           index = after .index;
           below-L = after .below-L;
           counting = countable-after _ (2 * (g .P - 1)) (less-room (omega (arith, waited)) (ready .countable)) copying-costs copies;
         }
 
-    module _ {chip₂ spare₂ directory₂ : List ℕ} {w₂ : Work}
-        (settles : Does-all (update-all g waiting) (state chip₁ spare₁ directory cache₁ (w₁ .rec)) w₁ tt
-        (state chip₂ spare₂ directory₂ cache₁ (w₂ .rec)) w₂) where
-      settled : Index-settled g waiting (state chip₁ spare₁ directory cache₁ (w₁ .rec))
-          (update-all g waiting (state chip₁ spare₁ directory cache₁ (w₁ .rec)))
+    module _ {x₂ : Index} {w₂ : Work} (settles : Does-index (update-all g waiting) (lists chip₁ spare₁ directory) w₁ tt x₂ w₂) where
+      settled : Index-settled g waiting s₁ (update-all g waiting s₁)
       settled = settle-law (ready .accepted) waiting (after .below-L) _ (after .lengths) (after .index)
 
       pub settled-keeps-used : w₂ .rec .used ≡ w₁ .rec .used
       settled-keeps-used =
-          sym (ap (λ (s : State). s .small .used) (settles .after)) ∙ settled .only .rest .used
+          sym (ap (λ (s : State). s .small .used) (settles s₁ .after)) ∙ settled .only .rest .used
 
-      pub erase-ready : v < blocks g → Chip-lent g chip₂ × Spare-lent g spare₂ × (v < blocks g) × Room-to-count 1 (w₂ .counts)
+      pub erase-ready : v < blocks g → Chip-lent g (x₂ .chip) × Spare-lent g (x₂ .spare) × (v < blocks g) × Room-to-count 1 (w₂ .counts)
       erase-ready on-chip =
-          let lengths : Lengths g (state chip₂ spare₂ directory₂ cache₁ (w₂ .rec)) =
-          subst (Lengths g) (settles .after) (settled .lengths) in (
-            record { bounded = accepted-bounded (ready .accepted); chip-fits = lengths .chip-fits },
-            record { bounded = accepted-bounded (ready .accepted); spare-fits = lengths .spare-fits },
+          let lent = lengths-lent x₂ w₂ s₁ (ready .accepted) (subst (Lengths g) (settles s₁ .after) (settled .lengths)) in (
+            chip-of lent,
+            spare-of lent,
             on-chip,
             countable-after 1 (update-bound g * (g .P - 1))
                 (countable-after (1 + update-bound g * (g .P - 1)) (2 * (g .P - 1)) (less-room (omega arith) (ready .countable))
                 copying-costs copies)
-                (omega (arith, settled .costs, waited)) settles,
+                (omega (arith, settled .costs, waited)) (settles s₁),
           )
 
       -- Together they make room.
-      pub collected-does : {chip₃ spare₃ : List ℕ} {w₃ : Work} → Does-flash (perform g (Erase v)) chip₂ spare₂ w₂ tt chip₃ spare₃ w₃
-          → Does-all (make-room g Data (cache-follows g)) s w tt (state chip₃ spare₃ directory₂ cache₁ (w₃ .rec)) w₃
-      collected-does erases = collect-does (cache-follows g) chosen copies settles (erases directory₂ cache₁)
+      pub collected-does : {chip₃ spare₃ : List ℕ} {w₃ : Work} → Does-flash (perform g (Erase v)) (x₂ .chip) (x₂ .spare) w₂ tt chip₃ spare₃ w₃
+          → Does-all (make-room g Data (cache-follows g)) s w tt (with-index (lists chip₃ spare₃ (x₂ .directory)) w₃ s₁) w₃
+      collected-does erases = collect-does (cache-follows g) s chosen copies (settles s₁) (erases (with-index x₂ w₂ s₁))
+
+-- ---- the choice
+
+-- Room that is there, or was made by opening a block.
+pub chosen-does : {g : Geometry} {s : State} {n : ℕ} {spare : List ℕ} {w w′ : Work} (ready : Ready g s n (w .counts))
+    → Makes-room g Data spare w w′
+    → Does-all (make-room g Data (cache-follows g)) (with-flash (s .chip) spare (with-rec (w .rec) s)) w tt
+    (with-flash (s .chip) spare (with-rec (w′ .rec) s)) w′
+chosen-does {g} {s} ready makes = makes .does (cache-follows g) s

@@ -2,7 +2,7 @@
 -- an entry than the place that it names.
 use Prim.Native.Nat.{ℕ, _+_, _<_}
 use mathlib.Core.Path.{_≡_, sym, ap, subst, subst₂}
-use mathlib.Core.List.{List, []}
+use mathlib.Core.List.{List}
 use native.Mathlib.Omega.{arith}
 use Rattle.scope.specs.Geometry.{Geometry}
 use Rattle.scope.specs.Regions.{Data}
@@ -12,6 +12,7 @@ use Rattle.scope.specs.Operations.{Erase, apply, give, look, perform, set-cache
 use Rattle.scope.specs.Room.{read-page, program-next}
 use Rattle.scope.specs.Cache.{touch, forget, set-entry}
 use Rattle.scope.specs.Requests.{Replied, read-place}
+use Rattle.flash.specs.Words.{some-state}
 use Rattle.cache.specs.Ranks.{rank-found}
 use Rattle.lent.specs.declared.Work.{Work}
 use Rattle.lent.specs.Shapes.{Does-flash, Does-by-chip, Does-cache}
@@ -31,7 +32,7 @@ pub forgotten-filter : {cache cache′ : List ℕ} {w w′ : Work} (i : ℕ) →
     → Keeps-filters cache (w .rec .used) cache′ (w′ .rec .used)
 unfolding forget set-cache set-small _>>=_
 forgotten-filter {cache} {cache′} {w} {w′} i last does filter f =
-    let after = does [] [] [] .after in
+    let after = does some-state .after in
     subst₂ (λ (x : List ℕ) (n : ℕ). Filter x n filter) (ap (λ (s : State). s .cache) after)
     (omega (arith, ap (λ (s : State). s .small .used) after)) (filter-forgotten f i (omega arith))
 
@@ -43,12 +44,12 @@ module _ {cache cache′ filter : List ℕ} {w : Work} (f : Filter cache (w .rec
   pub touched-filter : {i : ℕ} → i < w .rec .used → Does-cache (touch i) cache w 0 cache′ w → Filter cache′ (w .rec .used) filter
   unfolding touch set-cache give _>>=_
   touched-filter {i} in-use does =
-      subst (λ (x : List ℕ). Filter x (w .rec .used) filter) (ap (λ (s : State). s .cache) (does [] [] [] .after)) (filter-moved f i in-use)
+      subst (λ (x : List ℕ). Filter x (w .rec .used) filter) (ap (λ (s : State). s .cache) (does some-state .after)) (filter-moved f i in-use)
 
   pub placed-filter : (i place : ℕ) → Does-cache (set-entry i place) cache w tt cache′ w → Filter cache′ (w .rec .used) filter
   unfolding set-entry set-cache
   placed-filter i place does =
-      subst (λ (x : List ℕ). Filter x (w .rec .used) filter) (ap (λ (s : State). s .cache) (does [] [] [] .after))
+      subst (λ (x : List ℕ). Filter x (w .rec .used) filter) (ap (λ (s : State). s .cache) (does some-state .after))
       (filter-placed f i place)
 
 -- Flash's steps leave the number of entries in use.
@@ -56,15 +57,15 @@ module _ (g : Geometry) {chip spare chip′ spare′ : List ℕ} {w w′ : Work}
   pub program-keeps-used : (l : ℕ) (words : List ℕ) {q : ℕ} → Does-flash (program-next g Data l words) chip spare w q chip′ spare′ w′
       → w′ .rec .used ≡ w .rec .used
   unfolding program-next look perform apply set-small give _>>=_
-  program-keeps-used l words does = sym (ap (λ (s : State). s .small .used) (does [] [] .after))
+  program-keeps-used l words does = sym (ap (λ (s : State). s .small .used) (does some-state .after))
 
   pub erase-keeps-used : (b : ℕ) → Does-flash (perform g (Erase b)) chip spare w tt chip′ spare′ w′ → w′ .rec .used ≡ w .rec .used
   unfolding perform apply
-  erase-keeps-used b does = sym (ap (λ (s : State). s .small .used) (does [] [] .after))
+  erase-keeps-used b does = sym (ap (λ (s : State). s .small .used) (does some-state .after))
 
 -- So does a read.
 pub read-place-keeps-used : (g : Geometry) (buffer : List ℕ) (place : Entry) {chip : List ℕ} {w w′ : Work} {r : Replied}
     → Does-by-chip (read-place g buffer place) chip w r w′ → w′ .rec .used ≡ w .rec .used
 unfolding read-place read-page perform apply look give _>>=_
-read-place-keeps-used g buffer (Place p) does = sym (ap (λ (s : State). s .small .used) (does [] [] [] .after))
-read-place-keeps-used g buffer Nowhere does = sym (ap (λ (s : State). s .small .used) (does [] [] [] .after))
+read-place-keeps-used g buffer (Place p) does = sym (ap (λ (s : State). s .small .used) (does some-state .after))
+read-place-keeps-used g buffer Nowhere does = sym (ap (λ (s : State). s .small .used) (does some-state .after))

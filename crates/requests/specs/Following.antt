@@ -92,8 +92,8 @@ module _ (g : Geometry) (l page : ℕ) {cache : List ℕ} {w : Work} {i : ℕ} (
   entry-follows h sets =
       record {
         more = [];
-        does = λ chip spare directory. does-bind _ (does-look-at _ is)
-            (does-cond-true _ _ _ (lt-ltb i (g .C) h) (does-bind _ (sets chip spare directory) (does-give [])));
+        does = λ s. does-bind _ (does-look-at _ is)
+            (does-cond-true _ _ _ (lt-ltb i (g .C) h) (does-bind _ (sets s) (does-give [])));
         waits = sym (append-nil waiting);
       }
 
@@ -103,7 +103,7 @@ module _ (g : Geometry) (l page : ℕ) {cache : List ℕ} {w : Work} {i : ℕ} (
   page-waits h e =
       record {
         more = record { logical = l; physical = page } ∷ [];
-        does = λ chip spare directory. does-bind _ (does-look-at _ is) (does-cond-false _ _ _ (le-ltb i (g .C) h) (does-give _));
+        does = λ s. does-bind _ (does-look-at _ is) (does-cond-false _ _ _ (le-ltb i (g .C) h) (does-give _));
         waits = e;
       }
 
@@ -122,7 +122,7 @@ module _ {g : Geometry} {n : ℕ} {cache₀ moves₀ : List ℕ} {w : Work} wher
       record {
         upto = omega arith;
         most = omega arith;
-        does = λ chip spare directory. rw (no-moves moves₀) (follow-none-does (cache-follows g));
+        does = λ s. rw (no-moves moves₀) (follow-none-does (cache-follows g));
         ahead = λ j h. refl;
       }
 
@@ -133,9 +133,9 @@ module _ {g : Geometry} {n : ℕ} {cache₀ moves₀ : List ℕ} {w : Work} wher
       record {
         upto = omega arith;
         most = omega (arith, before .most, ahead .most);
-        does = λ chip spare directory. rw (one-more moves₀ i)
-            (does-value (follow-more-does (cache-apart g) (first-moves i moves₀) (move-at i moves₀) (before .does chip spare directory)
-            (same (follows .does) chip spare directory)) (sym (follows .waits)));
+        does = λ s. rw (one-more moves₀ i)
+            (does-value (follow-more-does (cache-apart g) (first-moves i moves₀) (move-at i moves₀) (before .does s)
+            (same (follows .does) s)) (sym (follows .waits)));
         ahead = λ j h. ahead .behind j (omega (arith, before .most)) ∙ before .ahead j (omega arith);
       }
     where

@@ -6,7 +6,7 @@ use denote.Ref.{RefT, now}
 use Rattle.scope.specs.Geometry.{Geometry, Accepted}
 use Rattle.scope.specs.Lent.{State}
 use Rattle.scope.specs.Sound.{Sound}
-use Rattle.scope.specs.Operations.{Step}
+use Rattle.scope.specs.Operations.{Step, Counts}
 use Rattle.flash.specs.Words.{Lengths}
 use Rattle.flash.specs.Listed.{cost}
 use Rattle.lent.specs.declared.Counts.{Counts as Counted}
@@ -28,6 +28,13 @@ pub record Ready (g : Geometry) (s : State) (n : ℕ) (c : Counted) : Type 0 whe
   pub lengths : Lengths g s
   pub sound : Sound g s
   pub countable : Room-to-count n c
+
+-- The state that it speaks of; the state that a step has left. Steps that are lent some of the lists do the same in it.
+abbrev pub ready-state : {g : Geometry} {s : State} {n : ℕ} {c : Counted} → Ready g s n c → State
+ready-state {s = s} ready = s
+
+abbrev pub left-by : {A : Type 0} {m : Step A} {s s′ : State} {c c′ : Counts} {x : A} → Does m s c x s′ c′ → State
+left-by {s′ = s′} does = s′
 
 -- The same for a step about logical page l.
 pub record Ready-for (l : ℕ) (g : Geometry) (s : State) (n : ℕ) (c : Counted) : Type 0 where

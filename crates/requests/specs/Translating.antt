@@ -9,25 +9,25 @@ use lib.ListN.{length}
 use borrow.Author.Tests.{lt-ltb, le-ltb}
 use Rattle.scope.specs.Geometry.{Geometry, Accepted, pages}
 use Rattle.scope.specs.Regions.{Translation}
-use Rattle.scope.specs.Lent.{Entry, Place, Nowhere, State, chip-size, directory-size, cache-size, named, logical-at, physical-at, translation-page}
+use Rattle.scope.specs.Lent.{Entry, Place, Nowhere, State, with-flash, with-cache, chip-size, directory-size, cache-size, named, logical-at, physical-at, translation-page}
 use Rattle.scope.specs.Sound.{rank-of, Names}
 use Rattle.scope.specs.Operations.{Counts, Step, apply, give, look, nothing, perform, _>>=_}
 use Rattle.scope.specs.Room.{read-page}
 use Rattle.scope.specs.Cache.{dropped, touch, enter, forget, is-changed, written-back}
 use Rattle.scope.specs.Steps.{update, write-back, drop-entry, drop-if-full, word-for, fetch, translate}
 use Rattle.flash.specs.Places.{page-on-chip}
-use Rattle.flash.specs.Words.{Lengths}
+use Rattle.flash.specs.Words.{Lengths, blank}
 use Rattle.promises.specs.Index.{page-below}
 use Rattle.promises.specs.Parts.{Index-fits, index-of}
 use Rattle.promises.specs.Update.{update-bound}
 use Rattle.promises.specs.Translate.{translate-bound, can-go, dropped-law}
 use Rattle.lent.specs.declared.Counts.{Counts as Counted}
 use Rattle.lent.specs.declared.Work.{Work}
-use Rattle.lent.specs.Model.{state, counts}
+use Rattle.lent.specs.Model.{state, with-rec, counts}
 use Rattle.lent.specs.Does.{Does}
 use Rattle.lent.specs.DoesLaws.{does-give, does-look, does-look-at, does-bind, does-cond-true, does-cond-false}
 use Rattle.requests.specs.Ready.{Ready, Ready-for, countable-after}
-use Rattle.index.specs.Index.{Index-ready}
+use Rattle.index.specs.Index.{lists, with-index, lengths-lent, Index-ready}
 use Rattle.lent.specs.Shapes.{Does-by-chip, Room-to-count, less-room}
 
 -- An entry for l may be fetched: there is room for it, and the translation page that is to be read lies on the chip.
@@ -41,12 +41,12 @@ pub record Fetches (g : Geometry) (l : ℕ) (chip directory cache : List ℕ) (w
   pub room : w .rec .used < g .C
   pub countable : Room-to-count 1 (w .counts)
 
--- It is done whatever the spare holds.
+-- It is done whatever else the state holds.
 abbrev pub Does-fetch : {A : Type 0} → Step A → List ℕ → List ℕ → List ℕ → Work → A → List ℕ → Work → Type 0
 Does-fetch m chip directory cache w x cache′ w′ =
-    (spare : List ℕ)
-    → Does m (state chip spare directory cache (w .rec)) (counts (w .counts)) x
-    (state chip spare directory cache′ (w′ .rec)) (counts (w′ .counts))
+    (s : State)
+    → Does m (with-cache cache (with-index (lists chip (s .spare) directory) w s)) (counts (w .counts)) x
+    (with-cache cache′ (with-index (lists chip (s .spare) directory) w′ s)) (counts (w′ .counts))
 
 -- The index names pages on the chip.
 named-on-chip : {g : Geometry} → Accepted g → (s : State) → Index-fits g s → (l : ℕ) → l < g .L → (q : ℕ)
@@ -106,22 +106,18 @@ word-for-keeps g l Nowhere s = refl
 pub read-keeps-used : (g : Geometry) (l : ℕ) (page : Entry) {chip : List ℕ} {w w′ : Work} {x : ℕ}
     → Does-by-chip (word-for g l page) chip w x w′ → w′ .rec .used ≡ w .rec .used
 read-keeps-used g l page {chip} {w} does =
-    ap (λ (s : State). s .small .used) (sym (does [] [] [] .after) ∙ word-for-keeps g l page (state chip [] [] [] (w .rec)))
+    ap (λ (s : State). s .small .used)
+    (sym (does (blank g) .after) ∙ word-for-keeps g l page (with-flash chip (blank g .spare) (with-rec (w .rec) (blank g))))
 
 -- ---- what is asked for at each place
 
 -- One mapping may be written back.
 pub write-back-ready : {g : Geometry} {chip spare directory cache : List ℕ} {w : Work} (l place : ℕ)
     → Ready g (state chip spare directory cache (w .rec)) (update-bound g) (w .counts) → l < g .L
-    → Index-ready g chip spare directory w (record { logical = l; physical = place } ∷ [])
-write-back-ready {g} l place ready below =
+    → Index-ready g (lists chip spare directory) w (record { logical = l; physical = place } ∷ [])
+write-back-ready {g} {chip} {spare} {directory} {cache} {w} l place ready below =
     record {
-      lent = record {
-        accepted = ready .accepted;
-        chip-fits = ready .lengths .chip-fits;
-        spare-fits = ready .lengths .spare-fits;
-        directory-fits = ready .lengths .directory-fits;
-      };
+      lent = lengths-lent (lists chip spare directory) w (state chip spare directory cache (w .rec)) (ready .accepted) (ready .lengths);
       index = index-of (ready .sound);
       below-L = λ k. ⊎-elim (λ e. rw (← e) below) (λ z. absurd z);
       counting = less-room (omega arith) (ready .countable);

@@ -18,14 +18,14 @@ ghost use mathlib.Core.List.{List};
 ghost use Prim.Native.Nat.{ℕ};
 ghost use lib.ListN.{length};
 ghost use Rattle.scope.specs.Requests.{replied, read-place, read-steps, write-steps};
-ghost use Rattle.lent.specs.Model.{geometry, entry, state};
+ghost use Rattle.lent.specs.Model.{geometry, entry};
 ghost use Rattle.lent.specs.Shapes.{Does-by-chip};
 ghost use Rattle.promises.specs.Demands.{read-bound, write-bound};
 ghost use Rattle.promises.specs.Write.{placing};
 ghost use Rattle.words.specs.Census.{Census};
 ghost use Rattle.words.specs.Filter.{Filter};
 ghost use Rattle.requests.specs.Ready.{lent, Does-all, Ready-for};
-ghost use Rattle.requests.specs.Answering.{Place-ready, Writing-ready};
+ghost use Rattle.requests.specs.Answering.{Place-ready, Writing-ready, Does-placing};
 
 const DONE: u32 = 0;
 
@@ -95,9 +95,9 @@ fn place(
 ) -> Work
     requires { ⌜ Writing-ready (geometry g) i (now chip) (now spare) (now cache) (now buffer) work ⌝ }
     requires { ⌜ Census (geometry g) (now spare) (now census) ⌝ }
-    ensures { λ r. ⌜ ((directory : List ℕ) → Does-all (placing (geometry g) l i (now (buffer .entry)))
-        (state (now (chip .entry)) (now (spare .entry)) directory (now (cache .entry)) (work .rec)) work (replied (now (buffer .entry)) 0)
-        (state (now (chip .exit)) (now (spare .exit)) directory (now (cache .exit)) (r .rec)) r) ⌝ }
+    ensures { λ r. ⌜ Does-placing (placing (geometry g) l i (now (buffer .entry)))
+        (now (chip .entry)) (now (spare .entry)) (now (cache .entry)) work (replied (now (buffer .entry)) 0)
+        (now (chip .exit)) (now (spare .exit)) (now (cache .exit)) r ⌝ }
     ensures { λ _. ⌜ Census (geometry g) (now (spare .exit)) (now (census .exit)) ⌝ }
     ensures { λ r. ⌜ ((filter : List ℕ) → Filter (now (cache .entry)) (work .rec .used) filter
         → Filter (now (cache .exit)) (r .rec .used) filter) ⌝ }

@@ -8,8 +8,8 @@ use lib.ListN.{length, set, replicate, length-replicate}
 use lib.Seq.{sets}
 use Rattle.scope.specs.Geometry.{Geometry, pages}
 use Rattle.scope.specs.Regions.{Region}
-use Rattle.scope.specs.SmallRecord.{advanced, opened}
-use Rattle.scope.specs.Lent.{none, invalid, erased, Entry, Place, Nowhere, State, Mapping, words-of, owner-of, with-state, with-claim, with-erased, translation-word}
+use Rattle.scope.specs.SmallRecord.{SmallRecord, advanced, opened}
+use Rattle.scope.specs.Lent.{none, invalid, erased, Entry, Place, Nowhere, State, Mapping, with-flash, with-small, words-of, owner-of, with-state, with-claim, with-erased, translation-word}
 use Rattle.scope.specs.Operations.{Step, Mark, Erase, Counts, apply, give, look, perform, set-small, _>>=_, _>>_}
 use Rattle.scope.specs.Room.{Following, read-page, program-next, move-page, open-lowest, lowest-erased}
 use Rattle.scope.specs.Sound.{in-page}
@@ -18,9 +18,9 @@ use Rattle.flash.specs.Words.{words-at, length-words-of}
 use Rattle.lent.specs.declared.Counts.{Counts as Counted}
 use Rattle.lent.specs.declared.Record.{Record}
 use Rattle.lent.specs.declared.Work.{Work}
-use Rattle.lent.specs.Model.{state, small, counts}
+use Rattle.lent.specs.Model.{small, counts}
 use Rattle.lent.specs.Does.{Does}
-use Rattle.lent.specs.DoesLaws.{one-read, one-program, one-erase, does-ends, does-value, state-same, does-give, does-look, does-look-at, does-bind, does-read, does-program, does-mark, does-erase, does-set-small}
+use Rattle.lent.specs.DoesLaws.{one-read, one-program, one-erase, does-ends, does-value, flash-same, does-give, does-look, does-look-at, does-bind, does-read, does-program, does-mark, does-erase, does-set-small}
 use Rattle.lent.specs.Shapes.{Does-flash, Does-by-chip, Room-to-count, told, room-after-read}
 use Rattle.words.specs.Runs.{set-inside}
 use Rattle.steps.specs.Lies.{Chip-lent, next-page}
@@ -34,26 +34,23 @@ read-does g p e = does-ends (does-bind _ (does-read g p) (does-look _)) refl (sy
 
 pub read-by-chip : (g : Geometry) (p : ℕ) {chip : List ℕ} {w w′ : Work} → w′ .rec ≡ w .rec
     → counts (w′ .counts) ≡ one-read (counts (w .counts)) → Does-by-chip (read-page g p) chip w (words-of g p chip) w′
-read-by-chip g p kept counting spare directory cache =
-    does-ends (read-does g p counting) (state-same refl refl refl refl (ap small (sym kept))) refl
+read-by-chip g p kept counting s = does-ends (read-does g p counting) (flash-same s refl refl (ap small (sym kept))) refl
 
 -- A page is marked; the page that an entry names is, if it names one.
 abbrev pub marked : Entry → List ℕ → List ℕ
 marked (Place p) spare = with-state p invalid spare
 marked Nowhere spare = spare
 
-pub mark-does : (g : Geometry) (p : ℕ) {chip spare spare′ directory cache : List ℕ} {rec : Record} {c : Counts}
-    → spare′ ≡ with-state p invalid spare
-    → Does (perform g (Mark p)) (state chip spare directory cache rec) c tt (state chip spare′ directory cache rec) c
+pub mark-does : (g : Geometry) (p : ℕ) {s : State} {spare′ : List ℕ} {c : Counts} → spare′ ≡ with-state p invalid (s .spare)
+    → Does (perform g (Mark p)) s c tt (with-flash (s .chip) spare′ s) c
 unfolding apply
-mark-does g p e = does-ends (does-mark g p) (state-same refl (sym e) refl refl refl) refl
+mark-does g p {s} e = does-ends (does-mark g p) (flash-same s refl (sym e) refl) refl
 
-pub mark-old-does : (g : Geometry) (old : Entry) {chip spare spare′ directory cache : List ℕ} {rec : Record} {c : Counts}
-    → spare′ ≡ marked old spare
-    → Does (mark-old g old) (state chip spare directory cache rec) c tt (state chip spare′ directory cache rec) c
+pub mark-old-does : (g : Geometry) (old : Entry) {s : State} {spare′ : List ℕ} {c : Counts} → spare′ ≡ marked old (s .spare)
+    → Does (mark-old g old) s c tt (with-flash (s .chip) spare′ s) c
 unfolding mark-old
 mark-old-does g (Place p) e = mark-does g p e
-mark-old-does g Nowhere e = does-ends (does-give tt) (state-same refl (sym e) refl refl refl) refl
+mark-old-does g Nowhere {s} e = does-ends (does-give tt) (flash-same s refl (sym e) refl) refl
 
 -- A block is erased.
 pub erase-does : (g : Geometry) (b : ℕ) {chip spare chip′ spare′ : List ℕ} {w w′ : Work}
@@ -62,8 +59,8 @@ pub erase-does : (g : Geometry) (b : ℕ) {chip spare chip′ spare′ : List �
     → w′ .rec ≡ w .rec → counts (w′ .counts) ≡ one-erase (counts (w .counts))
     → Does-flash (perform g (Erase b)) chip spare w tt chip′ spare′ w′
 unfolding apply
-erase-does g b e f kept counting directory cache =
-    does-ends (does-erase g b) (state-same (sym e) (sym f) refl refl (ap small (sym kept))) (sym counting)
+erase-does g b e f kept counting s =
+    does-ends (does-erase g b) (flash-same s (sym e) (sym f) (ap small (sym kept))) (sym counting)
 
 -- ---- the open block's next page
 
@@ -78,13 +75,13 @@ pub program-does : {g : Geometry} {r : Region} {owner q q₀ : ℕ} {chip spare 
     → q₀ ≡ next-page g r (small (w .rec)) → chip′ ≡ sets chip (q₀ * g .W) words → Claimed g r owner spare w q spare′ w′
     → Does-flash (program-next g r owner words) chip spare w q chip′ spare′ w′
 unfolding program-next apply
-program-does {g} {r} {owner} {q} {q₀} {chip} words is-next e claimed directory cache =
+program-does {g} {r} {owner} {q} {q₀} {chip} words is-next e claimed s =
     let there : q₀ ≡ q = is-next ∙ sym (claimed .is-next) in
     does-ends
     (does-bind _ (does-look-at _ (sym (claimed .is-next)))
     (does-bind _ (does-program g q owner words)
     (does-bind _ (does-set-small (advanced r)) (does-give q))))
-    (state-same (sym (e ∙ ap (λ (k : ℕ). sets chip (k * g .W) words) there)) (sym (claimed .owned)) refl refl (sym (claimed .moves-on)))
+    (flash-same s (sym (e ∙ ap (λ (k : ℕ). sets chip (k * g .W) words) there)) (sym (claimed .owned)) (sym (claimed .moves-on)))
     (sym (claimed .counting))
 
 -- ---- a page moved
@@ -104,11 +101,11 @@ pub relocate-does : (p : ℕ) {g : Geometry} {r : Region} {owner q q₀ : ℕ} {
     → Claimed g r owner spare w₁ q spare₁ w′ → spare′ ≡ with-state p invalid spare₁
     → Does-flash (relocate g r p) chip spare w (record { logical = owner; physical = q }) chip′ spare′ w′
 unfolding relocate
-relocate-does p {g} {r} {chip = chip} its-owner is-next copied kept counting claimed is-marked directory cache =
+relocate-does p {g} {r} {chip = chip} {spare} its-owner is-next copied kept counting claimed is-marked s =
     let next = is-next ∙ ap (λ (k : Record). next-page g r (small k)) (sym kept) in
     does-bind _ (does-look-at _ (sym its-owner))
-    (does-bind _ (read-by-chip g p kept counting _ directory cache)
-    (does-bind _ (program-does (words-of g p chip) next copied claimed directory cache)
+    (does-bind _ (read-by-chip g p kept counting (with-flash chip spare s))
+    (does-bind _ (program-does (words-of g p chip) next copied claimed s)
     (does-bind _ (mark-does g p is-marked) (does-give _))))
 
 -- What follows is done then.
@@ -142,9 +139,8 @@ pub record Begun (g : Geometry) (r : Region) (former : Entry) (chip : List ℕ) 
 begun-entry : (g : Geometry) (e : Entry) {chip : List ℕ} {w w′ : Work} → w′ .rec ≡ w .rec
     → counts (w′ .counts) ≡ read-if-place e (counts (w .counts)) → Does-by-chip (begun g e) chip w (begun-words g e chip) w′
 unfolding begun
-begun-entry g (Place p) kept counting spare directory cache = read-by-chip g p kept counting spare directory cache
-begun-entry g Nowhere kept counting spare directory cache =
-    does-ends (does-give _) (state-same refl refl refl refl (ap small (sym kept))) (sym counting)
+begun-entry g (Place p) kept counting s = read-by-chip g p kept counting s
+begun-entry g Nowhere kept counting s = does-ends (does-give _) (flash-same s refl refl (ap small (sym kept))) (sym counting)
 
 -- In the definition the chip is as before until the page is programmed.
 pub begun-does : {g : Geometry} {r : Region} {former : Entry} {chip chip′ : List ℕ} {w w′ : Work} → Begun g r former chip w chip′ w′
@@ -203,17 +199,16 @@ pub word-does : (g : Geometry) (l : ℕ) (page : Entry) {chip : List ℕ} {w w�
     → word ≡ in-page g chip l page → w′ .rec ≡ w .rec → counts (w′ .counts) ≡ read-if-place page (counts (w .counts))
     → Does-by-chip (word-for g l page) chip w word w′
 unfolding word-for
-word-does g l (Place q) {chip} some e kept counting spare directory cache =
-    does-bind _ (read-by-chip g q kept counting spare directory cache)
+word-does g l (Place q) {chip} some e kept counting s =
+    does-bind _ (read-by-chip g q kept counting s)
     (does-value (does-give _) (words-at g q (translation-word g l) chip (mod-lt l some) ∙ sym e))
-word-does g l Nowhere some e kept counting spare directory cache =
-    does-value (does-ends (does-give _) (state-same refl refl refl refl (ap small (sym kept))) (sym counting)) (sym e)
+word-does g l Nowhere some e kept counting s =
+    does-value (does-ends (does-give _) (flash-same s refl refl (ap small (sym kept))) (sym counting)) (sym e)
 
 -- ---- a block opened
 
-pub open-does : (g : Geometry) (r : Region) {chip spare directory cache : List ℕ} {rec rec′ : Record} {c : Counts} {b : ℕ}
-    → lowest-erased g r (state chip spare directory cache rec) ≡ b → small rec′ ≡ opened r b (small rec)
-    → Does (open-lowest g r) (state chip spare directory cache rec) c tt (state chip spare directory cache rec′) c
+pub open-does : (g : Geometry) (r : Region) {s : State} {small′ : SmallRecord} {c : Counts} {b : ℕ}
+    → lowest-erased g r s ≡ b → small′ ≡ opened r b (s .small) → Does (open-lowest g r) s c tt (with-small small′ s) c
 unfolding open-lowest
-open-does g r {b = b} found e =
-    does-ends (does-bind _ (does-look-at _ found) (does-set-small (opened r b))) (state-same refl refl refl refl (sym e)) refl
+open-does g r {s} {b = b} found e =
+    does-ends (does-bind _ (does-look-at _ found) (does-set-small (opened r b))) (flash-same s refl refl (sym e)) refl

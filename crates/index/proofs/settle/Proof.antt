@@ -6,13 +6,14 @@ use lib.ListN.{length}
 use Rattle.lent.specs.Model.{geometry}
 use Rattle.words.specs.Census.{Census}
 use Rattle.copying.specs.Moves.{first-moves}
+use Rattle.index.specs.Index.{lists}
 use Rattle.index.specs.Settling.{M-small, Settling, settle-starts, settle-next, settle-goes-on, settle-ends}
 use Rattle.index.proofs.settle.Statement.{statement}
 use Rattle.index.proofs.settle.Tie as tie
 
 abbrev Inv-loop : tie.InvT-loop
 Inv-loop g n waiting chip₀ spare₀ census₀ directory₀ m settled₀ t₀ chip spare census directory settled t =
-    Settling (geometry g) (first-moves n waiting) chip₀ spare₀ directory₀ settled₀ m t chip spare directory settled
+    Settling (geometry g) (first-moves n waiting) (lists chip₀ spare₀ directory₀) settled₀ m t (lists chip spare directory) settled
     × Census (geometry g) spare census
     × (length census ≡ length census₀)
 

@@ -18,8 +18,16 @@ pub record Same-flash (s t : State) : Type 0 where
 pub record Applied (g : Geometry) {A : Type 0} (m : Step A) : Type 0 where
   pub law : (s : State) → Same-flash (m s .after) (apply-all g (m s .did) s)
 
+-- All that operations change.
+abbrev pub flash-of : State → List ℕ × List ℕ
+flash-of s = (s .chip, s .spare)
+
+-- States that differ elsewhere alone: `refl` says so of a state with another directory, cache or record.
+pub flash-as : {s t : State} → flash-of s ≡ flash-of t → Same-flash s t
+flash-as e = record { chip = λ i. e i .0; spare = λ i. e i .1 }
+
 pub flash-refl : {s : State} → Same-flash s s
-flash-refl = record { chip = refl; spare = refl }
+flash-refl = flash-as refl
 
 pub flash-trans : {s t u : State} → Same-flash s t → Same-flash t u → Same-flash s u
 flash-trans a b = record { chip = a .chip ∙ b .chip; spare = a .spare ∙ b .spare }
@@ -76,15 +84,15 @@ module _ {g : Geometry} where
 
   pub applied-set-directory : (f : State → List ℕ) → Applied g (set-directory f)
   unfolding set-directory apply-all
-  applied-set-directory f = record { law = λ s. record { chip = refl; spare = refl } }
+  applied-set-directory f = record { law = λ s. flash-as refl }
 
   pub applied-set-cache : (f : State → List ℕ) → Applied g (set-cache f)
   unfolding set-cache apply-all
-  applied-set-cache f = record { law = λ s. record { chip = refl; spare = refl } }
+  applied-set-cache f = record { law = λ s. flash-as refl }
 
   pub applied-set-small : (f : SmallRecord → SmallRecord) → Applied g (set-small f)
   unfolding set-small apply-all
-  applied-set-small f = record { law = λ s. record { chip = refl; spare = refl } }
+  applied-set-small f = record { law = λ s. flash-as refl }
 
   pub applied-cond : {A : Type 0} {m n : Step A} (b : Bool) → Applied g m → Applied g n → Applied g (cond b m n)
   applied-cond true a c = a

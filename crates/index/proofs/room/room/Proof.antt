@@ -3,9 +3,9 @@ use mathlib.Core.Path.{subst}
 use borrow.Author.Needs.{needs}
 use Rattle.flash.specs.Bounded.{accepted-bounded}
 use Rattle.scope.specs.Regions.{Translation}
-use Rattle.scope.specs.Steps.{directory-follows}
 use Rattle.lent.specs.Model.{geometry}
 use Rattle.copying.specs.Choice.{Chosen}
+use Rattle.index.specs.Collecting.{chosen-does}
 use Rattle.index.proofs.room.room.Statement.{statement}
 use Rattle.index.proofs.room.room.Tie as tie
 
@@ -49,7 +49,7 @@ returns c =
     let begun = start chosen in
     let a = begun .args in
     let room = subst (Chosen (geometry (a .g)) Translation (a .spare .now) (a .work)) (c .enum-told .given .1) (chosen .choose .ensures) in
-    (λ cache. room .does directory-follows _ _ cache, begun .pre .1)
+    (chosen-does room, begun .pre .1)
 
 same-length-3 : tie.Need-same-length-3
 same-length-3 c = search needs
@@ -64,7 +64,7 @@ returns-2 c =
     let begun = start chosen in
     let a = begun .args in
     let opens = subst (Chosen (geometry (a .g)) Translation (a .spare .now) (a .work)) (known .choice .given .1) (chosen .choose .ensures) in
-    (λ cache. opens .does directory-follows _ _ cache, begun .pre .1)
+    (chosen-does opens, begun .pre .1)
 
 same-length-5 : tie.Need-same-length-5
 same-length-5 c = search needs

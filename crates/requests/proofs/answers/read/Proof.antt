@@ -3,6 +3,7 @@ use mathlib.Core.Path.{sym, ap, _∙_}
 use borrow.Author.Needs.{needs}
 use Rattle.scope.specs.Lent.{decode}
 use Rattle.lent.specs.Model.{geometry}
+use Rattle.requests.specs.Ready.{left-by}
 use Rattle.requests.specs.Answering.{read-begins, translated-lies, place-ready, read-does}
 use Rattle.requests.specs.Filtered.{filter-still, read-place-keeps-used}
 use Rattle.requests.proofs.answers.read.Statement.{statement}
@@ -58,7 +59,7 @@ returns c =
     let a = translated .before .before .before .before .before .before .before .before .before .before .before .before .before .args in
     let is-place = ap decode (sym (seen .physical .ensures)) ∙ sym (c .before .before .before .before .before .decode .ensures) in
     let reads = c .before .before .read-place .ensures in (
-      read-does (geometry (a .g)) (a .l) (a .buffer .now) (translated .translate .ensures .0) is-place (reads _ _ _),
+      read-does (geometry (a .g)) (a .l) (a .buffer .now) (translated .translate .ensures .0) is-place (reads (left-by (translated .translate .ensures .0))),
       (
         translated .translate .ensures .1 .0,
         filter-still (read-place-keeps-used (geometry (a .g)) (a .buffer .now) _ reads) (translated .translate .ensures .1 .1),

@@ -2,6 +2,7 @@
 use native.Mathlib.Omega.{arith}
 use borrow.Author.Needs.{needs}
 use Rattle.lent.specs.Model.{geometry}
+use Rattle.requests.specs.Ready.{left-by}
 use Rattle.requests.specs.Answering.{write-begins, room-ready, writing-ready, write-does}
 use Rattle.requests.proofs.answers.write.Statement.{statement}
 use Rattle.requests.proofs.answers.write.Tie as tie
@@ -58,7 +59,7 @@ returns : tie.Need-returns
 returns c =
     let a = translated c .before .before .before .before .before .before .before .before .before .before .before .before .before .args in (
       write-does (geometry (a .g)) (a .l) (a .buffer .now) (translated c .translate .ensures .0) (made c .make-room .ensures .0)
-          (placed c .place .ensures .0 _),
+          (placed c .place .ensures .0 (left-by (made c .make-room .ensures .0))),
       (placed c .place .ensures .1 .0, placed c .place .ensures .1 .1 _ (made c .make-room .ensures .1 .1)),
     )
 

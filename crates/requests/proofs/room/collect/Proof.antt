@@ -56,7 +56,7 @@ erase-requires c κs =
     let moved = followed last in
     let done = copied moved in
     let pre = begun done .pre .0 in (
-      erase-ready (pre .0) (pre .1) (done .start .ensures .0) (moved .follow-moves .ensures .0) (last .settle .ensures .0 _)
+      erase-ready (pre .0) (pre .1) (done .start .ensures .0) (moved .follow-moves .ensures .0) (last .settle .ensures .0)
           (done .start .ensures .1 .0 .on-chip),
       last .settle .ensures .1,
     )
@@ -86,7 +86,7 @@ returns : tie.Need-returns
 returns c =
     let erases = erased c .erase .ensures in
     let last = settled (erased c) in
-    let settles = last .settle .ensures .0 _ in
+    let settles = last .settle .ensures .0 in
     let moved = followed last in
     let follows = moved .follow-moves .ensures .0 in
     let done = copied moved in

@@ -3,9 +3,9 @@ use mathlib.Core.Path.{subst}
 use borrow.Author.Needs.{needs}
 use Rattle.flash.specs.Bounded.{accepted-bounded}
 use Rattle.scope.specs.Regions.{Data}
-use Rattle.scope.specs.Steps.{cache-follows}
 use Rattle.lent.specs.Model.{geometry}
 use Rattle.copying.specs.Choice.{Chosen}
+use Rattle.requests.specs.Collecting.{chosen-does}
 use Rattle.requests.specs.Filtered.{filter-still}
 use Rattle.requests.proofs.room.make_room.Statement.{statement}
 use Rattle.requests.proofs.room.make_room.Tie as tie
@@ -50,7 +50,7 @@ returns c =
     let begun = start chosen in
     let a = begun .args in
     let room = subst (Chosen (geometry (a .g)) Data (a .spare .now) (a .work)) (c .enum-told .given .1) (chosen .choose .ensures) in
-    (room .does (cache-follows (geometry (a .g))) _ _ _, begun .pre .1)
+    (chosen-does (begun .pre .0 .ready) room, begun .pre .1)
 
 same-length-3 : tie.Need-same-length-3
 same-length-3 c = search needs
@@ -65,7 +65,7 @@ returns-2 c =
     let begun = start chosen in
     let a = begun .args in
     let opens = subst (Chosen (geometry (a .g)) Data (a .spare .now) (a .work)) (known .choice .given .1) (chosen .choose .ensures) in (
-      opens .does (cache-follows (geometry (a .g))) _ _ _,
+      chosen-does (begun .pre .0 .ready) opens,
       (begun .pre .1 .0, filter-still (opens .keeps-used) (begun .pre .1 .1)),
     )
 

@@ -4,6 +4,7 @@ use mathlib.Core.Path.{refl}
 use native.Mathlib.Omega.{arith}
 use borrow.Author.Needs.{needs}
 use Rattle.lent.specs.Model.{geometry}
+use Rattle.requests.specs.Ready.{left-by}
 use Rattle.requests.specs.Translating.{written-keeps-used, drop-entry-does}
 use Rattle.requests.specs.Filtered.{filter-still, forgotten-filter}
 use Rattle.requests.proofs.translation.drop_entry.Statement.{statement}
@@ -49,7 +50,7 @@ returns c =
     let start = written .before .before .before .before .before .before .before .before .before .before .before .before in
     let (ready, some) = start .pre .0 in
     let used = written-keeps-used ready (start .args .work .rec .used - 1) (omega (arith, some)) (written .write-back-if-changed .ensures .0) in (
-      drop-entry-does (geometry (start .args .g)) _ refl refl (written .write-back-if-changed .ensures .0) (c .before .before .forget .ensures _ _ _),
+      drop-entry-does (geometry (start .args .g)) _ refl refl (written .write-back-if-changed .ensures .0) (c .before .before .forget .ensures (left-by (written .write-back-if-changed .ensures .0))),
       (
         written .write-back-if-changed .ensures .1,
         λ filter f. forgotten-filter _ (omega (arith, some, used)) (c .before .before .forget .ensures) filter (filter-still used f),

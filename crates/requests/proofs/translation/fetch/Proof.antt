@@ -4,6 +4,7 @@ use native.Mathlib.Omega.{arith}
 use borrow.Author.Needs.{needs}
 use Rattle.flash.specs.Bounded.{accepted-bounded}
 use Rattle.promises.specs.Index.{page-below}
+use Rattle.scope.specs.Lent.{with-flash, with-directory, with-cache}
 use Rattle.lent.specs.Model.{geometry}
 use Rattle.requests.specs.Translating.{fetch-does, read-keeps-used}
 use Rattle.requests.specs.Filtered.{filter-still}
@@ -42,9 +43,9 @@ returns : tie.Need-returns
 returns c =
     let word = c .before .before .before .before .before .before in
     let a = word .before .before .before .before .before .before .args in (
-      λ spare. fetch-does (geometry (a .g)) (a .l) (sym (word .before .named .ensures))
-          (word .word-for .ensures spare (a .directory .now) (a .cache .now))
-          (c .before .before .enter .ensures .0 (a .chip .now) spare (a .directory .now)),
+      λ s. fetch-does (geometry (a .g)) (a .l) (sym (word .before .named .ensures))
+          (word .word-for .ensures (with-cache (a .cache .now) (with-directory (a .directory .now) s)))
+          (c .before .before .enter .ensures .0 (with-flash (a .chip .now) (s .spare) (with-directory (a .directory .now) s))),
       c .before .before .enter .ensures .1,
     )
 

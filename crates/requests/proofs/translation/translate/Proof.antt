@@ -3,6 +3,7 @@ use native.Mathlib.Omega.{arith}
 use borrow.Author.Needs.{needs}
 use Rattle.lent.specs.Shapes.{less-room}
 use Rattle.lent.specs.Model.{geometry}
+use Rattle.requests.specs.Ready.{ready-state, left-by}
 use Rattle.requests.specs.Translating.{hit-does, miss-does, fetch-ready}
 use Rattle.requests.specs.Filtered.{found-in-use, touched-filter}
 use Rattle.requests.proofs.translation.translate.Statement.{statement}
@@ -31,7 +32,7 @@ returns c =
     let found = tested .before .before in
     let start = found .before .before .before .before .before .before .before .before .before in
     let a = start .args in (
-      hit-does (geometry (a .g)) (a .l) (found .rank-of .ensures .1) (tested .if1 .taken) (c .before .before .touch .ensures (a .work) _ _ _),
+      hit-does (geometry (a .g)) (a .l) (found .rank-of .ensures .1) (tested .if1 .taken) (c .before .before .touch .ensures (a .work) (ready-state (start .pre .0 .ready))),
       (
         start .pre .1 .0,
         touched-filter (start .pre .1 .1)
@@ -82,7 +83,7 @@ returns-2 c =
     let missed = tested .before .before in
     let a = missed .before .before .before .before .before .before .before .before .before .args in (
       miss-does (geometry (a .g)) (a .l) (missed .rank-of .ensures .1) (tested .if1 .left) (freed .drop-if-full .ensures .0)
-          (c .before .before .fetch .ensures .0 _),
+          (c .before .before .fetch .ensures .0 (left-by (freed .drop-if-full .ensures .0))),
       (freed .drop-if-full .ensures .1 .0, c .before .before .fetch .ensures .1),
     )
 

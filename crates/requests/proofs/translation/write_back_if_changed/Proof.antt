@@ -6,6 +6,7 @@ use lib.ListN.{length}
 use borrow.Author.Needs.{needs}
 use Rattle.lent.specs.Model.{geometry}
 use Rattle.lent.specs.DoesLaws.{does-give, does-cond-true, does-cond-false}
+use Rattle.requests.specs.Ready.{ready-state}
 use Rattle.requests.specs.Translating.{write-back-does, write-back-ready}
 use Rattle.requests.proofs.translation.write_back_if_changed.Statement.{statement}
 use Rattle.requests.proofs.translation.write_back_if_changed.Tie as tie
@@ -48,10 +49,11 @@ returns c =
     let updated = c .before .before .before .before .before .before .before .before in
     let read = updated .before .before .before .before .before in
     let tested = read .before .before in
-    let a = tested .before .before .before .before .before .before .before .args in
+    let start = tested .before .before .before .before .before .before .before in
+    let a = start .args in
     let is-l = sym (read .before .logical .ensures) in (
       does-cond-true _ _ _ (sym (tested .before .is-changed .ensures) ∙ tested .if1 .taken)
-          (write-back-does (geometry (a .g)) (a .i) is-l (sym (read .physical .ensures)) (updated .update-one .ensures .0 (a .cache .now))),
+          (write-back-does (geometry (a .g)) (a .i) is-l (sym (read .physical .ensures)) (updated .update-one .ensures .0 (ready-state (start .pre .0 .0)))),
       updated .update-one .ensures .1,
     )
 

@@ -2,7 +2,7 @@
 use mathlib.Core.Path.{refl}
 use borrow.Author.Needs.{needs}
 use Rattle.steps.specs.Chip.{open-does}
-use Rattle.lent.specs.Model.{geometry, region, state}
+use Rattle.lent.specs.Model.{geometry, region}
 use Rattle.steps.proofs.blocks.open_lowest.Statement.{statement}
 use Rattle.steps.proofs.blocks.open_lowest.Tie as tie
 
@@ -16,8 +16,7 @@ returns : tie.Need-returns
 returns c =
     let found = c .before .before .before in
     let a = found .before .before .before .args in
-    λ chip directory cache. open-does (geometry (a .g)) (region (a .r))
-    (found .lowest-erased .ensures (state chip (a .spare .now) directory cache (a .work .rec)) refl) (c .with-open .ensures)
+    λ s. open-does (geometry (a .g)) (region (a .r)) (found .lowest-erased .ensures _ refl) (c .with-open .ensures)
 
 pub open-lowest-spec : {M : Type 1} → statement M
 open-lowest-spec = tie.close (tie.spec lowest-erased-requires with-open-requires returns)

@@ -37,8 +37,8 @@ returns : tie.Need-returns
 returns c =
     let start = c .before .before .before .before .before .before .before .before .before .before .before in
     let a = start .args in
-    λ spare directory cache. does-value
-    (read-by-chip (geometry (a .g)) (a .p) (c .before .as-it-is .ensures) (c .count-read .ensures) spare directory cache)
+    λ s. does-value
+    (read-by-chip (geometry (a .g)) (a .p) (c .before .as-it-is .ensures) (c .count-read .ensures) s)
     (sym (c .before .before .before .before .copy-out .ensures ∙ ap (λ (n : ℕ). take n (drop (a .p * a .g .w) (a .chip .now))) (start .pre .2)))
 
 pub read-page-spec : {M : Type 1} → statement M
