@@ -5,7 +5,7 @@ use mathlib.Core.List.{List, [], _∷_}
 use lib.ListN.{replicate, length-set}
 use lib.Seq.{length-sets}
 use Rattle.scope.specs.Geometry.{Geometry}
-use Rattle.scope.specs.Lent.{erased, valid, invalid, State, spare-words}
+use Rattle.scope.specs.Lent.{erased, invalid, State, spare-words, claim-words}
 use Rattle.scope.specs.Operations.{Operation, Read, Program, Mark, Erase, apply, apply-all}
 use Rattle.flash.specs.Words.{Lengths}
 
@@ -15,7 +15,7 @@ apply-keeps-lengths g (Read p) s len = len
 apply-keeps-lengths g (Program p owner words) s len =
     record {
       chip-fits = length-sets (s .chip) (p * g .W) words ∙ len .chip-fits;
-      spare-fits = length-sets (s .spare) (p * spare-words) (valid ∷ owner ∷ []) ∙ len .spare-fits;
+      spare-fits = length-sets (s .spare) (p * spare-words) (claim-words owner) ∙ len .spare-fits;
       directory-fits = len .directory-fits;
       cache-fits = len .cache-fits;
     }
