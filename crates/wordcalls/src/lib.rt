@@ -1,9 +1,9 @@
 // Format, check, read and write in words: the small record is loaded from its words, the call is made by value and the record is stored. Each
 // contract gives, for every input, the reply and every lent word by the call's definition in words, which are those of the calls for C.
 use lent::Geometry;
-use wording::record::five_words;
 use wording::record::load;
 use wording::record::store;
+use wording::record::whole_record;
 ghost use Rattle.lent.specs.Model.{geometry};
 ghost use Rattle.scope.specs.Requests.{replied};
 ghost use Rattle.scope.specs.Boundary.{tf-format, tf-check, tf-read, tf-write};
@@ -27,7 +27,7 @@ pub fn format(
         (words (now (chip .exit)) (now (spare .exit)) (now (directory .exit))
         (now (cache .exit)) (now («record» .exit)) (now (counts .exit))) ⌝ }
 {
-    let boundary = five_words(record);
+    let boundary = whole_record(record);
     let rec = load(record);
     let formatted = calls::format(rec, boundary, g, chip, spare, directory, cache, counts);
     store(record, formatted.rec);
@@ -51,7 +51,7 @@ pub fn check(
         (words (now (chip .entry)) (now (spare .entry)) (now (directory .entry))
         (now (cache .entry)) (now («record» .entry)) (now (counts .exit))) ⌝ }
 {
-    let boundary = five_words(record);
+    let boundary = whole_record(record);
     let rec = load(record);
     calls::check(rec, boundary, g, chip, spare, directory, cache, counts)
 }
@@ -75,7 +75,7 @@ pub fn read(
         (words (now (chip .exit)) (now (spare .exit)) (now (directory .exit))
         (now (cache .exit)) (now («record» .exit)) (now (counts .exit))) ⌝ }
 {
-    let boundary = five_words(record);
+    let boundary = whole_record(record);
     let rec = load(record);
     let read = calls::read(
         rec,
@@ -112,7 +112,7 @@ pub fn write(
         (words (now (chip .exit)) (now (spare .exit)) (now (directory .exit))
         (now (cache .exit)) (now («record» .exit)) (now (counts .exit))) ⌝ }
 {
-    let boundary = five_words(record);
+    let boundary = whole_record(record);
     let rec = load(record);
     let written = calls::write(
         rec,
