@@ -82,13 +82,13 @@ rattle-faithful g =
 
 -- ---- C
 
--- The Bool of a call in words: five words of the record, three of the counts.
+-- The Bool of a call in words: all words of the record, three of the counts.
 pub right-words-exactly : (n : Slices) (counts : List ℕ)
     → (right-words (lend n counts) ≡ true) ↔ ((length (n .small) ≡ record-words) × (length counts ≡ counts-words))
 right-words-exactly n counts = (
   λ e.
-      let (five, three) = and-true (eqb (length (n .small)) record-words) (eqb (length counts) counts-words) e in
-      (eqb-true (length (n .small)) record-words five, eqb-true (length counts) counts-words three),
+      let (whole, three) = and-true (eqb (length (n .small)) record-words) (eqb (length counts) counts-words) e in
+      (eqb-true (length (n .small)) record-words whole, eqb-true (length counts) counts-words three),
   λ h. true-and (eq-eqb (length (n .small)) record-words (h .0)) (eq-eqb (length counts) counts-words (h .1)),
 )
 
@@ -142,14 +142,14 @@ words-tested (Tf-run requests words answers) counts n e =
     right-words-exactly n counts .0 (and-true (right-words (lend n counts)) (eqb (length requests % 2) 0) e .0) .1
 
 state-is : (n : Slices) (s : State) → length (n .small) ≡ record-words → s ≡ state-of-slices (state-stored n s)
-state-is n s five =
+state-is n s whole =
     ap (λ (r : SmallRecord). record {
       chip = s .chip;
       spare = s .spare;
       directory = s .directory;
       cache = s .cache;
       small = r;
-    }) (sym (record-stored (n .small) (s .small) five))
+    }) (sym (record-stored (n .small) (s .small) whole))
 
 slices-kept : (n : Slices) → state-stored n (state-of-slices n) ≡ n
 slices-kept n =
@@ -169,9 +169,9 @@ c-faithful g =
           let after = make g (call-in-words n x counts) (state-of-slices n) .after in
           record {
             answered = answered;
-            after = λ five. state-is n after five ∙ sym (ap state-of-slices stored);
-            formed = λ five. ap (λ (m : Slices). length (m .small)) stored
-                ∙ length-sets (n .small) 0 (words-from (after .small)) ∙ five;
+            after = λ whole. state-is n after whole ∙ sym (ap state-of-slices stored);
+            formed = λ whole. ap (λ (m : Slices). length (m .small)) stored
+                ∙ length-sets (n .small) 0 (words-from (after .small)) ∙ whole;
             same = λ e. stored ∙ ap (state-stored n) e ∙ slices-kept n;
           };
       three = words-tested;

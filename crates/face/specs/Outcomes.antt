@@ -6,7 +6,7 @@ use mathlib.Core.Bool.{true}
 use mathlib.Core.List.{List, map}
 use Rattle.lent.specs.declared.Geometry.{Geometry as Numbers}
 use Rattle.lent.specs.declared.Record.{Record}
-use Rattle.lent.specs.Model.{geometry, state}
+use Rattle.lent.specs.Model.{geometry, numbers, state}
 use Rattle.scope.specs.Lent.{State}
 use Rattle.scope.specs.Requests.{Replied, replied}
 use Rattle.scope.specs.Calls.{RunReplied, run-replied, format, check, read, write, run}
@@ -32,13 +32,7 @@ abbrev exit : ℕ → State → List ℕ → Exit
 exit r s counts =
     record {
       reply = r;
-      rec = record {
-        «open_data» = s .small .open-data;
-        «data_offset» = s .small .data-offset;
-        «open_translation» = s .small .open-translation;
-        «translation_offset» = s .small .translation-offset;
-        used = s .small .used;
-      };
+      rec = numbers (s .small);
       chip = s .chip;
       spare = s .spare;
       directory = s .directory;

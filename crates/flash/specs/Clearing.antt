@@ -1,6 +1,6 @@
 -- 01: "State is erased 4,294,967,295, valid 65,535 or invalid 0, so a change other than an erase only clears bits."
 -- That this holds of every allowed list of operations, at each of its moments.
-use Prim.Native.Nat.{ℕ, suc, _*_, _/_, _%_, _^_, _≤_, _<_}
+use Prim.Native.Nat.{ℕ, _*_, _/_, _%_, _^_, _≤_, _<_}
 use mathlib.Core.Path.{_≡_, refl, sym, ap, _∙_}
 use mathlib.Core.List.{List, [], _∷_}
 use native.Mathlib.Omega.{arith}
@@ -9,13 +9,13 @@ use lib.ListN.{length, set}
 use lib.Seq.{getD-set-same, getD-set-other}
 use native.Mathlib.Nat.{add-zero}
 use Rattle.scope.specs.Geometry.{Geometry, pages}
-use Rattle.scope.specs.Lent.{none, erased, valid, invalid, State, spare-words, state-of}
+use Rattle.scope.specs.Lent.{none, erased, invalid, State, spare-words, state-of}
 use Rattle.scope.specs.Operations.{Operation, Read, Program, Mark, Erase, apply}
 use Rattle.flash.specs.Cases.{same?}
 use Rattle.flash.specs.Stores.{block-kept}
 use Rattle.flash.specs.Words.{Lengths}
 use Rattle.flash.specs.Kept.{apply-keeps-lengths}
-use Rattle.flash.specs.Pages.{Outside}
+use Rattle.flash.specs.Pages.{claimed-state, claimed-others, Outside}
 use Rattle.flash.specs.Listed.{Allows, Allowed}
 
 -- No bit is set in the new word that was not set in the old one.
@@ -62,8 +62,9 @@ pub allowed-clears : (g : Geometry) (o : Operation) (s : State) → Lengths g s 
 unfolding apply
 allowed-clears g (Read q) s len ok p h out = stays refl
 allowed-clears g (Program q owner words) s len ok p h out =
-    rw (getD-set-other (set (s .spare) (q * spare-words) valid) (suc (q * spare-words)) (p * spare-words) owner none (omega arith))
-    (stored (s .spare) p q valid (omega (arith, len .spare-fits)) (rw (ok .1) refl))
+    same? p q
+    (λ e. rw (e, claimed-state q owner (s .spare) (omega (arith, len .spare-fits)), ok .1) refl)
+    (λ ne. stays (claimed-others q owner (s .spare) p ne))
 allowed-clears g (Mark q) s len ok p h out =
     stored (s .spare) p q invalid (omega (arith, len .spare-fits)) (and-zero-l (state-of q (s .spare)))
 allowed-clears g (Erase b) s len ok p h out =

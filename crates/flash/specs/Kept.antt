@@ -5,7 +5,7 @@ use mathlib.Core.List.{List, [], _∷_}
 use lib.ListN.{length, replicate, length-set}
 use lib.Seq.{length-sets}
 use Rattle.scope.specs.Geometry.{Geometry}
-use Rattle.scope.specs.Lent.{erased, valid, invalid, State, spare-words, cache-size}
+use Rattle.scope.specs.Lent.{erased, invalid, State, spare-words, cache-size, claim-words}
 use Rattle.scope.specs.Operations.{Operation, Read, Program, Mark, Erase, apply, apply-all}
 use Rattle.scope.specs.Laws.Applied.{Same-flash}
 use Rattle.flash.specs.Words.{Lengths, lengths-with-flash}
@@ -15,7 +15,7 @@ unfolding apply
 apply-keeps-lengths g (Read p) s len = len
 apply-keeps-lengths g (Program p owner words) s len =
     lengths-with-flash s len (length-sets (s .chip) (p * g .W) words ∙ len .chip-fits)
-    (length-sets (s .spare) (p * spare-words) (valid ∷ owner ∷ []) ∙ len .spare-fits)
+    (length-sets (s .spare) (p * spare-words) (claim-words owner) ∙ len .spare-fits)
 apply-keeps-lengths g (Mark p) s len =
     lengths-with-flash s len (len .chip-fits) (length-set (s .spare) (p * spare-words) invalid ∙ len .spare-fits)
 apply-keeps-lengths g (Erase b) s len =

@@ -1,15 +1,15 @@
 -- What each operation does, page by page: to the page or the block that it is made on, and to every other page.
 -- Where only equalities of pages matter, they speak of chip and spare alone, and so hold of any states that have these.
 use Prim.Native.Nat.{ℕ, _+_, _*_, _<_}
-use mathlib.Core.Path.{_≡_, refl, sym, _∙_}
+use mathlib.Core.Path.{_≡_, refl, sym, ap, _∙_}
 use mathlib.Core.Logic.{_≢_}
-use mathlib.Core.List.{List, [], _∷_}
+use mathlib.Core.List.{List}
 use native.Mathlib.Omega.{arith}
 use native.Mathlib.Nat.{add-zero}
 use lib.ListN.{length, getD, replicate, length-replicate, getD-replicate}
 use lib.Seq.{sets, length-sets, getD-set-same, getD-set-other}
 use Rattle.scope.specs.Geometry.{Geometry, pages, blocks}
-use Rattle.scope.specs.Lent.{none, erased, valid, invalid, State, spare-words, words-of, word-of, state-of, owner-of}
+use Rattle.scope.specs.Lent.{none, erased, valid, invalid, State, spare-words, words-of, word-of, state-of, owner-of, claim-words, with-claim}
 use Rattle.scope.specs.Regions.{page-in}
 use Rattle.scope.specs.Operations.{Read, Program, Mark, Erase, apply}
 use Rattle.flash.specs.Stores.{getD-sets-inside, slot-below, slot-kept, block-filled, block-kept}
@@ -40,6 +40,10 @@ module _ {g : Geometry} {p : ℕ} where
   pub page-word : {c d c′ d′ : List ℕ} → Page-same g p c d c′ d′ → (i : ℕ) → i < g .W → word-of g p i c′ ≡ word-of g p i c
   page-word {c} {d} {c′} a i h = word-same g p p i c c′ h (a .words)
 
+  -- As before where chip and spare are.
+  pub page-alike : {c d c′ d′ : List ℕ} → c′ ≡ c → d′ ≡ d → Page-same g p c d c′ d′
+  page-alike e f = record { state = ap (state-of p) f; owner = ap (owner-of p) f; words = ap (words-of g p) e }
+
 -- A page's words and its spare words tell that it is as before.
 page-same : (g : Geometry) (p : ℕ) (chip spare chip′ spare′ : List ℕ) → length chip′ ≡ length chip
     → ((i : ℕ) → i < g .W → word-of g p i chip′ ≡ word-of g p i chip)
@@ -54,6 +58,22 @@ page-same g p chip spare chip′ spare′ len words spares =
 
 -- ---- program
 
+-- The spare words of page p once it is claimed; the other pages keep theirs.
+module _ (p k : ℕ) (spare : List ℕ) where
+  claimed-word : (i : ℕ) → i < spare-words → p * spare-words + i < length spare
+      → getD (with-claim p k spare) (p * spare-words + i) none ≡ getD (claim-words k) i none
+  claimed-word i l lies = getD-sets-inside spare (p * spare-words) (claim-words k) i none l lies
+
+  claimed-kept : (q i : ℕ) → i < spare-words → q ≢ p
+      → getD (with-claim p k spare) (q * spare-words + i) none ≡ getD spare (q * spare-words + i) none
+  claimed-kept q i l other = slot-kept spare spare-words p q i none (claim-words k) refl l other
+
+  pub claimed-state : p * spare-words < length spare → state-of p (with-claim p k spare) ≡ valid
+  claimed-state lies = rw add-zero at (claimed-word 0 (omega arith) (omega arith))
+
+  pub claimed-others : (q : ℕ) → q ≢ p → state-of q (with-claim p k spare) ≡ state-of q spare
+  claimed-others q other = rw add-zero at (claimed-kept q 0 (omega arith) other)
+
 -- After a program of page p it is valid, with that owner and those words; every other page is as before.
 pub record Programmed (g : Geometry) (p k : ℕ) (contents : List ℕ) (s s′ : State) : Type 0 where
   pub state : state-of p (s′ .spare) ≡ valid
@@ -66,24 +86,16 @@ pub program-page : (g : Geometry) (p k : ℕ) (contents : List ℕ) (s : State) 
 unfolding apply
 program-page g p k contents s len h w =
     record {
-      state = rw add-zero at (spare-word 0 (omega arith));
-      owner = spare-word 1 (omega arith);
+      state = claimed-state p k (s .spare) (omega (arith, len .spare-fits));
+      owner = claimed-word p k (s .spare) 1 (omega arith) (omega (arith, len .spare-fits));
       words = words-are g p chip′ contents h (length-sets (s .chip) (p * g .W) contents ∙ len .chip-fits) w chip-word;
-      others = λ q other. page-same g q (s .chip) (s .spare) chip′ spare′ (length-sets (s .chip) (p * g .W) contents)
+      others = λ q other. page-same g q (s .chip) (s .spare) chip′ (with-claim p k (s .spare)) (length-sets (s .chip) (p * g .W) contents)
           (λ i l. slot-kept (s .chip) (g .W) p q i none contents w l other)
-          (λ i l. slot-kept (s .spare) spare-words p q i none (valid ∷ k ∷ []) refl l other);
+          (λ i l. claimed-kept p k (s .spare) q i l other);
     }
   where
     chip′ : List ℕ
     chip′ = sets (s .chip) (p * g .W) contents
-
-    spare′ : List ℕ
-    spare′ = sets (s .spare) (p * spare-words) (valid ∷ k ∷ [])
-
-    spare-word : (i : ℕ) → i < spare-words → getD spare′ (p * spare-words + i) none ≡ getD (valid ∷ k ∷ []) i none
-    spare-word i l =
-        getD-sets-inside (s .spare) (p * spare-words) (valid ∷ k ∷ []) i none l
-        (omega (arith, len .spare-fits, slot-below spare-words (pages g) p i h l))
 
     chip-word : (i : ℕ) → i < g .W → word-of g p i chip′ ≡ getD contents i none
     chip-word i l =
@@ -121,6 +133,15 @@ pub record Page-erased (g : Geometry) (p : ℕ) (chip spare : List ℕ) : Type 0
   pub owner : owner-of p spare ≡ none
   pub word : (i : ℕ) → i < g .W → word-of g p i chip ≡ erased
   pub words : words-of g p chip ≡ replicate (g .W) erased
+
+pub erased-same : {g : Geometry} {p : ℕ} {c d c′ d′ : List ℕ} → Page-same g p c d c′ d′ → Page-erased g p c d → Page-erased g p c′ d′
+erased-same same e =
+    record {
+      state = same .state ∙ e .state;
+      owner = same .owner ∙ e .owner;
+      word = λ i h. page-word same i h ∙ e .word i h;
+      words = same .words ∙ e .words;
+    }
 
 -- A page that is none of block b's.
 abbrev pub Outside : Geometry → ℕ → ℕ → Type 0

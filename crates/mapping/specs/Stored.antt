@@ -11,6 +11,7 @@ use borrow.Author.Tests.{lt-ltb, le-ltb}
 use Rattle.scope.specs.Counting.{all}
 use Rattle.scope.specs.Decisions.{unchanged-agree}
 use Rattle.scope.specs.Geometry.{Geometry}
+use Rattle.scope.specs.SmallRecord.{with-used, record-of}
 use Rattle.scope.specs.Lent.{none, Place, Nowhere, decode, State, word-of, logical-at, physical-at, changed-at}
 use Rattle.scope.specs.Laws.Decided.{unchanged-agree-decided}
 use Rattle.scope.specs.Laws.Decides.{Decides}
@@ -27,7 +28,7 @@ parts chip spare directory cache used =
       spare = spare;
       directory = directory;
       cache = cache;
-      small = record { open-data = 0; data-offset = 0; open-translation = 0; translation-offset = 0; used = used };
+      small = with-used used (record-of []);
     }
 
 module _ (g : Geometry) (chip directory : List ℕ) (l : ℕ) where

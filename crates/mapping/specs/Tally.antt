@@ -11,7 +11,7 @@ use lib.Dec.{eqb, ltb, leb}
 use borrow.Author.Tests.{eqb-true, eq-eqb, le-leb, lt-ltb}
 use Rattle.scope.specs.Counting.{count}
 use Rattle.scope.specs.Geometry.{most-pages}
-use Rattle.scope.specs.Lent.{none, valid, is-valid, state-of, owner-of}
+use Rattle.scope.specs.Lent.{none, valid, spare-words, is-valid, state-of, owner-of}
 use Rattle.flash.specs.Cases.{and-true, is-false}
 use Rattle.flash.specs.Counting.{count-le, count-add, count-each, count-none}
 use Rattle.words.specs.Erased.{Erased-run}
@@ -84,25 +84,26 @@ pub word-past : (t r : Tally) (x k : ℕ) (spare : List ℕ) (first n : ℕ) →
 word-past t r x k spare first n past nones good =
     record { nones-more = nones; good-more = rw (past-owned first n spare k x past) (omega arith) }
 
--- A page's two words as one number: it is that of a valid page of k exactly where the words are.
-pub pair-owns : (first n : ℕ) (spare : List ℕ) (k p : ℕ) → first ≤ p → p < first + n → p * 2 + 2 ≤ length spare
-    → getD spare (p * 2) 0 + getD spare (p * 2 + 1) 0 * 4294967296 ≡ valid + k * 4294967296 → getD spare (p * 2) 0 < 4294967296
+-- A page's state and owner as one number: it is that of a valid page of k exactly where the words are.
+pub pair-owns : (first n : ℕ) (spare : List ℕ) (k p : ℕ) → first ≤ p → p < first + n → p * spare-words + spare-words ≤ length spare
+    → getD spare (p * spare-words) 0 + getD spare (p * spare-words + 1) 0 * 4294967296 ≡ valid + k * 4294967296
+    → getD spare (p * spare-words) 0 < 4294967296
     → owns first n spare k p ≡ true
 pair-owns first n spare k p low high inside same small =
-    let state : state-of p spare ≡ valid = sym (getD-any spare (p * 2) 0 none (omega arith)) ∙ omega arith in
-    let owner : owner-of p spare ≡ k = sym (getD-any spare (p * 2 + 1) 0 none (omega arith)) ∙ omega arith in
+    let state : state-of p spare ≡ valid = sym (getD-any spare (p * spare-words) 0 none (omega arith)) ∙ omega arith in
+    let owner : owner-of p spare ≡ k = sym (getD-any spare (p * spare-words + 1) 0 none (omega arith)) ∙ omega arith in
     rw (le-leb first p low, lt-ltb p (first + n) high, eq-eqb (state-of p spare) valid state, eq-eqb (owner-of p spare) k owner)
 
-pub pair-differs : (first n : ℕ) (spare : List ℕ) (k p : ℕ) → p * 2 + 2 ≤ length spare
-    → getD spare (p * 2) 0 + getD spare (p * 2 + 1) 0 * 4294967296 ≢ valid + k * 4294967296
+pub pair-differs : (first n : ℕ) (spare : List ℕ) (k p : ℕ) → p * spare-words + spare-words ≤ length spare
+    → getD spare (p * spare-words) 0 + getD spare (p * spare-words + 1) 0 * 4294967296 ≢ valid + k * 4294967296
     → owns first n spare k p ≡ false
 pair-differs first n spare k p inside differs =
     is-false (owns first n spare k p) (λ h.
     let both = and-true (leb first p && ltb p (first + n) && is-valid p spare) (eqb (owner-of p spare) k) h in
     let state = eqb-true (state-of p spare) valid (and-true (leb first p && ltb p (first + n)) (is-valid p spare) (both .0) .1) in
     let owner = eqb-true (owner-of p spare) k (both .1) in
-    let state-read : getD spare (p * 2) 0 ≡ valid = getD-any spare (p * 2) 0 none (omega arith) ∙ state in
-    let owner-read : getD spare (p * 2 + 1) 0 ≡ k = getD-any spare (p * 2 + 1) 0 none (omega arith) ∙ owner in
+    let state-read : getD spare (p * spare-words) 0 ≡ valid = getD-any spare (p * spare-words) 0 none (omega arith) ∙ state in
+    let owner-read : getD spare (p * spare-words + 1) 0 ≡ k = getD-any spare (p * spare-words + 1) 0 none (omega arith) ∙ owner in
     absurd (differs (omega arith)))
 
 -- From no words to n, a word at a time.

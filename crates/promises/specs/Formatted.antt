@@ -15,15 +15,16 @@ use Rattle.scope.specs.Regions.{Region, Data, Translation, first-block, region-
 use Rattle.scope.specs.SmallRecord.{SmallRecord, fresh, open-block, next-offset}
 use Rattle.scope.specs.Sound.{Page-fits, Blocks-fit, Entries-fit, rank-of, stored, current, Sound}
 use Rattle.flash.specs.Listed.{counted-++, counts-same, Allowed, allowed-++}
-use Rattle.scope.specs.Operations.{Counts, counts-add, counted, Erase, Step, apply, perform, give, set-directory, set-cache, set-small, for, _>>=_}
+use Rattle.scope.specs.Operations.{Counts, counts-add, counted, Erase, Step, perform, give, set-directory, set-cache, set-small, for, _>>=_}
 use Rattle.scope.specs.Requests.{format-steps}
 use Rattle.flash.specs.Cases.{last, and-true}
 use Rattle.promises.specs.Index.{page-below}
 use Rattle.flash.specs.Searching.{Is-lowest, lowest-cases}
-use Rattle.flash.specs.Words.{Lengths, word-same}
+use Rattle.flash.specs.Words.{Lengths}
 use Rattle.flash.specs.Kept.{apply-keeps-lengths}
-use Rattle.flash.specs.Pages.{Page-erased, erase-block}
+use Rattle.flash.specs.Pages.{Page-erased, erased-same, erase-block}
 use Rattle.flash.specs.Places.{in-block, block-on-chip, page-in-region, outside-block}
+use Rattle.region.specs.Carried.{erased-fits}
 
 -- A page that is wholly erased in the chip and the spare.
 abbrev All-erased : Geometry → ℕ → State → Type 0
@@ -44,16 +45,9 @@ erased-pages g zero s len h b i k l = absurd (omega arith)
 erased-pages g (suc n) s len h b i k l =
     let e = erase-block g n (erasing g n s .after) (erased-lengths g n s len) h in
     last b n k
-    (λ below.
-    let before = erased-pages g n s len (omega arith) b i below l in
-    let same = e .others (page-in g b i) (outside-block g n b i l (omega arith)) in
-    record {
-      state = same .state ∙ before .state;
-      owner = same .owner ∙ before .owner;
-      word = λ j m. word-same g (page-in g b i) (page-in g b i) j (erasing g n s .after .chip)
-          (apply g (Erase n) (erasing g n s .after) .chip) m (same .words) ∙ before .word j m;
-      words = same .words ∙ before .words;
-    })
+    (λ below. erased-same
+    (e .others (page-in g b i) (outside-block g n b i l (omega arith)))
+    (erased-pages g n s len (omega arith) b i below l))
     (λ at. rw at (e .pages i l))
 
 -- "Counts 0, 0, D+T", and an erase asks for nothing.
@@ -114,14 +108,7 @@ module _ (g : Geometry) (ok : Accepted g) (s : State) (len : Lengths g s) where
   none-valid r p h v = omega (arith, every-page r p h .state)
 
   fits : (r : Region) (p : ℕ) → Has-page g r p → Page-fits g r (formatted g s .chip) (formatted g s .spare) p
-  fits r p h =
-      let e = every-page r p h in
-      record {
-        one-of-three = inl (e .state);
-        no-owner = λ _. e .owner;
-        no-words = λ _. e .word;
-        owned = λ n. absurd (n (e .state));
-      }
+  fits r p h = erased-fits (every-page r p h)
 
   open-at-first : (r : Region) → Blocks-fit g r (formatted g s .spare) (first-block g r) 0
   open-at-first r =

@@ -12,7 +12,7 @@ use Rattle.flash.specs.Cases.{same?}
 use Rattle.flash.specs.Pages.{Page-same, Page-erased, Outside, Erased}
 use Rattle.flash.specs.Places.{in-block, outside-block}
 use Rattle.region.specs.Holds.{Region-fits, Besides, Maps, contents}
-use Rattle.region.specs.Carried.{page-fits-same, owners-differ-kept, Owner-same, contents-kept, maps-kept}
+use Rattle.region.specs.Carried.{erased-fits, page-fits-same, owners-differ-kept, Owner-same, contents-kept, maps-kept}
 
 -- A wholly erased block is opened where the open one is full.
 pub open-law : {g : Geometry} {r : Region} {chip spare : List ℕ} {opened offset : ℕ} (e : ℕ)
@@ -75,12 +75,7 @@ module _ (g : Geometry) (r : Region) (s s′ : State) (opened offset v : ℕ)
   erase-fits =
       record {
         pages-fit = λ p in-region. each (λ p. Page-fits g r (s .chip) (s .spare) p → Page-fits g r (s′ .chip) (s′ .spare) p)
-            (λ i h e _. record {
-              one-of-three = inl (e .state);
-              no-owner = λ _. e .owner;
-              no-words = λ _. e .word;
-              owned = λ ne. absurd (ne (e .state));
-            })
+            (λ i h e _. erased-fits e)
             (λ p same. page-fits-same same) p in-region (fits .pages-fit p in-region);
         owners-differ = owners-differ-kept r was-valid (fits .owners-differ);
         in-region = fits .in-region;

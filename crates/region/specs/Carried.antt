@@ -1,20 +1,44 @@
--- What holds of a region, or of one owner in it, goes on to hold where its pages are as before.
+-- Rule 1 of a page, by what was done to it; and what holds of a region, or of one owner in it, goes on to hold where its pages are as before.
 use Prim.Native.Nat.{ℕ, _<_}
-use mathlib.Core.Path.{_≡_, refl, sym, ap, subst, _∙_}
-use mathlib.Core.Logic.{⊎-elim, inl, inr}
+use mathlib.Core.Path.{_≡_, refl, sym, subst, _∙_}
+use mathlib.Core.Logic.{_≢_, _⊎_, ⊎-elim, inl, inr}
 use mathlib.Core.List.{List}
 use native.Mathlib.Omega.{arith}
 use Rattle.scope.specs.Geometry.{Geometry}
 use Rattle.scope.specs.Regions.{Region, owners, Has-block, Has-page}
-use Rattle.scope.specs.Lent.{valid, Entry, Place, Nowhere, decode, State, words-of, state-of, owner-of}
+use Rattle.scope.specs.Lent.{erased, valid, invalid, Entry, Place, Nowhere, decode, State, state-of, owner-of}
 use Rattle.scope.specs.Sound.{Page-fits, Owners-differ, Wholly-erased, Full, Names}
 use Rattle.scope.specs.Laws.Applied.{Same-flash}
-use Rattle.flash.specs.Pages.{Page-same, page-word}
+use Rattle.flash.specs.Pages.{Page-same, page-word, page-alike, Page-erased}
 use Rattle.flash.specs.Places.{page-in-region}
 use Rattle.flash.specs.SamePages.{Pages-same, Same-pages}
 use Rattle.region.specs.Holds.{Region-fits, Besides, Maps, Region-holds, contents}
 
--- Rule 1 of one page.
+-- ---- rule 1 of one page
+
+-- Of one that is erased, of one that is programmed, and of one that is as before.
+pub erased-fits : {g : Geometry} {r : Region} {p : ℕ} {chip spare : List ℕ} → Page-erased g p chip spare → Page-fits g r chip spare p
+erased-fits e =
+    record {
+      one-of-three = inl (e .state);
+      no-owner = λ _. e .owner;
+      no-words = λ _. e .word;
+      owned = λ ne. absurd (ne (e .state));
+    }
+
+pub programmed-fits : {g : Geometry} {r : Region} {p : ℕ} {chip spare : List ℕ}
+    → (state-of p spare ≡ valid) ⊎ (state-of p spare ≡ invalid) → owner-of p spare < owners g r → Page-fits g r chip spare p
+programmed-fits {p = p} {spare = spare} state owner =
+    record {
+      one-of-three = inr state;
+      no-owner = λ e. absurd (not-erased e);
+      no-words = λ e. absurd (not-erased e);
+      owned = λ _. owner;
+    }
+  where
+    not-erased : state-of p spare ≢ erased
+    not-erased e = ⊎-elim (λ h. omega arith) (λ h. omega arith) state
+
 pub page-fits-same : {g : Geometry} {r : Region} {p : ℕ} {chip spare chip′ spare′ : List ℕ}
     → Page-same g p chip spare chip′ spare′ → Page-fits g r chip spare p → Page-fits g r chip′ spare′ p
 page-fits-same same fits =
@@ -24,6 +48,8 @@ page-fits-same same fits =
       no-words = λ e i h. page-word same i h ∙ fits .no-words (sym (same .state) ∙ e) i h;
       owned = λ e. rw (same .owner) (fits .owned (λ q. e (same .state ∙ q)));
     }
+
+-- ---- an owner's page
 
 -- Rule 2, where each valid page is as before.
 pub owners-differ-kept : {g : Geometry} (r : Region) {chip spare chip′ spare′ : List ℕ}
@@ -70,14 +96,7 @@ maps-viewed {g} {r} {spare} same maps =
 
 -- Pages are as before where chip and spare are.
 pub flash-pages : {g : Geometry} {r : Region} {s s′ : State} → Same-flash s′ s → Same-pages g r s s′
-flash-pages {g} h =
-    record {
-      page = λ p _. record {
-        state = ap (state-of p) (h .spare);
-        owner = ap (owner-of p) (h .spare);
-        words = ap (words-of g p) (h .chip);
-      };
-    }
+flash-pages h = record { page = λ p _. page-alike (h .chip) (h .spare) }
 
 module _ {g : Geometry} {r : Region} {chip spare chip′ spare′ : List ℕ} (same : Pages-same g r chip spare chip′ spare′) where
   wholly-erased-same : (b : ℕ) → Has-block g r b → Wholly-erased g spare b → Wholly-erased g spare′ b

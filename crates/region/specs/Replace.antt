@@ -16,7 +16,7 @@ use Rattle.flash.specs.Pages.{Page-same}
 use Rattle.flash.specs.Places.{other, page-other, page-in-region, page-in-same}
 use Rattle.flash.specs.SamePages.{Pages-same}
 use Rattle.region.specs.Holds.{Region-fits, Besides, Maps, Renames, contents, valid-page-named}
-use Rattle.region.specs.Carried.{page-fits-same, Owner-same, names-kept, contents-kept}
+use Rattle.region.specs.Carried.{programmed-fits, page-fits-same, Owner-same, names-kept, contents-kept}
 
 -- Page q has been programmed for k, the old entry's page marked, and no other page has changed.
 pub record Replaced (g : Geometry) (q k : ℕ) (words : List ℕ) (old : Entry) (chip spare chip′ spare′ : List ℕ) : Type 0 where
@@ -49,20 +49,6 @@ pub record Replacement (g : Geometry) (r : Region) (k : ℕ) (words chip spare c
       → contents g chip′ (decode (view′ k)) ≡ words
   pub keeps : (view′ : ℕ → ℕ) → Renames (owners g r) k (page-in g opened offset) view view′
       → (j : ℕ) → j < owners g r → j ≢ k → contents g chip′ (decode (view′ j)) ≡ contents g chip (decode (view j))
-
--- Rule 1 of a programmed page.
-programmed-fits : {g : Geometry} {r : Region} {p : ℕ} {chip spare : List ℕ}
-    → (state-of p spare ≡ valid) ⊎ (state-of p spare ≡ invalid) → owner-of p spare < owners g r → Page-fits g r chip spare p
-programmed-fits {p = p} {spare = spare} state owner =
-    record {
-      one-of-three = inr state;
-      no-owner = λ e. absurd (not-erased e);
-      no-words = λ e. absurd (not-erased e);
-      owned = λ _. owner;
-    }
-  where
-    not-erased : state-of p spare ≢ erased
-    not-erased e = ⊎-elim (λ h. omega arith) (λ h. omega arith) state
 
 module _ (g : Geometry) (r : Region) (k : ℕ) (words chip spare chip′ spare′ : List ℕ) (opened offset : ℕ) (view : ℕ → ℕ)
     (bounds : Region-bounded g r) (fits : Region-fits g r chip spare opened offset) (room : offset < g .P)

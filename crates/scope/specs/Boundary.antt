@@ -40,7 +40,7 @@ pub record Words : Type 0 where
   pub small : List ℕ
   pub counts : List ℕ
 
--- The words as a state, and an outcome as the words afterwards: a record of another length than five comes back as it was.
+-- The words as a state, and an outcome as the words afterwards: a record of another length comes back as it was.
 abbrev pub from-words : Words → State
 from-words w =
     record { chip = w .chip; spare = w .spare; directory = w .directory; cache = w .cache; small = record-of (w .small) }

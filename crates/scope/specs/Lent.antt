@@ -115,13 +115,17 @@ is-erased p spare = eqb (state-of p spare) erased
 abbrev pub is-valid : ℕ → List ℕ → Bool
 is-valid p spare = eqb (state-of p spare) valid
 
+-- A page's words in the spare once it is programmed: valid, and its owner's.
+abbrev pub claim-words : ℕ → List ℕ
+claim-words owner = valid ∷ owner ∷ []
+
 -- The spare with page p in another state; with page p claimed, which makes it valid and names its owner; with the n pages from
 -- `first` on erased, which makes every word of theirs the erased word.
 abbrev pub with-state : ℕ → ℕ → List ℕ → List ℕ
 with-state p state spare = set spare (p * spare-words) state
 
 abbrev pub with-claim : ℕ → ℕ → List ℕ → List ℕ
-with-claim p owner spare = sets spare (p * spare-words) (valid ∷ owner ∷ [])
+with-claim p owner spare = sets spare (p * spare-words) (claim-words owner)
 
 abbrev pub with-erased : ℕ → ℕ → List ℕ → List ℕ
 with-erased first n spare = sets spare (first * spare-words) (replicate (n * spare-words) erased)

@@ -23,16 +23,16 @@ use Rattle.lines.specs.declared.Parsed.the-variants.{Other}
 use Rattle.lines.specs.Digits.{numbers, Prints}
 use Rattle.session.specs.Serves.{answered, shown, Serves}
 
--- Where the record has five words and the counts are three, a call in words is the call on numbers and lists.
+-- Where the record has all its words and the counts are three, a call in words is the call on numbers and lists.
 gives-answers : {A : Type 0} (call : Bool → Step A) (w w′ : Words) (x : A) → length (w .small) ≡ record-words
     → length (w .counts) ≡ counts-words → Gives (in-words w (call (right-words w))) x w′
     → Answers (call true (from-words w)) (w .counts) x (from-words w′) (w′ .counts)
 unfolding in-words
-gives-answers {A = A} call w w′ x five three gives =
+gives-answers {A = A} call w w′ x whole three gives =
     record {
       value = ap (λ b. call b s .value) right ∙ gives .answer;
       after =
-          ap (λ (r : SmallRecord). with-small r (o .after)) (sym (record-stored (w .small) (o .after .small) five))
+          ap (λ (r : SmallRecord). with-small r (o .after)) (sym (record-stored (w .small) (o .after .small) whole))
           ∙ ap (λ b. from-words (to-words w (call b s))) right
           ∙ ap from-words (gives .lent);
       counted = sym (ap (λ (v : Words). v .counts) (ap (λ b. to-words w (call b s)) right ∙ gives .lent));
@@ -45,7 +45,7 @@ gives-answers {A = A} call w w′ x five three gives =
     o = call true s
 
     right : true ≡ right-words w
-    right = sym (ap₂ _&&_ (eq-eqb _ _ five) (eq-eqb _ _ three))
+    right = sym (ap₂ _&&_ (eq-eqb _ _ whole) (eq-eqb _ _ three))
 
 -- The numbers that the program prints are those that the definitions print.
 as-printed : (l : Line) (o : Outcome Replied) {x : Replied} {s′ : State} {counts counts′ : List ℕ} → length counts ≡ counts-words
@@ -72,8 +72,8 @@ called-answers (R page) w w′ x = gives-answers (λ (b : Bool). read G b page (
 pub call-serves : (l : Line) (w w′ : Words) (x : Replied) {more out out′ : List ℕ} {n : ℕ} → length (w .small) ≡ record-words
     → length (w .counts) ≡ counts-words → Gives (called l w) x w′ → more ≡ first-word l x
     → Prints out (numbers (x .reply) (w′ .counts) more) out′ n → Serves (answered l (from-words w)) (from-words w′) out out′ n
-call-serves l w w′ x {more} {out} {out′} {n} five three gives e prints =
-    let a = called-answers l w w′ x five three gives in
+call-serves l w w′ x {more} {out} {out′} {n} whole three gives e prints =
+    let a = called-answers l w w′ x whole three gives in
     let numbered = ap (numbers (x .reply) (w′ .counts)) e ∙ as-printed l (made G l (from-words w)) three a in
     let shown = subst (λ (ns : List ℕ). Prints out ns out′ n) numbered prints in
     record { puts = shown .puts; left = a .after; within = shown .within; counted = shown .counted }

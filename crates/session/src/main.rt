@@ -6,9 +6,14 @@
 mod serve;
 
 use crate::serve::C;
+use crate::serve::CACHE;
+use crate::serve::CHIP;
 use crate::serve::D;
+use crate::serve::DIRECTORY;
 use crate::serve::L;
 use crate::serve::P;
+use crate::serve::RECORD;
+use crate::serve::SPARE;
 use crate::serve::T;
 use crate::serve::W;
 use crate::serve::serve;
@@ -19,11 +24,11 @@ use lines::Line;
 // Prints what the line asks for, which ends here.
 fn answer(
     line: Line,
-    chip: &mut [u32; 24],
-    spare: &mut [u32; 24],
-    directory: &mut [u32; 2],
-    cache: &mut [u32; 3],
-    record: &mut [u32; 5],
+    chip: &mut [u32; CHIP],
+    spare: &mut [u32; SPARE],
+    directory: &mut [u32; DIRECTORY],
+    cache: &mut [u32; CACHE],
+    record: &mut [u32; RECORD],
 ) {
     let asked = lines::finish(line);
     let mut out = [0u8; 64];
@@ -35,11 +40,11 @@ fn answer(
 fn step(
     line: Line,
     byte: u8,
-    chip: &mut [u32; 24],
-    spare: &mut [u32; 24],
-    directory: &mut [u32; 2],
-    cache: &mut [u32; 3],
-    record: &mut [u32; 5],
+    chip: &mut [u32; CHIP],
+    spare: &mut [u32; SPARE],
+    directory: &mut [u32; DIRECTORY],
+    cache: &mut [u32; CACHE],
+    record: &mut [u32; RECORD],
 ) -> Line {
     if byte == b'\n' {
         answer(line, chip, spare, directory, cache, record);
@@ -51,11 +56,11 @@ fn step(
 fn steps(
     line: Line,
     bytes: &[u8],
-    chip: &mut [u32; 24],
-    spare: &mut [u32; 24],
-    directory: &mut [u32; 2],
-    cache: &mut [u32; 3],
-    record: &mut [u32; 5],
+    chip: &mut [u32; CHIP],
+    spare: &mut [u32; SPARE],
+    directory: &mut [u32; DIRECTORY],
+    cache: &mut [u32; CACHE],
+    record: &mut [u32; RECORD],
 ) -> Line {
     let mut now = line;
     for i in 0..bytes.len() {
@@ -72,11 +77,11 @@ pub struct Got {
 
 fn read_some(
     line: Line,
-    chip: &mut [u32; 24],
-    spare: &mut [u32; 24],
-    directory: &mut [u32; 2],
-    cache: &mut [u32; 3],
-    record: &mut [u32; 5],
+    chip: &mut [u32; CHIP],
+    spare: &mut [u32; SPARE],
+    directory: &mut [u32; DIRECTORY],
+    cache: &mut [u32; CACHE],
+    record: &mut [u32; RECORD],
 ) -> Got {
     let mut buffer = io::large_buffer();
     let got = libc::read(STDIN_FILENO, &mut buffer);
@@ -96,11 +101,11 @@ fn read_some(
 
 // Reads to the end of the input; the last line may lack its newline.
 fn run(
-    chip: &mut [u32; 24],
-    spare: &mut [u32; 24],
-    directory: &mut [u32; 2],
-    cache: &mut [u32; 3],
-    record: &mut [u32; 5],
+    chip: &mut [u32; CHIP],
+    spare: &mut [u32; SPARE],
+    directory: &mut [u32; DIRECTORY],
+    cache: &mut [u32; CACHE],
+    record: &mut [u32; RECORD],
 ) {
     let mut line = Line::Start;
     let mut turns = 18446744073709551615u64;
@@ -117,11 +122,11 @@ fn run(
 }
 
 fn main() {
-    let mut chip = [0u32; 24];
-    let mut spare = [0u32; 24];
-    let mut directory = [0u32; 2];
-    let mut cache = [0u32; 3];
-    let mut record = [0u32; 5];
+    let mut chip = [0u32; CHIP];
+    let mut spare = [0u32; SPARE];
+    let mut directory = [0u32; DIRECTORY];
+    let mut cache = [0u32; CACHE];
+    let mut record = [0u32; RECORD];
     let mut counts = [0u32; 3];
     trianglefire::tf_format(
         P,

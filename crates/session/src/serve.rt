@@ -3,6 +3,9 @@
 use lines::Parsed;
 use lines::print::put_answer;
 use lines::print::put_word;
+use trianglefire::ENTRY_WORDS;
+use trianglefire::RECORD_WORDS;
+use trianglefire::SPARE_WORDS;
 use trianglefire::tf_read;
 use trianglefire::tf_write;
 ghost use Rattle.scope.specs.Tables.Play.{W, R};
@@ -21,15 +24,26 @@ pub const L: u32 = 3;
 
 pub const C: u32 = 1;
 
+// The words of its 12 pages, of their spare, of its two translation pages' directory, of its one entry, and of the small record.
+pub const CHIP: usize = 24;
+
+pub const SPARE: usize = 12 * SPARE_WORDS;
+
+pub const DIRECTORY: usize = 2;
+
+pub const CACHE: usize = ENTRY_WORDS;
+
+pub const RECORD: usize = RECORD_WORDS;
+
 // Puts what is printed for a line; answers how many bytes that is, 0 for another line. Five numbers take at most 55 bytes.
 pub fn serve(
     asked: Parsed,
     out: &mut [u8; 64],
-    chip: &mut [u32; 24],
-    spare: &mut [u32; 24],
-    directory: &mut [u32; 2],
-    cache: &mut [u32; 3],
-    record: &mut [u32; 5],
+    chip: &mut [u32; CHIP],
+    spare: &mut [u32; SPARE],
+    directory: &mut [u32; DIRECTORY],
+    cache: &mut [u32; CACHE],
+    record: &mut [u32; RECORD],
 ) -> usize
     ensures { λ n. ⌜ Serves
         (shown asked
@@ -57,11 +71,11 @@ fn write_page(
     page: u32,
     value: u32,
     out: &mut [u8; 64],
-    chip: &mut [u32; 24],
-    spare: &mut [u32; 24],
-    directory: &mut [u32; 2],
-    cache: &mut [u32; 3],
-    record: &mut [u32; 5],
+    chip: &mut [u32; CHIP],
+    spare: &mut [u32; SPARE],
+    directory: &mut [u32; DIRECTORY],
+    cache: &mut [u32; CACHE],
+    record: &mut [u32; RECORD],
 ) -> usize
     ensures { λ n. ⌜ Serves
         (answered (W page value)
@@ -93,11 +107,11 @@ fn write_page(
 fn read_page(
     page: u32,
     out: &mut [u8; 64],
-    chip: &mut [u32; 24],
-    spare: &mut [u32; 24],
-    directory: &mut [u32; 2],
-    cache: &mut [u32; 3],
-    record: &mut [u32; 5],
+    chip: &mut [u32; CHIP],
+    spare: &mut [u32; SPARE],
+    directory: &mut [u32; DIRECTORY],
+    cache: &mut [u32; CACHE],
+    record: &mut [u32; RECORD],
 ) -> usize
     ensures { λ n. ⌜ Serves
         (answered (R page)

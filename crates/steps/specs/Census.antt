@@ -4,7 +4,7 @@ use Prim.Native.Nat.{ℕ, zero, suc, _+_, _-_, _*_, _/_, _%_, _≤_, _<_}
 use mathlib.Core.Path.{_≡_, refl, sym, ap, _∙_}
 use mathlib.Core.Logic.{_≢_, ⊎-elim}
 use mathlib.Core.Bool.{Bool, true}
-use mathlib.Core.List.{List, [], _∷_}
+use mathlib.Core.List.{List}
 use native.Mathlib.Nat.{div-add-mod', mod-lt, div-lt-iff-lt-mul}
 use native.Mathlib.Omega.{arith}
 use lib.Dec.{eqb, ltb}
@@ -19,8 +19,9 @@ use Rattle.scope.specs.Room.{erased-blocks, lowest-erased, victim}
 use Rattle.flash.specs.Bounded.{Bounded}
 use Rattle.flash.specs.Cases.{same?, last, clash}
 use Rattle.flash.specs.Counting.{sum, sum-same, count-same}
+use Rattle.flash.specs.Pages.{claimed-state, claimed-others}
 use Rattle.flash.specs.Searching.{Is-fewest, fewest-cases}
-use Rattle.flash.specs.Stores.{slot-below, slot-same, getD-sets-inside, slot-kept, block-filled, block-kept}
+use Rattle.flash.specs.Stores.{slot-below, slot-same, block-filled, block-kept}
 use Rattle.words.specs.Searches.{fewest-unique}
 use Rattle.words.specs.Census.{weight, weigh, Census, weighs-little, erased-told, full-told, valid-told}
 use Rattle.steps.specs.Lies.{Spare-lent, spare-lies}
@@ -141,13 +142,8 @@ pub claimed-restates : (p owner : ℕ) {spare spare′ : List ℕ} → (p + 1) *
 claimed-restates p owner {spare} h e =
     rw e
     (record {
-      there =
-          ap (λ (k : ℕ). getD (with-claim p owner spare) k none) (omega arith)
-          ∙ getD-sets-inside spare (p * spare-words) (valid ∷ owner ∷ []) 0 none (omega arith) (omega arith);
-      others = λ q other.
-          ap (λ (k : ℕ). getD (with-claim p owner spare) k none) (omega arith)
-          ∙ slot-kept spare spare-words p q 0 none (valid ∷ owner ∷ []) refl (omega arith) other
-          ∙ ap (λ (k : ℕ). getD spare k none) (omega arith);
+      there = claimed-state p owner spare (omega arith);
+      others = claimed-others p owner spare;
     })
 
 -- Page i of block b changes its state, and the block's number with it.

@@ -11,7 +11,7 @@ use borrow.Author.Tests.{eqb-true, eq-eqb, ne-eqb, lt-ltb, le-ltb, not-true}
 use Rattle.scope.specs.Counting.{all, some, count}
 use Rattle.scope.specs.Geometry.{Geometry}
 use Rattle.scope.specs.Regions.{Region, first-block, region-blocks}
-use Rattle.scope.specs.Lent.{is-erased}
+use Rattle.scope.specs.Lent.{spare-words, is-erased}
 use Rattle.scope.specs.Decisions.{blocks-fit}
 use Rattle.flash.specs.Cases.{on, below?, clash, and-true, true-and, or-cases, or-right, is-false, not-of-false, twice-not}
 use Rattle.flash.specs.Counting.{all-each, each-all, count-none, none-counted, count-le}
@@ -58,10 +58,10 @@ rule-3-region g r spare opened offset = refl
 -- ---- where the blocks lie
 
 -- The blocks' spare words lie in the list, and so do those of each of them.
-pub blocks-inside : (P first n len : ℕ) → 1 ≤ P → (first + n) * P * 2 ≤ len → first + n ≤ len
+pub blocks-inside : (P first n len : ℕ) → 1 ≤ P → (first + n) * P * spare-words ≤ len → first + n ≤ len
 blocks-inside P first n len h k = omega (arith, mul-le-mul-left (first + n) h, mul-one (first + n))
 
-pub block-inside : (P first n b len : ℕ) → b < first + n → (first + n) * P * 2 ≤ len → (b * P + P) * 2 ≤ len
+pub block-inside : (P first n b len : ℕ) → b < first + n → (first + n) * P * spare-words ≤ len → (b * P + P) * spare-words ≤ len
 block-inside P first n b len h k = omega (arith, piece-inside P (first + n) b h)
 
 -- ---- counts that decide

@@ -4,7 +4,7 @@ use mathlib.Core.Path.{_≡_, refl, sym, ap, ap₂, subst, _∙_}
 use mathlib.Core.Logic.{_≢_}
 use mathlib.Core.Bool.{Bool, true, false, cond, _&&_, _||_}
 use mathlib.Core.List.{List}
-use native.Mathlib.Nat.{add-mul, mul-assoc}
+use native.Mathlib.Nat.{add-zero, add-mul, mul-assoc}
 use native.Mathlib.Numerals.{add-one}
 use native.Mathlib.Omega.{arith}
 use lib.Dec.{eqb, ltb}
@@ -14,9 +14,9 @@ use borrow.Author.Tests.{eqb-true, eq-eqb, ne-eqb}
 use Rattle.scope.specs.Counting.{all, count}
 use Rattle.scope.specs.Geometry.{Geometry}
 use Rattle.scope.specs.Regions.{Region, owners, first-page, region-pages}
-use Rattle.scope.specs.Lent.{none, erased, valid, invalid, state-of, owner-of, is-erased, is-valid}
+use Rattle.scope.specs.Lent.{none, erased, valid, invalid, spare-words, state-of, owner-of, is-erased, is-valid}
 use Rattle.scope.specs.Decisions.{page-fits, pages-fit}
-use Rattle.flash.specs.Cases.{and-true, or-cases}
+use Rattle.flash.specs.Cases.{on, and-true, or-cases}
 use Rattle.flash.specs.Counting.{all-each, each-all, each-counted, count-none, count-each}
 use Rattle.flash.specs.Tests.{all-same}
 use Rattle.geometry.specs.Sizes.{piece-inside}
@@ -31,16 +31,29 @@ blank W chip p = all W (λ i. eqb (getD chip (p * W + i) none) erased)
 -- The rule for a page's state and owner, where `clear` says whether its words are erased.
 abbrev pub rule-1-words : ℕ → ℕ → ℕ → Bool → Bool
 rule-1-words limit state owner clear =
-    (eqb state erased || (eqb state valid || eqb state invalid)) && cond (eqb state erased) (eqb owner none && clear) (ltb owner limit)
+    (eqb state erased || (eqb state valid || eqb state invalid)) && cond (eqb state erased) clear (ltb owner limit)
+
+-- An erased page has erased words alone, in the spare as on the chip: *none*, which its owner is, is the erased word.
+abbrev pub clear : ℕ → List ℕ → List ℕ → ℕ → Bool
+clear W chip spare p = blank spare-words spare p && blank W chip p
 
 unfoldable pub rule-1 : ℕ → ℕ → List ℕ → List ℕ → ℕ → Bool
-rule-1 W limit chip spare p = rule-1-words limit (state-of p spare) (owner-of p spare) (blank W chip p)
+rule-1 W limit chip spare p = rule-1-words limit (state-of p spare) (owner-of p spare) (clear W chip spare p)
 
 -- Scope's rule of a region is this one, at the region's numbers.
+spares-blank : (p : ℕ) (spare : List ℕ) → is-erased p spare ≡ true → blank spare-words spare p ≡ eqb (owner-of p spare) none
+unfolding blank
+spares-blank p spare e = rw (add-zero, e) refl
+
 pub rule-1-region : (g : Geometry) (r : Region) (chip spare : List ℕ) (limit : ℕ) → limit ≡ owners g r
     → all (region-pages g r) (λ i. rule-1 (g .W) limit chip spare (first-page g r + i)) ≡ pages-fit g r chip spare
 unfolding rule-1 blank page-fits pages-fit
-rule-1-region g r chip spare limit is = ap (λ (b : ℕ). all (region-pages g r) (λ i. rule-1 (g .W) b chip spare (first-page g r + i))) is
+rule-1-region g r chip spare limit is =
+    all-same (region-pages g r) _ _ (λ i h.
+    let p = first-page g r + i in
+    on (is-erased p spare)
+    (λ e. rw (e, spares-blank p spare e) refl)
+    (λ e. rw (e, is) refl))
 
 -- A page is programmed as the rule asks: then it rule-1, and is not erased.
 abbrev pub programmed-fits : ℕ → ℕ → ℕ → Bool
@@ -50,7 +63,8 @@ abbrev pub programmed-at : ℕ → List ℕ → ℕ → Bool
 programmed-at limit spare p = programmed-fits limit (state-of p spare) (owner-of p spare)
 
 -- A state that is not erased leaves the rule just that.
-pub rule-1-programmed : (limit state owner : ℕ) (clear : Bool) → state ≢ erased → rule-1-words limit state owner clear ≡ programmed-fits limit state owner
+pub rule-1-programmed : (limit state owner : ℕ) (clear : Bool) → state ≢ erased
+    → rule-1-words limit state owner clear ≡ programmed-fits limit state owner
 rule-1-programmed limit state owner clear ne =
     rw (ne-eqb state erased ne) (and-swapped (eqb state valid || eqb state invalid) (ltb owner limit))
   where
@@ -79,53 +93,47 @@ module _ (W limit first n : ℕ) (chip spare : List ℕ) (whole : count n (λ i.
   unfolding rule-1
   all-programmed =
       sym (each-all n (λ i. rule-1 W limit chip spare (first + i)) (λ i h.
-      rule-1-programmed limit (state-of (first + i) spare) (owner-of (first + i) spare) (blank W chip (first + i)) (not-erased i h) ∙ each i h))
+      rule-1-programmed limit (state-of (first + i) spare) (owner-of (first + i) spare) (clear W chip spare (first + i)) (not-erased i h) ∙ each i h))
 
   pub none-erased : 0 ≡ count n (λ i. is-erased (first + i) spare)
   none-erased =
       sym (count-none n (λ i. is-erased (first + i) spare) (λ i h. ne-eqb (state-of (first + i) spare) erased (not-erased i h)))
 
--- Where a block's words are all erased, in the spare and on the chip, the rule holds of each of its pages and all are erased.
-module _ (W limit b n : ℕ) (chip spare : List ℕ) (no-marks : blank (n * 2) spare b ≡ true) (no-words : blank (n * W) chip b ≡ true) where
-  mark-at : (k : ℕ) → k < n * 2 → getD spare (b * n * 2 + k) none ≡ none
-  unfolding blank
-  mark-at k h =
-      subst (λ (x : ℕ). getD spare (x + k) none ≡ none) (sym (mul-assoc b n 2))
-      (eqb-true (getD spare (b * (n * 2) + k) none) erased (all-each (n * 2) (λ i. eqb (getD spare (b * (n * 2) + i) none) erased) no-marks k h))
-
-  word-at : (k : ℕ) → k < n * W → getD chip (b * n * W + k) none ≡ erased
+-- Where all words of n pages are erased, those of each page are.
+module _ (W b n : ℕ) (l : List ℕ) (no-words : blank (n * W) l b ≡ true) where
+  word-at : (k : ℕ) → k < n * W → getD l (b * n * W + k) none ≡ erased
   unfolding blank
   word-at k h =
-      subst (λ (x : ℕ). getD chip (x + k) none ≡ erased) (sym (mul-assoc b n W))
-      (eqb-true (getD chip (b * (n * W) + k) none) erased (all-each (n * W) (λ i. eqb (getD chip (b * (n * W) + i) none) erased) no-words k h))
+      subst (λ (x : ℕ). getD l (x + k) none ≡ erased) (sym (mul-assoc b n W))
+      (eqb-true (getD l (b * (n * W) + k) none) erased (all-each (n * W) (λ i. eqb (getD l (b * (n * W) + i) none) erased) no-words k h))
 
-  state-erased : (i : ℕ) → i < n → state-of (b * n + i) spare ≡ erased
-  state-erased i h =
-      let at : (b * n + i) * 2 ≡ b * n * 2 + i * 2 = omega arith in
-      ap (λ (x : ℕ). getD spare x none) at ∙ mark-at (i * 2) (omega arith)
-
-  owner-none : (i : ℕ) → i < n → owner-of (b * n + i) spare ≡ none
-  owner-none i h =
-      let at : (b * n + i) * 2 + 1 ≡ b * n * 2 + (i * 2 + 1) = omega arith in
-      ap (λ (x : ℕ). getD spare x none) at ∙ mark-at (i * 2 + 1) (omega arith)
-
-  page-blank : (i : ℕ) → i < n → blank W chip (b * n + i) ≡ true
+  page-blank : (i : ℕ) → i < n → blank W l (b * n + i) ≡ true
   unfolding blank
   page-blank i h =
-      each-all W (λ j. eqb (getD chip ((b * n + i) * W + j) none) erased) (λ j k.
+      each-all W (λ j. eqb (getD l ((b * n + i) * W + j) none) erased) (λ j k.
       let at : (b * n + i) * W + j ≡ b * n * W + (i * W + j) = omega (arith, add-mul (b * n) i W) in
-      eq-eqb (getD chip ((b * n + i) * W + j) none) erased
-      (ap (λ (x : ℕ). getD chip x none) at ∙ word-at (i * W + j) (omega (arith, piece-inside W n i h))))
+      eq-eqb (getD l ((b * n + i) * W + j) none) erased
+      (ap (λ (x : ℕ). getD l x none) at ∙ word-at (i * W + j) (omega (arith, piece-inside W n i h))))
+
+state-erased : (p : ℕ) (spare : List ℕ) → blank spare-words spare p ≡ true → state-of p spare ≡ erased
+unfolding blank
+state-erased p spare h =
+    rw add-zero at (eqb-true (getD spare (p * spare-words + 0) none) erased
+    (all-each spare-words (λ i. eqb (getD spare (p * spare-words + i) none) erased) h 0 (omega arith)))
+
+-- Where a block's words are all erased, in the spare and on the chip, the rule holds of each of its pages and all are erased.
+module _ (W limit b n : ℕ) (chip spare : List ℕ) (no-marks : blank (n * spare-words) spare b ≡ true) (no-words : blank (n * W) chip b ≡ true) where
+  told-erased : (i : ℕ) → i < n → is-erased (b * n + i) spare ≡ true
+  told-erased i h = eq-eqb (state-of (b * n + i) spare) erased (state-erased (b * n + i) spare (page-blank spare-words b n spare no-marks i h))
 
   pub all-blank : true ≡ all n (λ i. rule-1 W limit chip spare (b * n + i))
   unfolding rule-1
   all-blank =
       sym (each-all n (λ i. rule-1 W limit chip spare (b * n + i)) (λ i h.
-      rw (eq-eqb (state-of (b * n + i) spare) erased (state-erased i h), eq-eqb (owner-of (b * n + i) spare) none (owner-none i h), page-blank i h)))
+      rw (told-erased i h, page-blank spare-words b n spare no-marks i h, page-blank W b n chip no-words i h)))
 
   pub all-erased : n ≡ count n (λ i. is-erased (b * n + i) spare)
-  all-erased =
-      sym (count-each n (λ i. is-erased (b * n + i) spare) (λ i h. eq-eqb (state-of (b * n + i) spare) erased (state-erased i h)))
+  all-erased = sym (count-each n (λ i. is-erased (b * n + i) spare) told-erased)
 
 -- What is found of the n pages from `first` on.
 pub record Looked (W limit : ℕ) (chip spare : List ℕ) (first n : ℕ) (b : Block) : Type 0 where
@@ -134,12 +142,13 @@ pub record Looked (W limit : ℕ) (chip spare : List ℕ) (first n : ℕ) (b : B
   pub valid-are : b .valid ≡ count n (λ i. is-valid (first + i) spare)
 
 -- A page more among the programmed ones, by the two words as the code reads them; and what a test that is counted says.
-pub programmed-more : (limit : ℕ) (spare : List ℕ) (first i k b : ℕ) → (first + i) * 2 + 2 ≤ length spare
+pub programmed-more : (limit : ℕ) (spare : List ℕ) (first i k b : ℕ) → (first + i) * spare-words + spare-words ≤ length spare
     → k ≡ count i (λ j. programmed-at limit spare (first + j))
-    → b ≡ cond (programmed-fits limit (getD spare ((first + i) * 2) 0) (getD spare ((first + i) * 2 + 1) 0)) 1 0
+    → b ≡ cond (programmed-fits limit (getD spare ((first + i) * spare-words) 0) (getD spare ((first + i) * spare-words + 1) 0)) 1 0
     → k + b ≡ count (i + 1) (λ j. programmed-at limit spare (first + j))
 programmed-more limit spare first i k b h e q =
-    rw (add-one, e, q, getD-any spare ((first + i) * 2) 0 none (omega arith), getD-any spare ((first + i) * 2 + 1) 0 none (omega arith)) refl
+    let at = (first + i) * spare-words in
+    rw (add-one, e, q, getD-any spare at 0 none (omega arith), getD-any spare (at + 1) 0 none (omega arith)) refl
 
 pub bit-passes : (b : Bool) → eqb (cond b 1 0) 1 ≡ b
 bit-passes true = refl
@@ -155,11 +164,11 @@ blank-part W chip p h =
     ∙ all-same W (is-erased-word (take W (drop (p * W) chip))) (λ i. eqb (getD chip (p * W + i) none) erased)
     (λ i k. ap (λ (x : ℕ). eqb x erased) (getD-take W (drop (p * W) chip) i erased k ∙ getD-drop (p * W) chip i erased))
 
--- The two spare words as the code reads them, within the list.
-pub rule-1-read : (W limit : ℕ) (chip spare : List ℕ) (p : ℕ) → p * 2 + 2 ≤ length spare
-    → rule-1-words limit (getD spare (p * 2) 0) (getD spare (p * 2 + 1) 0) (blank W chip p) ≡ rule-1 W limit chip spare p
+-- State and owner as the code reads them, within the list.
+pub rule-1-read : (W limit : ℕ) (chip spare : List ℕ) (p : ℕ) → p * spare-words + spare-words ≤ length spare
+    → rule-1-words limit (getD spare (p * spare-words) 0) (getD spare (p * spare-words + 1) 0) (clear W chip spare p) ≡ rule-1 W limit chip spare p
 unfolding rule-1
 rule-1-read W limit chip spare p h =
-    ap₂ (λ (s o : ℕ). rule-1-words limit s o (blank W chip p))
-    (getD-any spare (p * 2) 0 none (omega arith))
-    (getD-any spare (p * 2 + 1) 0 none (omega arith))
+    ap₂ (λ (s o : ℕ). rule-1-words limit s o (clear W chip spare p))
+    (getD-any spare (p * spare-words) 0 none (omega arith))
+    (getD-any spare (p * spare-words + 1) 0 none (omega arith))

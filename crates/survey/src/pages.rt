@@ -2,7 +2,6 @@
 // that a fresh chip is checked at the speed of reading it. A block that has no erased page is told by counts, without a branch.
 use lent::ERASED;
 use lent::INVALID;
-use lent::NONE;
 use lent::SPARE_WORDS;
 use lent::VALID;
 use words::erased::only_erased;
@@ -61,7 +60,7 @@ fn page_fits(chip: &[u32], spare: &[u32], w: usize, limit: u32, p: usize) -> boo
     let state = spare[p * SPARE_WORDS];
     let owner = spare[p * SPARE_WORDS + 1];
     if state == ERASED {
-        if owner != NONE {
+        if !is_blank(spare, SPARE_WORDS, p) {
             return false;
         }
         return is_blank(chip, w, p);

@@ -9,6 +9,13 @@ ghost use Rattle.scope.specs.Contracts.{Gives};
 ghost use Rattle.wording.specs.Words.{words};
 ghost use Rattle.trianglefire.specs.Numbers.{geometry-of};
 
+// Words of the spare that a page has, of the cache that an entry has, and of the small record: for those who lend arrays.
+pub const SPARE_WORDS: usize = lent::SPARE_WORDS;
+
+pub const ENTRY_WORDS: usize = lent::ENTRY_WORDS;
+
+pub const RECORD_WORDS: usize = wording::record::RECORD_WORDS;
+
 #[no_mangle]
 pub extern "C" fn tf_format(
     p: u32,

@@ -1,9 +1,9 @@
 // Format and check in words: the small record is loaded from its words, the call is made by value and the record is stored. Each contract
 // gives, for every input, the reply and every lent word by the call's definition in words, which are those of the calls for C.
 use lent::Geometry;
-use wording::record::five_words;
 use wording::record::load;
 use wording::record::store;
+use wording::record::whole_record;
 ghost use Rattle.lent.specs.Model.{geometry};
 ghost use Rattle.scope.specs.Boundary.{tf-format, tf-check};
 ghost use Rattle.scope.specs.Contracts.{Gives};
@@ -26,7 +26,7 @@ pub fn format(
         (words (now (chip .exit)) (now (spare .exit)) (now (directory .exit))
         (now (cache .exit)) (now («record» .exit)) (now (counts .exit))) ⌝ }
 {
-    let boundary = five_words(record);
+    let boundary = whole_record(record);
     let rec = load(record);
     let formatted = calls::format(rec, boundary, g, chip, spare, directory, cache, counts);
     store(record, formatted.rec);
@@ -50,7 +50,7 @@ pub fn check(
         (words (now (chip .entry)) (now (spare .entry)) (now (directory .entry))
         (now (cache .entry)) (now («record» .entry)) (now (counts .exit))) ⌝ }
 {
-    let boundary = five_words(record);
+    let boundary = whole_record(record);
     let rec = load(record);
     calls::check(rec, boundary, g, chip, spare, directory, cache, counts)
 }

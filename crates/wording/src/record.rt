@@ -7,9 +7,10 @@ ghost use lib.Seq.{sets};
 ghost use Rattle.lent.specs.Model.{small};
 ghost use Rattle.scope.specs.SmallRecord.{record-words, record-of, words-from};
 
-const RECORD_WORDS: usize = 5;
+// Words of the small record.
+pub const RECORD_WORDS: usize = 5;
 
-pub fn five_words(record: &[u32]) -> bool
+pub fn whole_record(record: &[u32]) -> bool
     ensures { λ r. ⌜ r ≡ eqb (length (now («record» .entry))) record-words ⌝ }
 {
     record.len() == RECORD_WORDS

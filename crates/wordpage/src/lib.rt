@@ -1,8 +1,8 @@
 // Read and write in words, as format and check are in crate wordcalls: load the small record, make the call by value, store the record.
 use lent::Geometry;
-use wording::record::five_words;
 use wording::record::load;
 use wording::record::store;
+use wording::record::whole_record;
 ghost use Rattle.lent.specs.Model.{geometry};
 ghost use Rattle.scope.specs.Requests.{replied};
 ghost use Rattle.scope.specs.Boundary.{tf-read, tf-write};
@@ -28,7 +28,7 @@ pub fn read(
         (words (now (chip .exit)) (now (spare .exit)) (now (directory .exit))
         (now (cache .exit)) (now («record» .exit)) (now (counts .exit))) ⌝ }
 {
-    let boundary = five_words(record);
+    let boundary = whole_record(record);
     let rec = load(record);
     let read = calls::read(
         rec,
@@ -65,7 +65,7 @@ pub fn write(
         (words (now (chip .exit)) (now (spare .exit)) (now (directory .exit))
         (now (cache .exit)) (now («record» .exit)) (now (counts .exit))) ⌝ }
 {
-    let boundary = five_words(record);
+    let boundary = whole_record(record);
     let rec = load(record);
     let written = calls::write(
         rec,

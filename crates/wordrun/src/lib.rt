@@ -9,9 +9,9 @@ use running::Running;
 use serving::begin;
 use serving::finish;
 use serving::serve;
-use wording::record::five_words;
 use wording::record::load;
 use wording::record::store;
+use wording::record::whole_record;
 use wording::requests::REQUEST_WORDS;
 use wording::requests::request_at;
 use wording::requests::whole_requests;
@@ -152,7 +152,7 @@ pub fn run(
         (lent-words (now (chip .exit)) (now (spare .exit)) (now (directory .exit))
         (now (cache .exit)) (now («record» .exit)) (now (counts .exit))) ⌝ }
 {
-    let boundary = five_words(record);
+    let boundary = whole_record(record);
     let rec = load(record);
     let ran = run_words(
         rec,

@@ -8,7 +8,7 @@ use lib.Dec.{eqb}
 use borrow.Author.Needs.{needs}
 use borrow.Author.Tests.{eq-eqb, ne-eqb}
 use Rattle.scope.specs.Geometry.{most-pages}
-use Rattle.scope.specs.Lent.{chip-size, spare-size}
+use Rattle.scope.specs.Lent.{spare-words, chip-size, spare-size}
 use Rattle.scope.specs.Replies.{right-sizes}
 use Rattle.flash.specs.Bounded.{accepted-bounded, few-pages}
 use Rattle.flash.specs.Tests.{and-passed}
@@ -28,8 +28,8 @@ chip-right c =
     let a = c .before .before .before .args in
     eq-eqb (a .chip) (chip-size (geometry (a .g))) (c .if1 .left ∙ chip-should (c .before))
 
-spare-should : (c : tie.Else1) → c .before .before .chip-pages .result * 2 ≡ spare-size (geometry (c .before .before .before .args .g))
-spare-should c = ap (λ (n : ℕ). n * 2) (c .before .before .chip-pages .ensures)
+spare-should : (c : tie.Else1) → c .before .before .chip-pages .result * spare-words ≡ spare-size (geometry (c .before .before .before .args .g))
+spare-should c = ap (λ (n : ℕ). n * spare-words) (c .before .before .chip-pages .ensures)
 
 spare-right : (c : tie.Else2) → let a = c .before .before .before .before .args in
     eqb (a .spare) (spare-size (geometry (a .g))) ≡ true

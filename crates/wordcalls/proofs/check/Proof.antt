@@ -9,8 +9,8 @@ use Rattle.wording.specs.Words.{tested-in-words, stored-back}
 use Rattle.wordcalls.proofs.check.Statement.{statement}
 use Rattle.wordcalls.proofs.check.Tie as tie
 
-five-words-requires : tie.Need-five-words-requires
-five-words-requires c κs = search needs
+whole-record-requires : tie.Need-whole-record-requires
+whole-record-requires c κs = search needs
 
 load-requires : tie.Need-load-requires
 load-requires c κs = search needs
@@ -29,9 +29,9 @@ returns c =
     let tested = loaded .before in
     let a = tested .before .before .before .before .before .before .before .args in
     tested-in-words (now (a .«record»)) (λ (b : Bool). check (geometry (a .g)) b)
-    (tested .five-words .ensures) (loaded .load .ensures) (done .check .ensures)
+    (tested .whole-record .ensures) (loaded .load .ensures) (done .check .ensures)
     (stored-back (now (a .«record»)) (loaded .load .ensures))
 
 pub check-spec : {M : Type 1} → statement M
 check-spec =
-    tie.close (tie.spec five-words-requires load-requires check-requires same-length returns)
+    tie.close (tie.spec whole-record-requires load-requires check-requires same-length returns)

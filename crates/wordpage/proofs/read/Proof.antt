@@ -9,8 +9,8 @@ use Rattle.wording.specs.Words.{tested-in-words}
 use Rattle.wordpage.proofs.read.Statement.{statement}
 use Rattle.wordpage.proofs.read.Tie as tie
 
-five-words-requires : tie.Need-five-words-requires
-five-words-requires c κs = search needs
+whole-record-requires : tie.Need-whole-record-requires
+whole-record-requires c κs = search needs
 
 load-requires : tie.Need-load-requires
 load-requires c κs = search needs
@@ -50,13 +50,13 @@ returns c =
     let tested = loaded .before .before in
     let a = tested .before .before .before .before .before .before .before .before .before .args in
     tested-in-words (now (a .«record»)) (λ (b : Bool). read (geometry (a .g)) b (a .page) (now (a .buffer)))
-    (tested .five-words .ensures) (loaded .load .ensures) (done .read .ensures) (c .before .before .store .ensures)
+    (tested .whole-record .ensures) (loaded .load .ensures) (done .read .ensures) (c .before .before .store .ensures)
 
 pub read-spec : {M : Type 1} → statement M
 read-spec =
     tie.close
     (tie.spec
-    five-words-requires
+    whole-record-requires
     load-requires
     read-requires
     store-requires

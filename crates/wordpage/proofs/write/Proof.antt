@@ -9,8 +9,8 @@ use Rattle.wording.specs.Words.{tested-in-words}
 use Rattle.wordpage.proofs.write.Statement.{statement}
 use Rattle.wordpage.proofs.write.Tie as tie
 
-five-words-requires : tie.Need-five-words-requires
-five-words-requires c κs = search needs
+whole-record-requires : tie.Need-whole-record-requires
+whole-record-requires c κs = search needs
 
 load-requires : tie.Need-load-requires
 load-requires c κs = search needs
@@ -47,13 +47,13 @@ returns c =
     let tested = loaded .before .before in
     let a = tested .before .before .before .before .before .before .before .before .before .args in
     tested-in-words (now (a .«record»)) (λ (b : Bool). write (geometry (a .g)) b (a .page) (now (a .buffer)))
-    (tested .five-words .ensures) (loaded .load .ensures) (done .write .ensures) (c .before .before .store .ensures)
+    (tested .whole-record .ensures) (loaded .load .ensures) (done .write .ensures) (c .before .before .store .ensures)
 
 pub write-spec : {M : Type 1} → statement M
 write-spec =
     tie.close
     (tie.spec
-    five-words-requires
+    whole-record-requires
     load-requires
     write-requires
     store-requires

@@ -12,8 +12,8 @@ use Rattle.wording.specs.Words.{tested-in-words}
 use Rattle.wordrun.proofs.run.Statement.{statement}
 use Rattle.wordrun.proofs.run.Tie as tie
 
-five-words-requires : tie.Need-five-words-requires
-five-words-requires c κs = search needs
+whole-record-requires : tie.Need-whole-record-requires
+whole-record-requires c κs = search needs
 
 load-requires : tie.Need-load-requires
 load-requires c κs = search needs
@@ -58,13 +58,13 @@ returns c =
     let ws = now (a .requests) in
     tested-in-words (now (a .«record»)) (λ (b : Bool). run (geometry (a .g))
     (b && eqb (length ws % 2) 0) (requests-of ws) (now (a .words)) (now (a .answers)))
-    (tested .five-words .ensures) (loaded .load .ensures) (done .run-words .ensures) (c .before .before .store .ensures)
+    (tested .whole-record .ensures) (loaded .load .ensures) (done .run-words .ensures) (c .before .before .store .ensures)
 
 pub run-spec : {M : Type 1} → statement M
 run-spec =
     tie.close
     (tie.spec
-    five-words-requires
+    whole-record-requires
     load-requires
     run-words-requires
     store-requires

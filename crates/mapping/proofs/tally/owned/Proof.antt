@@ -5,6 +5,7 @@ use mathlib.Core.Path.{ap, sym}
 use Prim.Native.Nat.{_+_, _*_}
 use borrow.Author.Needs.{needs}
 use borrow.Author.Tests.{lt-leb}
+use Rattle.scope.specs.Lent.{spare-words}
 use Rattle.mapping.specs.Tally.{pair-owns, pair-differs}
 use Rattle.mapping.proofs.tally.owned.Statement.{statement}
 use Rattle.mapping.proofs.tally.owned.Tie as tie
@@ -36,22 +37,22 @@ returns c = simp (lt-leb _ _ (c .if1 .taken))
 cast-if2 : tie.Need-cast-if2
 cast-if2 c =
     let a = c .before .before .before .args in
-    omega (arith, c .before .before .shared-slice-known .given (a .at * 2))
+    omega (arith, c .before .before .shared-slice-known .given (a .at * spare-words))
 
 cast-if2-2 : tie.Need-cast-if2-2
 cast-if2-2 c =
     let a = c .before .before .before .args in
-    omega (arith, c .before .shared-slice-known2 .given (a .at * 2 + 1))
+    omega (arith, c .before .shared-slice-known2 .given (a .at * spare-words + 1))
 
 mul-if2 : tie.Need-mul-if2
 mul-if2 c =
     let a = c .before .before .before .args in
-    omega (arith, c .before .shared-slice-known2 .given (a .at * 2 + 1))
+    omega (arith, c .before .shared-slice-known2 .given (a .at * spare-words + 1))
 
 add-if2 : tie.Need-add-if2
 add-if2 c =
     let a = c .before .before .before .args in
-    omega (arith, c .before .before .shared-slice-known .given (a .at * 2), c .before .shared-slice-known2 .given (a .at * 2 + 1))
+    omega (arith, c .before .before .shared-slice-known .given (a .at * spare-words), c .before .shared-slice-known2 .given (a .at * spare-words + 1))
 
 cast-if2-3 : tie.Need-cast-if2-3
 cast-if2-3 c = search needs
@@ -74,7 +75,7 @@ returns-3 c =
     let a = start .args in
     sym (ap (λ (b : Bool). cond b 1 0)
     (pair-owns (a .first) (a .n) (a .spare .now) (a .k) (a .at) (c .before .if1 .left) (start .pre .1) (omega (arith, start .pre)) (c .if2 .left)
-    (omega (arith, c .before .before .before .shared-slice-known .given (a .at * 2)))))
+    (omega (arith, c .before .before .before .shared-slice-known .given (a .at * spare-words)))))
 
 pub owned-spec : {M : Type 1} → statement M
 owned-spec =

@@ -1,5 +1,6 @@
 -- `requests::answers::read` meets its contract: the entry at the rank that translate hands back says where l is.
 use mathlib.Core.Path.{sym, ap, _∙_}
+use native.Mathlib.Omega.{arith}
 use borrow.Author.Needs.{needs}
 use Rattle.scope.specs.Lent.{decode}
 use Rattle.lent.specs.Model.{geometry}
@@ -34,35 +35,43 @@ read-place-requires c κs =
     place-ready (start .pre .0 .0) (translated .translate .ensures .0) (c .before .before .decode .ensures ∙ ap decode (seen .physical .ensures))
     (start .pre .0 .1)
 
+-- What has been done at the return, in order.
+abbrev read : tie.After-slice-known12 → tie.After-read-place
+read c = c .before .before
+
+abbrev seen : tie.After-slice-known12 → tie.After-physical
+seen c = read c .before .before .before .before
+
+abbrev translated : tie.After-slice-known12 → tie.After-translate
+translated c = seen c .before .before .before .before .before .before .before .before .before .before .before .before .before .before
+
 same-length : tie.Need-same-length
-same-length c = search needs
+same-length c = omega (arith, read c .read-place .kept, translated c .translate .kept)
 
 same-length-2 : tie.Need-same-length-2
-same-length-2 c = search needs
+same-length-2 c = omega (arith, read c .read-place .kept, translated c .translate .kept)
 
 same-length-3 : tie.Need-same-length-3
-same-length-3 c = search needs
+same-length-3 c = omega (arith, read c .read-place .kept, translated c .translate .kept)
 
 same-length-4 : tie.Need-same-length-4
-same-length-4 c = search needs
+same-length-4 c = omega (arith, read c .read-place .kept, translated c .translate .kept)
 
 same-length-5 : tie.Need-same-length-5
-same-length-5 c = search needs
+same-length-5 c = omega (arith, read c .read-place .kept, translated c .translate .kept)
 
 same-length-6 : tie.Need-same-length-6
-same-length-6 c = search needs
+same-length-6 c = omega (arith, read c .read-place .kept, translated c .translate .kept)
 
 returns : tie.Need-returns
 returns c =
-    let seen = c .before .before .before .before .before .before in
-    let translated = seen .before .before .before .before .before .before .before .before .before .before .before .before .before .before in
-    let a = translated .before .before .before .before .before .before .before .before .before .before .before .before .before .args in
-    let is-place = ap decode (sym (seen .physical .ensures)) ∙ sym (c .before .before .before .before .before .decode .ensures) in
-    let reads = c .before .before .read-place .ensures in (
-      read-does (geometry (a .g)) (a .l) (a .buffer .now) (translated .translate .ensures .0) is-place (reads (left-by (translated .translate .ensures .0))),
+    let a = translated c .before .before .before .before .before .before .before .before .before .before .before .before .before .args in
+    let is-place = ap decode (sym (seen c .physical .ensures)) ∙ sym (read c .before .before .before .decode .ensures) in
+    let reads = read c .read-place .ensures in (
+      read-does (geometry (a .g)) (a .l) (a .buffer .now) (translated c .translate .ensures .0) is-place (reads (left-by (translated c .translate .ensures .0))),
       (
-        translated .translate .ensures .1 .0,
-        filter-still (read-place-keeps-used (geometry (a .g)) (a .buffer .now) _ reads) (translated .translate .ensures .1 .1),
+        translated c .translate .ensures .1 .0,
+        filter-still (read-place-keeps-used (geometry (a .g)) (a .buffer .now) _ reads) (translated c .translate .ensures .1 .1),
       ),
     )
 

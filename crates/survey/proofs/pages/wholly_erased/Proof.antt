@@ -3,6 +3,7 @@ use Prim.Native.Nat.{_*_}
 use native.Mathlib.Nat.{add-mul, mul-assoc}
 use native.Mathlib.Omega.{arith}
 use borrow.Author.Needs.{needs}
+use Rattle.scope.specs.Lent.{spare-words}
 use Rattle.flash.specs.Tests.{first-refused, first-passed}
 use Rattle.survey.proofs.pages.wholly_erased.Statement.{statement}
 use Rattle.survey.proofs.pages.wholly_erased.Tie as tie
@@ -13,7 +14,7 @@ mul-is-blank c = search needs
 is-blank-requires : tie.Need-is-blank-requires
 is-blank-requires c κs =
     let a = c .before .before .args in
-    omega (arith, mul-assoc (a .b) (a .p) 2, c .before .before .pre .1)
+    omega (arith, mul-assoc (a .b) (a .p) spare-words, c .before .before .pre .1)
 
 returns : tie.Need-returns
 returns c = first-refused _ (c .before .is-blank .ensures) (c .if1 .taken)
