@@ -15,7 +15,7 @@ use Rattle.scope.specs.Lent.{State, Request}
 use Rattle.scope.specs.Sound.{Sound}
 use Rattle.scope.specs.Decisions.{sound}
 use Rattle.scope.specs.Replies.{DONE, GEOMETRY, LENGTH, DAMAGED, KIND, PAGE, Test, first-applying, right-sizes}
-use Rattle.scope.specs.Calls.{state-sizes, size-tests, state-tests, request-tests}
+use Rattle.scope.specs.Calls.{state-sizes, size-tests, state-tests, kinds, request-tests}
 use Rattle.scope.specs.Laws.Decided.{accepted-decided, sound-decided}
 use Rattle.geometry.specs.Sizes.{sizes-fit}
 
@@ -48,23 +48,23 @@ module _ (g : Geometry) (right others : Bool) where
 
 -- KIND and PAGE of a request, each where the tests before it pass.
 module _ (g : Geometry) (small : SmallRecord) (q : Request) where
-  pub kind-refused : 2 ≤ q .kind → KIND ≡ first-applying (request-tests g small q)
+  pub kind-refused : kinds ≤ q .kind → KIND ≡ first-applying (request-tests g small q)
   unfolding first-applying
-  kind-refused k = rw (le-leb 2 (q .kind) k)
+  kind-refused k = rw (le-leb kinds (q .kind) k)
 
-  pub page-refused : q .kind < 2 → g .L ≤ q .page → PAGE ≡ first-applying (request-tests g small q)
+  pub page-refused : q .kind < kinds → g .L ≤ q .page → PAGE ≡ first-applying (request-tests g small q)
   unfolding first-applying
-  page-refused k p = rw (lt-leb 2 (q .kind) k, le-leb (g .L) (q .page) p)
+  page-refused k p = rw (lt-leb kinds (q .kind) k, le-leb (g .L) (q .page) p)
 
-  pub request-admitted : q .kind < 2 → q .page < g .L → DONE ≡ first-applying (request-tests g small q)
+  pub request-admitted : q .kind < kinds → q .page < g .L → DONE ≡ first-applying (request-tests g small q)
   unfolding first-applying
-  request-admitted k p = rw (lt-leb 2 (q .kind) k, lt-leb (g .L) (q .page) p)
+  request-admitted k p = rw (lt-leb kinds (q .kind) k, lt-leb (g .L) (q .page) p)
 
   -- One that passes them is of a page below L.
   pub request-below : DONE ≡ first-applying (request-tests g small q) → q .page < g .L
   request-below e =
       below? (q .page) (g .L) (λ p. p)
-      (λ p. absurd (below? (q .kind) 2 (λ k. omega (arith, page-refused k p)) (λ k. omega (arith, kind-refused k))))
+      (λ p. absurd (below? (q .kind) kinds (λ k. omega (arith, page-refused k p)) (λ k. omega (arith, kind-refused k))))
 
 -- n is the answer of a state's tests; `others`: whether the lengths beside the state's are right.
 abbrev pub State-tested : Geometry → State → Bool → ℕ → Type 0

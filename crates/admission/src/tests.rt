@@ -1,6 +1,7 @@
 // Tests in number order, each answered with its number, and 0 where none applies. What is tested of a slice alone is its length, which
 // comes by value. On the way the notes are taken that the steps read instead of searching, the census of the blocks and the filter of the
 // cached pages: a state found sound has both. They are no part of the state: a call keeps them on its stack, as long as it lasts.
+use crate::KINDS;
 use crate::Request;
 use crate::counting::COUNTS_WORDS;
 use geometry::accepts;
@@ -186,7 +187,7 @@ pub fn check_answer(
 pub fn request_answer(rec: Record, g: Geometry, q: Request) -> u32
     ensures { λ r. ⌜ r ≡ first-applying (request-tests (geometry g) (small rec) (request q)) ⌝ }
 {
-    if 2 <= q.kind {
+    if KINDS <= q.kind {
         return KIND;
     }
     if g.l <= q.page {

@@ -13,7 +13,7 @@ use Rattle.scope.specs.SmallRecord.{SmallRecord}
 use Rattle.scope.specs.Lent.{State, Request, most-requests}
 use Rattle.scope.specs.Decisions.{sound}
 use Rattle.scope.specs.Replies.{GEOMETRY, LENGTH, DAMAGED, KIND, PAGE, Size, right-sizes}
-use Rattle.scope.specs.Calls.{state-sizes, buffer-sizes, run-sizes}
+use Rattle.scope.specs.Calls.{state-sizes, buffer-sizes, run-sizes, kinds}
 use Rattle.scope.specs.Laws.Decides.{Decides, by-equal, by-and, by-not, by-most, by-itself}
 use Rattle.scope.specs.Laws.Decided.{accepted-decided, sound-decided}
 use Rattle.promises.specs.Grounds.{Right, Wrong, Fits, Misfits, size-grounds, state-ground, state-grounds, request-grounds, format-grounds, check-grounds, single-grounds, run-grounds}
@@ -83,7 +83,7 @@ state-decided g s b {fits} {misfits} d e =
     (given-unless DAMAGED (sound g s) (sound-decided g s) (by-not (sound-decided g s)), tt)
 
 abbrev pub request-decided : (g : Geometry) (small : SmallRecord) (q : Request) → All-decided (request-grounds g small q)
-request-decided g small q = (given-from KIND 2 (q .kind), (given-from PAGE (g .L) (q .page), tt))
+request-decided g small q = (given-from KIND kinds (q .kind), (given-from PAGE (g .L) (q .page), tt))
 
 -- ---- the table of each call
 

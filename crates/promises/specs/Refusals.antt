@@ -16,7 +16,7 @@ use Rattle.scope.specs.Operations.{give, look, _>>=_}
 use Rattle.scope.specs.Steps.{translate}
 use Rattle.scope.specs.Replies.{DONE, UNWRITTEN}
 use Rattle.scope.specs.Requests.{Replied, replied, read-place, read-steps, write-steps, format-steps}
-use Rattle.scope.specs.Calls.{state-sizes, buffer-sizes, read-of, write-of, run-replied, serve, answer-record, serve-record, serve-records, format, check, read, write, run}
+use Rattle.scope.specs.Calls.{state-sizes, buffer-sizes, kinds, read-of, write-of, run-replied, serve, answer-record, serve-record, serve-records, format, check, read, write, run}
 use Rattle.promises.specs.Grounds.{Right, request-grounds, format-grounds, check-grounds, single-grounds, run-grounds}
 use Rattle.promises.specs.Tests.{All-passed, By-grounds, by-grounds}
 use Rattle.promises.specs.GroundsDecided.{request-decided, format-decided, check-decided, single-decided, run-decided}
@@ -119,10 +119,10 @@ run-by-grounds g boundary requests words answers s =
 -- ---- what it is to pass a request's tests
 
 module _ (g : Geometry) (small : SmallRecord) (q : Request) where
-  pub request-passes : q .kind < 2 → q .page < g .L → All-passed (request-grounds g small q)
+  pub request-passes : q .kind < kinds → q .page < g .L → All-passed (request-grounds g small q)
   request-passes kind below = (kind, (below, tt))
 
-  pub kind-passed : All-passed (request-grounds g small q) → q .kind < 2
+  pub kind-passed : All-passed (request-grounds g small q) → q .kind < kinds
   kind-passed h = h .0
 
   pub page-passed : All-passed (request-grounds g small q) → q .page < g .L

@@ -13,7 +13,7 @@ use Rattle.scope.specs.Lent.{none, State, Request, most-requests}
 use Rattle.scope.specs.Operations.{Outcome, give, _>>=_}
 use Rattle.scope.specs.Replies.{DONE, UNWRITTEN}
 use Rattle.scope.specs.Requests.{Replied, format-steps}
-use Rattle.scope.specs.Calls.{state-sizes, run-sizes, read-of, write-of, RunReplied, part, no-request, read, write, run}
+use Rattle.scope.specs.Calls.{state-sizes, run-sizes, kinds, read-of, write-of, RunReplied, part, no-request, read, write, run}
 use Rattle.scope.specs.Sound.{Sound}
 use Rattle.flash.specs.Cases.{below?}
 use Rattle.flash.specs.Clearing.{allowed-clears-each}
@@ -63,7 +63,7 @@ module _ {g : Geometry} (ok : Accepted g) where
         (read-tells ok stands l buffer (page-passed g (s .small) (read-of l) (own-passed g (read-of l) buffer s (t .served h .0)))))
 
     module _ (l : ℕ) (buffer : List ℕ) (below : l < g .L) (long : length buffer ≡ g .W) where
-      admits : (q : Request) → q .kind < 2 → q .page < g .L → All-passed (single-grounds g true q buffer s)
+      admits : (q : Request) → q .kind < kinds → q .page < g .L → All-passed (single-grounds g true q buffer s)
       admits q kind below =
           let len = stands .lengths in
           single-passes g q buffer s ok (len .chip-fits, (len .spare-fits, (len .directory-fits, (len .cache-fits, (long, tt)))))
