@@ -1,22 +1,22 @@
 -- What the tests' answer tells: 0 only where the geometry is accepted, the lengths are right, the state is sound and the request passes.
 -- And that a test that applies answers for all that follow it.
-use Prim.Native.Nat.{ℕ, _≤_, _<_}
+use Prim.Native.Nat.{ℕ, _<_}
 use mathlib.Core.Path.{_≡_, refl, sym, _∙_}
 use mathlib.Core.Logic.{_≢_}
 use mathlib.Core.Bool.{Bool, true, false, _&&_}
 use mathlib.Core.List.{List, [], _∷_, _++_}
 use native.Mathlib.Omega.{arith}
-use borrow.Author.Tests.{le-leb, lt-leb}
-use Rattle.flash.specs.Cases.{on, same?, below?, and-true}
+use Rattle.flash.specs.Cases.{on, same?, and-true}
 use Rattle.flash.specs.Words.{Lengths}
 use Rattle.scope.specs.Geometry.{Geometry, Accepted, accepted}
 use Rattle.scope.specs.SmallRecord.{SmallRecord}
 use Rattle.scope.specs.Lent.{State, Request}
 use Rattle.scope.specs.Sound.{Sound}
 use Rattle.scope.specs.Decisions.{sound}
-use Rattle.scope.specs.Replies.{DONE, GEOMETRY, LENGTH, DAMAGED, KIND, PAGE, Test, first-applying, right-sizes}
-use Rattle.scope.specs.Calls.{state-sizes, size-tests, state-tests, kinds, request-tests}
+use Rattle.scope.specs.Replies.{DONE, GEOMETRY, LENGTH, DAMAGED, Test, first-applying, right-sizes}
+use Rattle.scope.specs.Calls.{state-sizes, size-tests, state-tests, request-tests}
 use Rattle.scope.specs.Laws.Decided.{accepted-decided, sound-decided}
+use Rattle.promises.specs.GroundsDecided.{tests-passed, page-passed}
 use Rattle.geometry.specs.Sizes.{sizes-fit}
 
 -- The first of more tests.
@@ -46,25 +46,9 @@ module _ (g : Geometry) (right others : Bool) where
   unfolding first-applying
   size-admitted a r o = rw (a, r, o)
 
--- KIND and PAGE of a request, each where the tests before it pass.
-module _ (g : Geometry) (small : SmallRecord) (q : Request) where
-  pub kind-refused : kinds ≤ q .kind → KIND ≡ first-applying (request-tests g small q)
-  unfolding first-applying
-  kind-refused k = rw (le-leb kinds (q .kind) k)
-
-  pub page-refused : q .kind < kinds → g .L ≤ q .page → PAGE ≡ first-applying (request-tests g small q)
-  unfolding first-applying
-  page-refused k p = rw (lt-leb kinds (q .kind) k, le-leb (g .L) (q .page) p)
-
-  pub request-admitted : q .kind < kinds → q .page < g .L → DONE ≡ first-applying (request-tests g small q)
-  unfolding first-applying
-  request-admitted k p = rw (lt-leb kinds (q .kind) k, lt-leb (g .L) (q .page) p)
-
-  -- One that passes them is of a page below L.
-  pub request-below : DONE ≡ first-applying (request-tests g small q) → q .page < g .L
-  request-below e =
-      below? (q .page) (g .L) (λ p. p)
-      (λ p. absurd (below? (q .kind) kinds (λ k. omega (arith, page-refused k p)) (λ k. omega (arith, kind-refused k))))
+-- A request that passes its tests is of a page below L.
+pub request-below : (g : Geometry) (small : SmallRecord) (q : Request) → DONE ≡ first-applying (request-tests g small q) → q .page < g .L
+request-below g small q e = page-passed g small q (tests-passed g small q (sym e))
 
 -- n is the answer of a state's tests; `others`: whether the lengths beside the state's are right.
 abbrev pub State-tested : Geometry → State → Bool → ℕ → Type 0
