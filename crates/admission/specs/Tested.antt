@@ -1,6 +1,6 @@
 -- What the tests' answer tells: 0 only where the geometry is accepted, the lengths are right, the state is sound and the request passes.
 -- And that a test that applies answers for all that follow it.
-use Prim.Native.Nat.{ℕ}
+use Prim.Native.Nat.{ℕ, _<_}
 use mathlib.Core.Path.{_≡_, refl, sym, _∙_}
 use mathlib.Core.Logic.{_≢_}
 use mathlib.Core.Bool.{Bool, true, false, _&&_}
@@ -9,12 +9,14 @@ use native.Mathlib.Omega.{arith}
 use Rattle.flash.specs.Cases.{on, same?, and-true}
 use Rattle.flash.specs.Words.{Lengths}
 use Rattle.scope.specs.Geometry.{Geometry, Accepted, accepted}
+use Rattle.scope.specs.SmallRecord.{SmallRecord}
 use Rattle.scope.specs.Lent.{State, Request}
 use Rattle.scope.specs.Sound.{Sound}
 use Rattle.scope.specs.Decisions.{sound}
 use Rattle.scope.specs.Replies.{DONE, DAMAGED, Test, first-applying, right-sizes}
 use Rattle.scope.specs.Calls.{state-sizes, size-tests, state-tests, request-tests}
 use Rattle.scope.specs.Laws.Decided.{accepted-decided, sound-decided}
+use Rattle.promises.specs.GroundsDecided.{tests-passed, page-passed}
 use Rattle.geometry.specs.Sizes.{sizes-fit}
 
 -- The first of more tests.
@@ -25,6 +27,10 @@ earlier-applies (t ∷ ts) us e h =
     on (t .applies)
     (λ a. rw a (rw a at e))
     (λ a. rw a (earlier-applies ts us (rw a at e) h))
+
+-- A request that passes its tests is of a page below L.
+pub request-below : (g : Geometry) (small : SmallRecord) (q : Request) → DONE ≡ first-applying (request-tests g small q) → q .page < g .L
+request-below g small q e = page-passed g small q (tests-passed g small q (sym e))
 
 -- n is the answer of a state's tests; `others`: whether the lengths beside the state's are right.
 abbrev pub State-tested : Geometry → State → Bool → ℕ → Type 0

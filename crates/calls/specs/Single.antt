@@ -23,8 +23,7 @@ use Rattle.words.specs.Filter.{Filter}
 use Rattle.requests.specs.Ready.{Ready-for}
 use Rattle.replies.specs.Answers.{does-answers, refuses, admits}
 use Rattle.replies.specs.Sizes.{buffer-right, with-buffer}
-use Rattle.replies.specs.Tests.{request-below}
-use Rattle.admission.specs.Tested.{single-passes, geometry-passes, lengths-pass, soundness-passes}
+use Rattle.admission.specs.Tested.{request-below, single-passes, geometry-passes, lengths-pass, soundness-passes}
 use Rattle.admission.specs.Room.{most-cost}
 use Rattle.admission.specs.SingleTested.{Single-tested}
 

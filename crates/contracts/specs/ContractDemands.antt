@@ -17,9 +17,9 @@ use Rattle.scope.specs.Calls.{state-sizes, buffer-sizes, run-sizes, read-of, wr
 use Rattle.flash.specs.Listed.{Allowed}
 use Rattle.flash.specs.Clearing.{Clears-each}
 use Rattle.promises.specs.Grounds.{Ground, Right, Refuses, Refusal, format-grounds, check-grounds, single-grounds, run-grounds}
-use Rattle.promises.specs.Refused.{Demand-1-record, own, own-operations}
+use Rattle.promises.specs.Refused.{Demand-1-record, before-record, own, own-operations}
 use Rattle.promises.specs.Remembered.{Call, Format, Check, Read-page, Write-page, Run, make, Store, Nothing, remembered, noted-records, held}
-use Rattle.promises.specs.Demands.{Tells, One-for-each, read-bound, write-bound, Reads-well, Writes-well}
+use Rattle.promises.specs.Demands.{Tells, One-for-each, read-bound, write-bound, Below-limit, Serves-well}
 use Rattle.contracts.specs.Faces.{Back, Face, Made, Trace, left-by, seen}
 
 -- ---- Demand 1: any input, one answer
@@ -86,14 +86,12 @@ Read-in-bounds g b = ((b .reply ≡ DONE) ⊎ (b .reply ≡ UNWRITTEN)) × (sum 
 abbrev pub Write-in-bounds : Geometry → Back → Type 0
 Write-in-bounds g b = (b .reply ≡ DONE) × (sum (b .counts) ≤ write-bound g)
 
--- Of a call with right lengths, of a page below the limit where it names one. That the counts' slice has three words is among
--- the lengths.
+-- Of a call with right lengths, and of a request below the limit. That the counts' slice has three words is among the lengths.
 pub record Demand-3-of (F : Face) (g : Geometry) (n : F .Node) (x : F .Lent) (counts : List ℕ) (b : Back) : Type 0 where
   pub reads-well : (l : ℕ) (buffer : List ℕ) → F .call n x counts ≡ Read-page true l buffer
-      → l < g .L → Right (buffer-sizes g buffer)
-      → Read-in-bounds g b
+      → Below-limit g (F .state n .small) (read-of l) → Right (buffer-sizes g buffer) → Read-in-bounds g b
   pub writes-well : (l : ℕ) (buffer : List ℕ) → F .call n x counts ≡ Write-page true l buffer
-      → l < g .L → Right (buffer-sizes g buffer) → Write-in-bounds g b
+      → Below-limit g (F .state n .small) (write-of l) → Right (buffer-sizes g buffer) → Write-in-bounds g b
   pub checks-well : F .call n x counts ≡ Check true → b .reply ≡ DONE
   pub runs-well : (requests : List Request) (words answers : List ℕ) → F .call n x counts ≡ Run true requests words answers
       → Right (run-sizes g requests words answers) → length requests ≤ most-requests → b .reply ≡ DONE
@@ -103,8 +101,8 @@ pub record Demand-3-of (F : Face) (g : Geometry) (n : F .Node) (x : F .Lent) (co
       → Right (run-sizes g requests words answers) → length requests ≤ most-requests → i < length requests →
       let q = getD requests i no-request in
       let reply = getD (b .answers) i none in
-      let did = own g requests words answers (F .state n) i .did in
-      q .page < g .L → (q .kind ≡ 0 → Reads-well g reply did) × (q .kind ≡ 1 → Writes-well g reply did)
+      let now = before-record g requests words answers (F .state n) i .after .small in
+      Below-limit g now q → Serves-well g q reply (own g requests words answers (F .state n) i .did)
   pub run-counts : (boundary : Bool) (requests : List Request) (words answers : List ℕ)
       → F .call n x counts ≡ Run boundary requests words answers → b .reply ≡ DONE
       → b .counts ≡ put-counts counts (counted (own-operations g requests words answers (F .state n) (length requests)))

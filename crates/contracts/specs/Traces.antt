@@ -11,17 +11,17 @@ use borrow.Author.Tests.{eq-eqb}
 use Rattle.scope.specs.Geometry.{Geometry, Accepted}
 use Rattle.scope.specs.Lent.{none, State, Request}
 use Rattle.scope.specs.Sound.{Sound}
-use Rattle.scope.specs.Operations.{Operation, Outcome, Counts, counted, give}
+use Rattle.scope.specs.Operations.{Operation, Outcome, Step, Counts, counted, give}
 use Rattle.scope.specs.Requests.{Replied}
 use Rattle.scope.specs.Replies.{DONE, UNWRITTEN}
-use Rattle.scope.specs.Calls.{state-sizes, buffer-sizes, RunReplied, part, no-request, read, write, run}
+use Rattle.scope.specs.Calls.{state-sizes, buffer-sizes, read-of, write-of, RunReplied, part, no-request, read, write, run}
 use Rattle.scope.specs.Boundary.{counts-words, put-counts, words-of-counts}
 use Rattle.flash.specs.Listed.{total, Allowed}
 use Rattle.flash.specs.Clearing.{Clears-each}
 use Rattle.promises.specs.Grounds.{Right, Refusal}
-use Rattle.promises.specs.Refused.{own, own-operations}
+use Rattle.promises.specs.Refused.{before-record, own, own-operations}
 use Rattle.promises.specs.Remembered.{Call, Format, Check, Read-page, Write-page, Run, make, after-calls, history, Event, remembered, noted-records, Store, Nothing, held}
-use Rattle.promises.specs.Demands.{Tells, One-for-each, Demand-3, Reads-well, Writes-well}
+use Rattle.promises.specs.Demands.{Tells, One-for-each, Demand-3, Below-limit, Serves-well}
 use Rattle.promises.specs.Refusals.{check-by-grounds}
 use Rattle.promises.specs.Demand1.{demand-1}
 use Rattle.promises.specs.Sequences.{demand-2, demand-3, formats}
@@ -113,6 +113,10 @@ module _ {F : Face} {g : Geometry} (faithful : Faithful F g) where
         → Tells (noted-records g requests words (r .answers) i (remembered g events (held g (F .state n))) (q .page)) reply
         (part g i (r .words))
 
+    -- A single request, as demand 3 has it.
+    abbrev Well : Request → Step Replied → State → Type 0
+    Well q call t = Below-limit g (t .small) q → Serves-well g q (call t .value .reply) (call t .did)
+
     -- ---- a further call
 
     module _ (x : F .Lent) (counts : List ℕ) (b : Back) (n′ : F .Node) (contract : F .Contract g x counts now b n′) where
@@ -143,21 +147,19 @@ module _ {F : Face} {g : Geometry} (faithful : Faithful F g) where
                 (d2 .record-tells boundary requests words answers i));
           }
 
-      module _ (l : ℕ) (buffer : List ℕ) (below : l < g .L) (long : Right (buffer-sizes g buffer)) where
-        reads-well : call ≡ Read-page true l buffer → Read-in-bounds g b
-        reads-well e =
+      module _ (l : ℕ) (buffer : List ℕ) (long : Right (buffer-sizes g buffer)) where
+        reads-well : call ≡ Read-page true l buffer → Below-limit g (s .small) (read-of l) → Read-in-bounds g b
+        reads-well e below =
             let (replies, bound) =
-            subst (λ (t : State). Reads-well g (read g true l buffer t .value .reply) (read g true l buffer t .did)) ends
-            (d3 .reads-well l buffer below long) in (
+            subst (Well (read-of l) (read g true l buffer)) ends (λ below. d3 .reads-well l buffer below long) below .as-read refl in (
               subst (λ (r : Replied). (r .reply ≡ DONE) ⊎ (r .reply ≡ UNWRITTEN)) (is e .value) replies,
               omega (arith, costs e refl, bound),
             )
 
-        writes-well : call ≡ Write-page true l buffer → Write-in-bounds g b
-        writes-well e =
+        writes-well : call ≡ Write-page true l buffer → Below-limit g (s .small) (write-of l) → Write-in-bounds g b
+        writes-well e below =
             let (replies, bound) =
-            subst (λ (t : State). Writes-well g (write g true l buffer t .value .reply) (write g true l buffer t .did)) ends
-            (d3 .writes-well l buffer below long) in (
+            subst (Well (write-of l) (write g true l buffer)) ends (λ below. d3 .writes-well l buffer below long) below .as-write refl in (
               subst (λ (r : Replied). r .reply ≡ DONE) (is e .value) replies,
               omega (arith, costs e refl, bound),
             )
@@ -172,9 +174,8 @@ module _ {F : Face} {g : Geometry} (faithful : Faithful F g) where
       abbrev Record-well : List Request → List ℕ → List ℕ → ℕ → State → RunReplied → Type 0
       Record-well requests words answers i t r =
           let q = getD requests i no-request in
-          let reply = getD (r .answers) i none in
-          let did = own g requests words answers t i .did in
-          q .page < g .L → (q .kind ≡ 0 → Reads-well g reply did) × (q .kind ≡ 1 → Writes-well g reply did)
+          Below-limit g (before-record g requests words answers t i .after .small) q
+          → Serves-well g q (getD (r .answers) i none) (own g requests words answers t i .did)
 
       run-counts : (boundary : Bool) (requests : List Request) (words answers : List ℕ) → call ≡ Run boundary requests words answers
           → b .reply ≡ DONE
@@ -188,8 +189,8 @@ module _ {F : Face} {g : Geometry} (faithful : Faithful F g) where
       serves : Demand-3-of F g now x counts b
       serves =
           record {
-            reads-well = λ l buffer e below long. reads-well l buffer below long e;
-            writes-well = λ l buffer e below long. writes-well l buffer below long e;
+            reads-well = λ l buffer e below long. reads-well l buffer long e below;
+            writes-well = λ l buffer e below long. writes-well l buffer long e below;
             checks-well = checks-well;
             runs-well = λ requests words answers e right few.
                 subst (λ (r : RunReplied). r .reply ≡ DONE) (is e .value)

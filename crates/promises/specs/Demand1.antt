@@ -1,7 +1,7 @@
 -- Demand 1, proved: each call's law (Refusals.antt), and what a run makes of its records' (Records.antt).
 use Prim.Native.Nat.{ℕ, zero, suc, _*_, _<_}
 use mathlib.Core.Path.{_≡_, refl, _∙_, ap}
-use mathlib.Core.Logic.{_≢_, _⊎_, inl, inr}
+use mathlib.Core.Logic.{_≢_, inl, inr}
 use mathlib.Core.Bool.{Bool}
 use mathlib.Core.List.{List, [], _++_}
 use native.Mathlib.Omega.{arith}
@@ -10,13 +10,14 @@ use Rattle.scope.specs.Geometry.{Geometry}
 use Rattle.scope.specs.Lent.{none, State, Request}
 use Rattle.scope.specs.Operations.{Operation, _>>=_, Outcome, Step, give}
 use Rattle.scope.specs.Replies.{DONE, UNWRITTEN}
-use Rattle.scope.specs.Requests.{format-steps, replied, read-steps}
-use Rattle.scope.specs.Calls.{RunReplied, no-request, part, serve-records, check, read, write, run}
+use Rattle.scope.specs.Requests.{format-steps}
+use Rattle.scope.specs.Calls.{read-of, write-of, RunReplied, no-request, part, serve-records, check, read, write, run}
 use Rattle.flash.specs.Cases.{below?}
 use Rattle.promises.specs.Grounds.{Ground, Refusal}
 use Rattle.promises.specs.Refused.{own, own-operations, Unchanged, Demand-1, Demand-1-record, before-record}
+use Rattle.promises.specs.Serve.{serve-hands-back}
 use Rattle.promises.specs.Tests.{By-grounds}
-use Rattle.promises.specs.Refusals.{run-reply, read-reply, write-reply, record-by-grounds, format-by-grounds, check-by-grounds, read-by-grounds, write-by-grounds, run-by-grounds}
+use Rattle.promises.specs.Refusals.{run-reply, record-by-grounds, format-by-grounds, check-by-grounds, read-by-grounds, write-by-grounds, run-by-grounds}
 use Rattle.promises.specs.Records.{answer-of, record-stores, final-answer, own-keeps, kept-words}
 
 module _ {A : Type 0} {rows : List Ground} {reply : A → ℕ} {refused : ℕ → A} {steps : Step A} {s : State} {o : Outcome A}
@@ -39,13 +40,7 @@ module _ (g : Geometry) (boundary : Bool) (l : ℕ) (buffer : List ℕ) (s : Sta
       let t = read-by-grounds g boundary l buffer s in
       below? UNWRITTEN (read g boundary l buffer s .value .reply)
       (λ k. ap (λ o. o .value .buffer) (t .refuses k))
-      (λ k. go (t .served k .1) (read-reply g l buffer s))
-    where
-      go : read g boundary l buffer s ≡ read-steps g l buffer s
-          → (read-steps g l buffer s .value .reply ≡ DONE) ⊎ (read-steps g l buffer s .value ≡ replied buffer UNWRITTEN)
-          → read g boundary l buffer s .value .buffer ≡ buffer
-      go e (inl d) = absurd (h (ap (λ o. o .value .reply) e ∙ d))
-      go e (inr u) = ap (λ o. o .value .buffer) e ∙ ap (λ r. r .buffer) u
+      (λ k. rw (t .served k .1) (serve-hands-back g (read-of l) buffer s .keeps (inl (rw (t .served k .1) at h))))
 
   write-keeps : write g boundary l buffer s .value .buffer ≡ buffer
   unfolding give
@@ -53,7 +48,7 @@ module _ (g : Geometry) (boundary : Bool) (l : ℕ) (buffer : List ℕ) (s : Sta
       let t = write-by-grounds g boundary l buffer s in
       below? UNWRITTEN (write g boundary l buffer s .value .reply)
       (λ k. ap (λ o. o .value .buffer) (t .refuses k))
-      (λ k. ap (λ o. o .value .buffer) (t .served k .1) ∙ ap (λ r. r .buffer) (write-reply g l buffer s))
+      (λ k. rw (t .served k .1) (serve-hands-back g (write-of l) buffer s .keeps (inr (omega arith))))
 
 -- ---- runs
 
@@ -158,7 +153,7 @@ module _ (g : Geometry) (s : State) where
         format-done = λ boundary. replies (format-by-grounds g boundary s) DONE refl;
         check-done = λ boundary. replies (check-by-grounds g boundary s) DONE refl;
         write-done = λ boundary l buffer.
-            replies (write-by-grounds g boundary l buffer s) DONE (ap (λ r. r .reply) (write-reply g l buffer s));
+            replies (write-by-grounds g boundary l buffer s) DONE (serve-hands-back g (write-of l) buffer s .write-done refl);
         run-done = λ boundary requests words answers.
             replies (run-by-grounds g boundary requests words answers s) DONE
             (run-reply g requests (length requests) words answers s);

@@ -10,16 +10,17 @@ use lib.Dec.{eqb}
 use lib.ListN.{length, getD}
 use Rattle.scope.specs.Counting.{count}
 use Rattle.scope.specs.Geometry.{Geometry}
+use Rattle.scope.specs.SmallRecord.{SmallRecord}
 use Rattle.scope.specs.Lent.{none, valid, State, Request, most-requests, state-of, owner-of, is-valid}
 use Rattle.scope.specs.Regions.{Data, region-pages, Has-page}
 use Rattle.scope.specs.Sound.{Sound, Written, current}
 use Rattle.scope.specs.Operations.{Operation, counted}
 use Rattle.scope.specs.Replies.{DONE, UNWRITTEN}
-use Rattle.scope.specs.Calls.{state-sizes, buffer-sizes, run-sizes, part, no-request, format, read, write, run}
+use Rattle.scope.specs.Calls.{state-sizes, buffer-sizes, run-sizes, read-of, write-of, part, no-request, format, read, write, run}
 use Rattle.flash.specs.Listed.{cost, Allowed}
 use Rattle.flash.specs.Clearing.{Clears-each}
 use Rattle.promises.specs.Grounds.{Right, Refusal}
-use Rattle.promises.specs.Refused.{own}
+use Rattle.promises.specs.Refused.{before-record, own}
 use Rattle.promises.specs.Remembered.{Call, make, after-calls, history, Held, Holding, Nothing, noted-records, remembered, held}
 
 -- ---- Demand 2: what is read is what was last written
@@ -60,12 +61,22 @@ read-bound g = 2 * g .P + 3
 abbrev pub write-bound : Geometry → ℕ
 write-bound g = (2 * g .P + 1) * (g .P + 1)
 
+-- "Below the limit": what is asked of a request beside right geometry and lengths, with the small record as it is then. It is said in demand
+-- 3's own words, and not by demand 1's table of grounds: else a refusal more would narrow it without a word of it being changed.
+abbrev pub Below-limit : Geometry → SmallRecord → Request → Type 0
+Below-limit g small q = q .page < g .L
+
 -- A read, and a write, by its answer and its operations.
 abbrev pub Reads-well : Geometry → ℕ → List Operation → Type 0
 Reads-well g reply did = ((reply ≡ DONE) ⊎ (reply ≡ UNWRITTEN)) × (cost did ≤ read-bound g)
 
 abbrev pub Writes-well : Geometry → ℕ → List Operation → Type 0
 Writes-well g reply did = (reply ≡ DONE) × (cost did ≤ write-bound g)
+
+-- A request by its kind, be it a single call's or a record's.
+pub record Serves-well (g : Geometry) (q : Request) (reply : ℕ) (did : List Operation) : Type 0 where
+  pub as-read : q .kind ≡ 0 → Reads-well g reply did
+  pub as-write : q .kind ≡ 1 → Writes-well g reply did
 
 -- Format's state, whatever was lent to it: from there on the demands hold.
 pub record Formats (g : Geometry) (s : State) : Type 0 where
@@ -83,12 +94,14 @@ pub record Demand-3 (g : Geometry) (s : State) (calls : List Call) : Type 0 wher
   -- Each program of a further call is of a page that is erased at that moment, and "a change other than an erase only clears bits".
   pub allowed : (c : Call) → Allowed g (make g c (after-calls g calls s) .did) (after-calls g calls s)
   pub clears : (c : Call) → Clears-each g (make g c (after-calls g calls s) .did) (after-calls g calls s)
-  pub reads-well : (l : ℕ) (buffer : List ℕ) → l < g .L → Right (buffer-sizes g buffer) →
+  pub reads-well : (l : ℕ) (buffer : List ℕ) → Below-limit g (after-calls g calls s .small) (read-of l) →
+      Right (buffer-sizes g buffer) →
       let o = read g true l buffer (after-calls g calls s) in
-      Reads-well g (o .value .reply) (o .did)
-  pub writes-well : (l : ℕ) (buffer : List ℕ) → l < g .L → Right (buffer-sizes g buffer) →
+      Serves-well g (read-of l) (o .value .reply) (o .did)
+  pub writes-well : (l : ℕ) (buffer : List ℕ) → Below-limit g (after-calls g calls s .small) (write-of l) →
+      Right (buffer-sizes g buffer) →
       let o = write g true l buffer (after-calls g calls s) in
-      Writes-well g (o .value .reply) (o .did)
+      Serves-well g (write-of l) (o .value .reply) (o .did)
   pub runs-well : (requests : List Request) (words answers : List ℕ) →
       Right (run-sizes g requests words answers) → length requests ≤ most-requests →
       run g true requests words answers (after-calls g calls s) .value .reply ≡ DONE
@@ -98,5 +111,5 @@ pub record Demand-3 (g : Geometry) (s : State) (calls : List Call) : Type 0 wher
       let a = run g true requests words answers (after-calls g calls s) .value in
       let q = getD requests i no-request in
       let reply = getD (a .answers) i none in
-      let did = own g requests words answers (after-calls g calls s) i .did in
-      q .page < g .L → (q .kind ≡ 0 → Reads-well g reply did) × (q .kind ≡ 1 → Writes-well g reply did)
+      let now = before-record g requests words answers (after-calls g calls s) i .after .small in
+      Below-limit g now q → Serves-well g q reply (own g requests words answers (after-calls g calls s) i .did)

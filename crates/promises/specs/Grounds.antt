@@ -12,7 +12,7 @@ use Rattle.scope.specs.SmallRecord.{SmallRecord}
 use Rattle.scope.specs.Lent.{State, Request, most-requests}
 use Rattle.scope.specs.Sound.{Sound}
 use Rattle.scope.specs.Replies.{GEOMETRY, LENGTH, DAMAGED, KIND, PAGE, Size}
-use Rattle.scope.specs.Calls.{state-sizes, buffer-sizes, run-sizes}
+use Rattle.scope.specs.Calls.{state-sizes, buffer-sizes, run-sizes, kinds}
 
 -- A number that refuses: neither DONE nor UNWRITTEN.
 abbrev pub Refusal : ℕ → Type 0
@@ -72,7 +72,7 @@ state-grounds g s fits misfits = size-grounds g fits misfits ++ state-ground g s
 
 abbrev pub request-grounds : Geometry → SmallRecord → Request → List Ground
 request-grounds g small q =
-    record { number = KIND; Holds = 2 ≤ q .kind; Passes = q .kind < 2 }
+    record { number = KIND; Holds = kinds ≤ q .kind; Passes = q .kind < kinds }
     ∷ record { number = PAGE; Holds = g .L ≤ q .page; Passes = q .page < g .L }
     ∷ []
 

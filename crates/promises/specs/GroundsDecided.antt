@@ -1,23 +1,27 @@
--- Each row of the grounds is decided by its test of scope's Calls.antt, and so is each call's table.
+-- Each row of the grounds is decided by its test of scope's Calls.antt, and so is each call's table. And what it is to pass them: demand 3's
+-- "below the limit" does.
 use Prim.Native.Nat.{ℕ, _≤_, _<_}
 use mathlib.Core.Path.{_≡_, refl, sym, _∙_}
 use mathlib.Core.Logic.{_⊎_, inl, inr}
 use mathlib.Core.Bool.{Bool, true, false, not, _&&_}
 use mathlib.Core.List.{List, [], _∷_, _++_}
+use native.Mathlib.Omega.{arith}
 use lib.Dec.{eqb, leb}
 use lib.ListN.{length}
 use borrow.Author.Tests.{leb-false, lt-leb, not-true}
 use Rattle.flash.specs.Cases.{clash, not-of-false, twice-not}
-use Rattle.scope.specs.Geometry.{Geometry, accepted}
+use Rattle.scope.specs.Geometry.{Geometry, Accepted, accepted}
 use Rattle.scope.specs.SmallRecord.{SmallRecord}
 use Rattle.scope.specs.Lent.{State, Request, most-requests}
+use Rattle.scope.specs.Sound.{Sound}
 use Rattle.scope.specs.Decisions.{sound}
-use Rattle.scope.specs.Replies.{GEOMETRY, LENGTH, DAMAGED, KIND, PAGE, Size, right-sizes}
-use Rattle.scope.specs.Calls.{state-sizes, buffer-sizes, run-sizes}
+use Rattle.scope.specs.Replies.{DONE, UNWRITTEN, GEOMETRY, LENGTH, DAMAGED, KIND, PAGE, Size, first-applying, right-sizes}
+use Rattle.scope.specs.Calls.{state-sizes, buffer-sizes, run-sizes, kinds, request-tests, read-of}
 use Rattle.scope.specs.Laws.Decides.{Decides, by-equal, by-and, by-not, by-most, by-itself}
 use Rattle.scope.specs.Laws.Decided.{accepted-decided, sound-decided}
 use Rattle.promises.specs.Grounds.{Right, Wrong, Fits, Misfits, size-grounds, state-ground, state-grounds, request-grounds, format-grounds, check-grounds, single-grounds, run-grounds}
-use Rattle.promises.specs.Tests.{Decided, All-decided, decided-then}
+use Rattle.promises.specs.Tests.{Decided, All-decided, decided-then, All-passed, done-exactly}
+use Rattle.promises.specs.Demands.{Below-limit}
 
 -- ---- the lengths, as propositions
 
@@ -83,7 +87,7 @@ state-decided g s b {fits} {misfits} d e =
     (given-unless DAMAGED (sound g s) (sound-decided g s) (by-not (sound-decided g s)), tt)
 
 abbrev pub request-decided : (g : Geometry) (small : SmallRecord) (q : Request) → All-decided (request-grounds g small q)
-request-decided g small q = (given-from KIND 2 (q .kind), (given-from PAGE (g .L) (q .page), tt))
+request-decided g small q = (given-from KIND kinds (q .kind), (given-from PAGE (g .L) (q .page), tt))
 
 -- ---- the table of each call
 
@@ -120,3 +124,39 @@ run-decided g boundary requests words answers s =
     (by-and (by-and (right-decided sizes) (by-most (length requests) most-requests)) (by-itself boundary))
     (by-either (right-sizes sizes && few) boundary
     (by-either (right-sizes sizes) few (wrong-decided sizes) (above-decided (length requests) most-requests)) (by-false boundary))
+
+-- ---- what it is to pass a table
+
+module _ (g : Geometry) (small : SmallRecord) where
+  -- What is asked of a read below the limit is its page.
+  pub read-below : (l : ℕ) → l < g .L → Below-limit g small (read-of l)
+  read-below l h = h
+
+  pub page-below : (q : Request) → Below-limit g small q → q .page < g .L
+  page-below q h = h
+
+module _ (g : Geometry) (small : SmallRecord) (q : Request) where
+  -- A request below the limit is refused for its kind alone.
+  pub below-passes : q .kind < kinds → Below-limit g small q → All-passed (request-grounds g small q)
+  below-passes kind below = (kind, (below, tt))
+
+  pub tests-passed : first-applying (request-tests g small q) ≡ DONE → All-passed (request-grounds g small q)
+  tests-passed = done-exactly UNWRITTEN (request-grounds g small q) (request-decided g small q) (omega arith) .0
+
+  pub kind-passed : All-passed (request-grounds g small q) → q .kind < kinds
+  kind-passed h = h .0
+
+  pub page-passed : All-passed (request-grounds g small q) → q .page < g .L
+  page-passed h = h .1 .0
+
+module _ (g : Geometry) (q : Request) (buffer : List ℕ) (s : State) where
+  pub single-passes : Accepted g → Right (state-sizes g s ++ buffer-sizes g buffer) → Sound g s
+      → All-passed (request-grounds g (s .small) q) → All-passed (single-grounds g true q buffer s)
+  single-passes ok right sound h = (ok, ((right, refl), (sound, h)))
+
+  module _ {boundary : Bool} (h : All-passed (single-grounds g boundary q buffer s)) where
+    pub buffer-passed : length buffer ≡ g .W
+    buffer-passed = h .1 .0 .0 .1 .1 .1 .1 .0
+
+    pub own-passed : All-passed (request-grounds g (s .small) q)
+    own-passed = h .1 .1 .1

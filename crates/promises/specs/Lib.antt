@@ -3,12 +3,6 @@ pub mod Grounds
 pub mod Refused
 pub mod Remembered
 pub mod Demands
--- Demand 1.
-pub mod Tests
-pub mod GroundsDecided
-pub mod Refusals
-pub mod Records
-pub mod Demand1
 -- The steps.
 pub mod Index
 pub mod Stored
@@ -21,7 +15,14 @@ pub mod Translate
 pub mod HeldWords
 pub mod Read
 pub mod Write
+pub mod Serve
 pub mod Formatted
+-- Demand 1.
+pub mod Tests
+pub mod GroundsDecided
+pub mod Refusals
+pub mod Records
+pub mod Demand1
 -- Demands 2 and 3.
 pub mod OneForEach
 pub mod Standing

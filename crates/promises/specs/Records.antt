@@ -2,27 +2,23 @@
 -- words as it left them. So what a run hands back is what its records answered.
 use Prim.Native.Nat.{ℕ, zero, suc, _+_, _*_, _≤_, _<_}
 use mathlib.Core.Path.{_≡_, refl, _∙_, ap}
-use mathlib.Core.Logic.{_≢_, _⊎_, inl, inr}
-use mathlib.Core.Bool.{true, false}
+use mathlib.Core.Logic.{_≢_, _⊎_}
 use mathlib.Core.List.{List, [], _++_, append-assoc}
 use native.Mathlib.Omega.{arith}
-use lib.Dec.{eqb}
 use lib.ListN.{length, getD, take, drop, set, length-take, length-set, drop-of-length-le}
 use lib.Seq.{sets, sets-eq, set-getD, length-sets, length-take-le, drop-cons, take-at, drop-at, getD-set-same, getD-set-other}
-use borrow.Author.Tests.{eqb-true}
 use Rattle.scope.specs.Geometry.{Geometry}
-use Rattle.scope.specs.Lent.{none, Entry, Place, Nowhere, decode, State, Request, physical-at}
-use Rattle.scope.specs.Operations.{Outcome, give, look, _>>=_}
-use Rattle.scope.specs.Room.{read-page}
-use Rattle.scope.specs.Steps.{translate}
+use Rattle.scope.specs.Lent.{none, State, Request}
+use Rattle.scope.specs.Operations.{Outcome, give, _>>=_}
 use Rattle.scope.specs.Replies.{DONE, UNWRITTEN}
-use Rattle.scope.specs.Requests.{Replied, replied, read-place, read-steps}
-use Rattle.scope.specs.Calls.{RunReplied, part, no-request, serve, answer-record, serve-record, serve-records}
-use Rattle.flash.specs.Cases.{on, last, below?}
+use Rattle.scope.specs.Requests.{Replied}
+use Rattle.scope.specs.Calls.{RunReplied, part, no-request, answer-record, serve-record, serve-records}
+use Rattle.flash.specs.Cases.{last, below?}
 use Rattle.flash.specs.Stores.{getD-sets-outside, slot-same}
 use Rattle.flash.specs.Words.{words-same}
 use Rattle.promises.specs.Refused.{before-record, own}
-use Rattle.promises.specs.Refusals.{read-reply, write-reply, record-by-grounds}
+use Rattle.promises.specs.Serve.{serve-hands-back}
+use Rattle.promises.specs.Refusals.{record-by-grounds}
 
 -- ---- one record
 
@@ -48,22 +44,6 @@ record-stores g i q lent s = record { words = refl; answers = refl; state = refl
 part-at-most : (g : Geometry) (i : ℕ) (words : List ℕ) → length (part g i words) ≤ g .W
 part-at-most g i words = simp length-take (omega arith)
 
-place-at-most : (g : Geometry) (buffer : List ℕ) (e : Entry) (s : State) → length buffer ≤ g .W
-    → length (read-place g buffer e s .value .buffer) ≤ g .W
-unfolding read-place read-page give look _>>=_
-place-at-most g buffer (Place p) s h = simp length-take (omega arith)
-place-at-most g buffer Nowhere s h = h
-
-serve-at-most : (g : Geometry) (q : Request) (buffer : List ℕ) (s : State) → length buffer ≤ g .W
-    → length (serve g q buffer s .value .buffer) ≤ g .W
-unfolding serve read-steps look _>>=_
-serve-at-most g q buffer s h =
-    on (eqb (q .kind) 0)
-    (λ e. rw e (
-    let t = translate g (q .page) s in
-    place-at-most g buffer (decode (physical-at (t .value) (t .after .cache))) (t .after) h))
-    (λ e. rw (e, write-reply g (q .page) buffer s) h)
-
 answer-at-most : (g : Geometry) (q : Request) (buffer : List ℕ) (s : State) → length buffer ≤ g .W
     → length (answer-record g q buffer s .value .buffer) ≤ g .W
 unfolding give
@@ -71,37 +51,16 @@ answer-at-most g q buffer s k =
     let t = record-by-grounds g q buffer s in
     below? UNWRITTEN (answer-record g q buffer s .value .reply)
     (λ h. rw (t .refuses h) k)
-    (λ h. rw (t .served h .1) (serve-at-most g q buffer s k))
+    (λ h. rw (t .served h .1) (serve-hands-back g q buffer s .at-most k))
 
--- "The words of an UNWRITTEN or refused read stay", and so do a write's.
 answer-keeps : (g : Geometry) (q : Request) (buffer : List ℕ) (s : State)
     → (answer-record g q buffer s .value .reply ≢ DONE) ⊎ (q .kind ≢ 0) → answer-record g q buffer s .value .buffer ≡ buffer
-unfolding serve give
+unfolding give
 answer-keeps g q buffer s h =
     let t = record-by-grounds g q buffer s in
-    below? UNWRITTEN (o .value .reply)
+    below? UNWRITTEN (answer-record g q buffer s .value .reply)
     (λ k. ap (λ o. o .value .buffer) (t .refuses k))
-    (λ k. on (eqb (q .kind) 0) (λ e. reads e (t .served k .1)) (λ e. writes e (t .served k .1)))
-  where
-    o : Outcome Replied
-    o = answer-record g q buffer s
-
-    writes : eqb (q .kind) 0 ≡ false → o ≡ serve g q buffer s → o .value .buffer ≡ buffer
-    writes e is = rw (is, e) (ap (λ r. r .buffer) (write-reply g (q .page) buffer s))
-
-    reads : eqb (q .kind) 0 ≡ true → o ≡ serve g q buffer s → o .value .buffer ≡ buffer
-    reads e is = go h (read-reply g (q .page) buffer s)
-      where
-        served : o ≡ read-steps g (q .page) buffer s
-        served = rw e at is
-
-        go : (o .value .reply ≢ DONE) ⊎ (q .kind ≢ 0)
-            → (read-steps g (q .page) buffer s .value .reply ≡ DONE) ⊎
-            (read-steps g (q .page) buffer s .value ≡ replied buffer UNWRITTEN)
-            → o .value .buffer ≡ buffer
-        go (inr n) _ = absurd (n (eqb-true (q .kind) 0 e))
-        go (inl n) (inl d) = absurd (n (ap (λ o. o .value .reply) served ∙ d))
-        go (inl n) (inr u) = ap (λ o. o .value .buffer) served ∙ ap (λ r. r .buffer) u
+    (λ k. rw (t .served k .1) (serve-hands-back g q buffer s .keeps (rw (t .served k .1) at h)))
 
 -- ---- parts of the data buffer
 

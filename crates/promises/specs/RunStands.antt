@@ -1,56 +1,53 @@
 -- A run keeps the store: its records one after the other, each by its own answer.
 use Prim.Native.Nat.{ℕ, zero, suc, _*_, _≤_, _<_}
 use mathlib.Core.Path.{_≡_, sym, _∙_, ap, subst}
-use mathlib.Core.Logic.{_≢_, _⊎_, inl, inr}
+use mathlib.Core.Logic.{_≢_}
 use mathlib.Core.Bool.{Bool, cond}
 use mathlib.Core.List.{List, append-nil}
 use native.Mathlib.Omega.{arith}
 use native.Mathlib.Nat.{mul-le-mul-right}
 use lib.Dec.{eqb}
 use lib.ListN.{length, getD, length-take, length-drop}
-use borrow.Author.Tests.{eqb-true, eqb-false, eq-eqb, ne-eqb}
+use borrow.Author.Tests.{eq-eqb, ne-eqb}
 use Rattle.scope.specs.Geometry.{Geometry, Accepted}
 use Rattle.scope.specs.Lent.{none, State, Request}
 use Rattle.scope.specs.Operations.{Outcome, give, _>>=_}
 use Rattle.scope.specs.Replies.{DONE, UNWRITTEN}
-use Rattle.scope.specs.Requests.{Replied, read-steps, write-steps}
-use Rattle.scope.specs.Calls.{RunReplied, run-replied, part, no-request, serve, answer-record, serve-records, run}
+use Rattle.scope.specs.Requests.{Replied}
+use Rattle.scope.specs.Calls.{kinds, RunReplied, run-replied, part, no-request, serve, answer-record, serve-records, run}
 use Rattle.scope.specs.Laws.Applied.{flash-refl}
 use Rattle.flash.specs.Cases.{on, below?}
-use Rattle.flash.specs.Listed.{cost}
+use Rattle.flash.specs.Listed.{cost, cost-none}
 use Rattle.region.specs.Done.{done-none, done-then}
 use Rattle.promises.specs.Refused.{before-record}
 use Rattle.promises.specs.Grounds.{request-grounds}
-use Rattle.promises.specs.Remembered.{Store, with-words, noted-record, noted-records}
-use Rattle.promises.specs.Demands.{Tells, Writes-well, read-bound}
+use Rattle.promises.specs.Remembered.{Store, noted-record, noted-records}
+use Rattle.promises.specs.Demands.{Tells, Below-limit, Serves-well, write-bound}
+use Rattle.promises.specs.Serve.{serve-hands-back, no-kind-well}
 use Rattle.promises.specs.Tests.{All-passed}
-use Rattle.promises.specs.Refusals.{write-reply, serve-within, run-reply, record-by-grounds, run-by-grounds, kind-passed, page-passed}
+use Rattle.promises.specs.GroundsDecided.{below-passes}
+use Rattle.promises.specs.Refusals.{run-reply, record-by-grounds, run-by-grounds}
 use Rattle.promises.specs.Demand1.{run-is-records, run-fits, record-answer}
 use Rattle.promises.specs.Records.{answer-of, record-stores, words-before, length-words}
-use Rattle.promises.specs.Write.{write-law}
-use Rattle.promises.specs.Standing.{Standing, Leaves, refusal-leaves, reads, read-stands, read-tells, write-stands}
+use Rattle.promises.specs.Standing.{Standing, Leaves, refusal-leaves, serves, serve-leaves, serve-tells}
 
--- What a record's answer does to the store: nothing, but for a write that answered DONE.
-not-noted : (q : Request) (words : List ℕ) (reply : ℕ) (store : Store) → (reply ≢ DONE) ⊎ (q .kind ≢ 1)
-    → noted-record q words reply store ≡ store
-not-noted q words reply store (inl e) = on (eqb (q .kind) 1) (λ k. rw (k, ne-eqb reply DONE e)) (λ k. rw k)
-not-noted q words reply store (inr e) = rw (ne-eqb (q .kind) 1 e)
-
-is-noted : (q : Request) (words : List ℕ) (reply : ℕ) (store : Store) → q .kind ≡ 1 → reply ≡ DONE
-    → noted-record q words reply store ≡ with-words (q .page) words store
-is-noted q words reply store k e = rw (eq-eqb (q .kind) 1 k, eq-eqb reply DONE e)
-
--- What is said of a record's answer, whether it was refused, a read or a write.
+-- What is said of a record's answer, whether it was refused or served.
 pub record Record-stands (g : Geometry) (q : Request) (buffer : List ℕ) (s : State) (store : Store) : Type 0 where
   pub leaves :
       let o = answer-record g q buffer s in
       Leaves g s o (noted-record q buffer (o .value .reply) store)
+  pub costs : cost (answer-record g q buffer s .did) ≤ write-bound g
   pub tells : All-passed (request-grounds g (s .small) q) → q .kind ≡ 0 →
       let o = answer-record g q buffer s in
-      Tells (store (q .page)) (o .value .reply) (o .value .buffer) × (cost (o .did) ≤ read-bound g)
-  pub writes : All-passed (request-grounds g (s .small) q) → q .kind ≡ 1 →
+      Tells (store (q .page)) (o .value .reply) (o .value .buffer)
+  pub well : Below-limit g (s .small) q →
       let o = answer-record g q buffer s in
-      Writes-well g (o .value .reply) (o .did)
+      Serves-well g q (o .value .reply) (o .did)
+
+-- A refusal is not noted.
+refusal-not-noted : (q : Request) (words : List ℕ) (reply : ℕ) (store : Store) → reply ≢ DONE
+    → noted-record q words reply store ≡ store
+refusal-not-noted q words reply store e = on (eqb (q .kind) 1) (λ k. rw (k, ne-eqb reply DONE e)) (λ k. rw k)
 
 module _ {g : Geometry} (ok : Accepted g) where
   -- ---- one record
@@ -65,10 +62,13 @@ module _ {g : Geometry} (ok : Accepted g) where
     by-refusal h =
         let t = record-by-grounds g q buffer s in
         record {
-          leaves = rw (not-noted q buffer (o .value .reply) store (inl (omega arith)), t .refuses h)
+          leaves = rw (refusal-not-noted q buffer (o .value .reply) store (omega arith), t .refuses h)
               (record { stands = stands; done = done-none g flash-refl });
+          costs = rw (t .refuses h) (omega (arith, cost-none));
           tells = λ passed _. absurd (admitted passed);
-          writes = λ passed _. absurd (admitted passed);
+          well = λ below. below? (q .kind) kinds
+              (λ kind. absurd (admitted (below-passes g (s .small) q kind below)))
+              (no-kind-well g q (o .value .reply) (o .did));
         }
       where
         admitted : All-passed (request-grounds g (s .small) q) → ⊥
@@ -77,44 +77,22 @@ module _ {g : Geometry} (ok : Accepted g) where
               arith,
               h,
               ap (λ (a : Outcome Replied). a .value .reply) (record-by-grounds g q buffer s .serves passed),
-              serve-within g q buffer s,
+              serve-hands-back g q buffer s .within,
             )
 
-    by-read : q .page < g .L → q .kind ≡ 0 → o ≡ read-steps g (q .page) buffer s → Record-stands g q buffer s store
-    by-read below kind e =
+    by-serving : All-passed (request-grounds g (s .small) q) → o ≡ serve g q buffer s → Record-stands g q buffer s store
+    by-serving passed e =
         record {
-          leaves = rw (not-noted q buffer (o .value .reply) store (inr (omega arith)), e)
-              (record {
-                stands = read-stands ok stands (q .page) buffer below;
-                done = reads ok stands (q .page) buffer below .kept .done;
-              });
-          tells = λ _ _. rw e (read-tells ok stands (q .page) buffer below, reads ok stands (q .page) buffer below .kept .costs);
-          writes = λ _ k. absurd (omega arith);
+          leaves = rw e (serve-leaves ok q buffer stands passed long);
+          costs = rw e (serves ok q buffer stands passed long .costs);
+          tells = λ _ kind. rw e (serve-tells ok q buffer stands passed long kind);
+          well = λ _. rw e (serves ok q buffer stands passed long .well);
         }
 
-    by-write : q .page < g .L → q .kind ≡ 1 → o ≡ write-steps g (q .page) buffer s → Record-stands g q buffer s store
-    by-write below kind e =
-        let w = write-law ok (q .page) buffer s (stands .lengths) (stands .sound) below long in
-        let is-done : o .value .reply ≡ DONE = ap (λ (a : Outcome Replied). a .value .reply) e
-        ∙ ap (λ r. r .reply) (write-reply g (q .page) buffer s) in
-        record {
-          leaves = rw (is-noted q buffer (o .value .reply) store kind is-done, e)
-              (record { stands = write-stands ok stands (q .page) buffer below long; done = w .done });
-          tells = λ _ k. absurd (omega arith);
-          writes = λ _ _. (is-done, rw e (w .costs));
-        }
-
-    record-stands : Record-stands g q buffer s store
-    unfolding serve
+    pub record-stands : Record-stands g q buffer s store
     record-stands =
         let t = record-by-grounds g q buffer s in
-        below? UNWRITTEN (o .value .reply) by-refusal
-        (λ h.
-        let below = page-passed g (s .small) q (t .served h .0) in
-        let kind = kind-passed g (s .small) q (t .served h .0) in
-        on (eqb (q .kind) 0)
-        (λ e. by-read below (eqb-true (q .kind) 0 e) (rw e at t .served h .1))
-        (λ e. by-write below (omega (arith, eqb-false (q .kind) 0 e)) (rw e at t .served h .1)))
+        below? UNWRITTEN (o .value .reply) by-refusal (λ h. by-serving (t .served h .0) (t .served h .1))
 
   -- ---- the records of a run
 

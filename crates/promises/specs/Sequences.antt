@@ -3,7 +3,7 @@ use Prim.Native.Nat.{ℕ, _*_, _≤_, _<_}
 use mathlib.Core.Path.{_≡_, refl, sym, _∙_, ap}
 use mathlib.Core.Logic.{inl, inr, ⊎-elim}
 use mathlib.Core.Bool.{Bool, true}
-use mathlib.Core.List.{List, [], _∷_, _++_, append-nil}
+use mathlib.Core.List.{List, [], _∷_, append-nil}
 use native.Mathlib.Omega.{arith}
 use native.Mathlib.Nat.{mul-le-mul-right}
 use lib.ListN.{length, getD}
@@ -20,16 +20,16 @@ use Rattle.flash.specs.Clearing.{allowed-clears-each}
 use Rattle.promises.specs.Grounds.{Right, right-both, Refusal, request-grounds, single-grounds}
 use Rattle.promises.specs.Refused.{own, before-record}
 use Rattle.promises.specs.Remembered.{Call, Format, Check, Read-page, Write-page, Run, make, after-calls, history, remembered, noted, noted-records, Holding, Store, held}
-use Rattle.promises.specs.Demands.{Tells, Reads-well, Writes-well, Demand-2, Demand-3, Formats}
+use Rattle.promises.specs.Demands.{Tells, Below-limit, Serves-well, Demand-2, Demand-3, Formats}
 use Rattle.promises.specs.Tests.{All-passed}
-use Rattle.promises.specs.Refusals.{format-by-grounds, record-by-grounds, read-by-grounds, write-by-grounds, run-by-grounds, run-reply, write-reply, request-passes, page-passed, single-passes, own-passed}
+use Rattle.promises.specs.GroundsDecided.{below-passes, page-passed, single-passes, buffer-passed, own-passed}
+use Rattle.promises.specs.Refusals.{format-by-grounds, record-by-grounds, read-by-grounds, write-by-grounds, run-by-grounds, run-reply}
 use Rattle.promises.specs.Records.{answer-of, record-stores, final-words, part-here, length-words}
 use Rattle.promises.specs.Demand1.{run-is-records, run-fits, record-answer}
 use Rattle.promises.specs.OneForEach.{one-for-each}
-use Rattle.promises.specs.Standing.{format-stands, Standing, Leaves, lengths-right, right-lengths, reads, read-tells, format-leaves, check-leaves, read-leaves, write-leaves}
+use Rattle.promises.specs.Standing.{format-stands, Standing, Leaves, lengths-right, right-lengths, serves, serve-tells, format-leaves, check-leaves, read-leaves, write-leaves}
 use Rattle.promises.specs.Formatted.{format-counts}
 use Rattle.promises.specs.HeldWords.{held-long}
-use Rattle.promises.specs.Write.{write-law}
 use Rattle.promises.specs.RunStands.{Record-stands, records-leave, answers-at, run-leaves}
 
 module _ {g : Geometry} (ok : Accepted g) where
@@ -59,27 +59,29 @@ module _ {g : Geometry} (ok : Accepted g) where
         let t = read-by-grounds g boundary l buffer s in
         below? UNWRITTEN (read g boundary l buffer s .value .reply)
         (λ h. absurd (n h))
-        (λ h. rw (t .served h .1)
-        (read-tells ok stands l buffer (page-passed g (s .small) (read-of l) (own-passed g (read-of l) buffer s (t .served h .0)))))
+        (λ h.
+        let passed = t .served h .0 in
+        rw (t .served h .1)
+        (serve-tells ok (read-of l) buffer stands (own-passed g (read-of l) buffer s passed) (buffer-passed g (read-of l) buffer s passed)
+        refl))
 
-    module _ (l : ℕ) (buffer : List ℕ) (below : l < g .L) (long : length buffer ≡ g .W) where
-      admits : (q : Request) → q .kind < 2 → q .page < g .L → All-passed (single-grounds g true q buffer s)
-      admits q kind below =
+    module _ (l : ℕ) (buffer : List ℕ) (long : length buffer ≡ g .W) where
+      admits : (q : Request) → All-passed (request-grounds g (s .small) q) → All-passed (single-grounds g true q buffer s)
+      admits q passed =
           single-passes g q buffer s ok (right-both (state-sizes g s) (buffer-sizes g buffer) (lengths-right g s (stands .lengths)) (long, tt))
-          (stands .sound) (request-passes g (s .small) q kind below)
+          (stands .sound) passed
 
-      read-well : let o = read g true l buffer s in Reads-well g (o .value .reply) (o .did)
-      read-well =
-          let e = read-by-grounds g true l buffer s .serves (admits (read-of l) (omega arith) below) in
-          rw e (
-            ⊎-elim (λ d. inl (d .0)) (λ d. inr (d .0)) (read-tells ok stands l buffer below),
-            reads ok stands l buffer below .kept .costs,
-          )
+      read-well : Below-limit g (s .small) (read-of l) →
+          let o = read g true l buffer s in Serves-well g (read-of l) (o .value .reply) (o .did)
+      read-well below =
+          let passed = below-passes g (s .small) (read-of l) (omega arith) below in
+          rw (read-by-grounds g true l buffer s .serves (admits (read-of l) passed)) (serves ok (read-of l) buffer stands passed long .well)
 
-      write-well : let o = write g true l buffer s in Writes-well g (o .value .reply) (o .did)
-      write-well =
-          let e = write-by-grounds g true l buffer s .serves (admits (write-of l) (omega arith) below) in
-          rw (e, write-reply g l buffer s) (refl, write-law ok l buffer s (stands .lengths) (stands .sound) below long .costs)
+      write-well : Below-limit g (s .small) (write-of l) →
+          let o = write g true l buffer s in Serves-well g (write-of l) (o .value .reply) (o .did)
+      write-well below =
+          let passed = below-passes g (s .small) (write-of l) (omega arith) below in
+          rw (write-by-grounds g true l buffer s .serves (admits (write-of l) passed)) (serves ok (write-of l) buffer stands passed long .well)
 
     -- ---- a further run
 
@@ -147,7 +149,7 @@ module _ {g : Geometry} (ok : Accepted g) where
           (q .page) below (a .value .buffer) (sym (stands-here .holds (q .page) below) ∙ d .1) in
           inl (reply-is ∙ d .0, d .1 ∙ ap Holding (sym (part-is long))))
           (λ d. inr (reply-is ∙ d .0, d .1))
-          (answers-here .tells passed kind .0)
+          (answers-here .tells passed kind)
 
       -- A record's own operations are its answer's.
       own-did : own g requests words answers s i .did ≡ a .did
@@ -155,17 +157,8 @@ module _ {g : Geometry} (ok : Accepted g) where
           let before = before-record g requests words answers s i in
           record-stores g i q (before .value) (before .after) .operations ∙ append-nil (a .did)
 
-      record-well : q .page < g .L →
-          let reply = getD replies i none in
-          let did = own g requests words answers s i .did in
-          (q .kind ≡ 0 → Reads-well g reply did) × (q .kind ≡ 1 → Writes-well g reply did)
-      record-well below =
-          rw (reply-is, own-did) (
-            λ kind.
-                let (tells, costs) = answers-here .tells (request-passes g small q (omega arith) below) kind in
-                (⊎-elim (λ d. inl (d .0)) (λ d. inr (d .0)) tells, costs),
-            λ kind. answers-here .writes (request-passes g small q (omega arith) below) kind,
-          )
+      record-well : Below-limit g small q → Serves-well g q (getD replies i none) (own g requests words answers s i .did)
+      record-well below = rw (reply-is, own-did) (answers-here .well below)
 
     run-well : (requests : List Request) (words answers : List ℕ) → Right (run-sizes g requests words answers)
         → length requests ≤ most-requests
@@ -203,8 +196,8 @@ module _ {g : Geometry} (ok : Accepted g) where
           allowed = λ c. call-leaves stands-now c .done .allowed;
           clears = λ c. allowed-clears-each g (make g c now .did) now (stands-now .lengths)
               (call-leaves stands-now c .done .allowed);
-          reads-well = λ l buffer below long. read-well stands-now l buffer below (long .0);
-          writes-well = λ l buffer below long. write-well stands-now l buffer below (long .0);
+          reads-well = λ l buffer below long. read-well stands-now l buffer (long .0) below;
+          writes-well = λ l buffer below long. write-well stands-now l buffer (long .0) below;
           runs-well = run-well stands-now;
           records-well = λ requests words answers i right few h.
               record-well stands-now true requests words answers (run-well stands-now requests words answers right few) i h;

@@ -1,35 +1,34 @@
 -- A store stands by a state: the state is sound, its lists are long enough, and each logical page holds what the store says. Every
 -- request and every call keeps that, with the store that its answer tells of.
 use Prim.Native.Nat.{ℕ, _<_}
-use mathlib.Core.Path.{_≡_, sym, _∙_, ap, subst}
+use mathlib.Core.Path.{_≡_, refl, sym, _∙_, ap, subst}
 use mathlib.Core.Logic.{_≢_}
-use mathlib.Core.Bool.{Bool, cond}
+use mathlib.Core.Bool.{Bool, cond, _&&_}
 use mathlib.Core.List.{List}
 use native.Mathlib.Omega.{arith}
 use lib.Dec.{eqb}
 use lib.ListN.{length}
-use borrow.Author.Tests.{eq-eqb, ne-eqb}
+use borrow.Author.Tests.{ne-eqb}
 use Rattle.scope.specs.Geometry.{Geometry, Accepted}
-use Rattle.scope.specs.Lent.{decode, State}
+use Rattle.scope.specs.Lent.{decode, State, Request}
 use Rattle.scope.specs.Operations.{Outcome, give, _>>=_}
 use Rattle.scope.specs.Replies.{DONE, UNWRITTEN}
-use Rattle.scope.specs.Requests.{replied, read-steps, write-steps, format-steps}
-use Rattle.scope.specs.Calls.{state-sizes, read-of, write-of, format, check, read, write}
+use Rattle.scope.specs.Requests.{replied, format-steps}
+use Rattle.scope.specs.Calls.{state-sizes, read-of, write-of, serve, format, check, read, write}
 use Rattle.scope.specs.Sound.{Sound}
-use Rattle.flash.specs.Cases.{same?, below?}
+use Rattle.flash.specs.Cases.{on, below?}
 use Rattle.flash.specs.Words.{Lengths}
 use Rattle.scope.specs.Laws.Applied.{flash-refl}
 use Rattle.scope.specs.Laws.AppliedSteps.{format-steps-applied}
 use Rattle.region.specs.Done.{Done, done-none}
-use Rattle.promises.specs.Grounds.{Right}
-use Rattle.promises.specs.Remembered.{Nothing, Store, with-words, words-at, held}
+use Rattle.promises.specs.Grounds.{Right, request-grounds}
+use Rattle.promises.specs.Remembered.{Nothing, Store, with-words, noted-record, words-at, held}
 use Rattle.promises.specs.Demands.{Tells}
-use Rattle.promises.specs.Refusals.{format-by-grounds, check-by-grounds, read-by-grounds, write-by-grounds, write-reply, page-passed, buffer-passed, own-passed}
+use Rattle.promises.specs.Tests.{All-passed}
+use Rattle.promises.specs.GroundsDecided.{kind-passed, page-passed, buffer-passed, own-passed}
+use Rattle.promises.specs.Refusals.{format-by-grounds, check-by-grounds, read-by-grounds, write-by-grounds}
+use Rattle.promises.specs.Serve.{Serves, serve-law}
 use Rattle.promises.specs.Formatted.{format-sound, format-lengths, format-allowed, unwritten}
-use Rattle.promises.specs.Keeping.{kept-contents}
-use Rattle.promises.specs.HeldWords.{held-same}
-use Rattle.promises.specs.Read.{Reads, read-law}
-use Rattle.promises.specs.Write.{write-law}
 
 pub record Standing (g : Geometry) (s : State) (store : Store) : Type 0 where
   pub sound : Sound g s
@@ -48,44 +47,40 @@ right-lengths g s r = record { chip-fits = r .0; spare-fits = r .1 .0; directory
 pub lengths-right : (g : Geometry) (s : State) → Lengths g s → Right (state-sizes g s)
 lengths-right g s len = (len .chip-fits, (len .spare-fits, (len .directory-fits, (len .cache-fits, tt))))
 
+-- A page's words, once an answer is noted, are those of a store that says the same of it.
+noted-same : (q : Request) (words : List ℕ) (reply : ℕ) (store store′ : Store) (l : ℕ) → store l ≡ store′ l
+    → noted-record q words reply store l ≡ noted-record q words reply store′ l
+noted-same q words reply store store′ l e =
+    on (eqb (q .kind) 1 && eqb reply DONE)
+    (λ noted. rw noted (on (eqb l (q .page)) (λ k. rw k refl) (λ k. rw k e)))
+    (λ noted. rw noted e)
+
 module _ {g : Geometry} (ok : Accepted g) where
   -- ---- the requests' steps
 
-  module _ {s : State} {store : Store} (stands : Standing g s store) (l : ℕ) (buffer : List ℕ) (below : l < g .L) where
-    pub reads : Reads g l s (read-steps g l buffer s)
-    reads = read-law ok l buffer s (stands .lengths) (stands .sound) below
+  module _ (q : Request) (buffer : List ℕ) {s : State} {store : Store} (stands : Standing g s store)
+      (passed : All-passed (request-grounds g (s .small) q)) (long : length buffer ≡ g .W) where
+    pub serves : Serves g q buffer s (serve g q buffer s)
+    serves = serve-law ok q buffer s (stands .lengths) (stands .sound) (page-passed g (s .small) q passed)
+        (kind-passed g (s .small) q passed) long
 
-    -- A read leaves the store.
-    pub read-stands : Standing g (read-steps g l buffer s .after) store
-    read-stands =
-        let kept = reads .kept in
+    -- They leave the store as their answer is noted in it.
+    pub serve-leaves : Leaves g s (serve g q buffer s) (noted-record q buffer (serve g q buffer s .value .reply) store)
+    serve-leaves =
         record {
-          sound = kept .sound;
-          lengths = kept .lengths;
-          holds = λ k h. stands .holds k h
-              ∙ sym (held-same ok s (read-steps g l buffer s .after) (stands .lengths) (kept .lengths) (stands .sound)
-              (kept .sound) k h
-              (kept-contents (stands .sound) kept k h));
+          stands = record {
+            sound = serves .sound;
+            lengths = serves .lengths;
+            holds = λ l h. noted-same q buffer (serve g q buffer s .value .reply) store (held g s) l (stands .holds l h) ∙ sym (serves .holds l h);
+          };
+          done = serves .done;
         }
 
-    -- It answers with what the store says.
-    pub read-tells : Tells (store l) (read-steps g l buffer s .value .reply) (read-steps g l buffer s .value .buffer)
-    read-tells =
-        subst (λ h. Tells h (read-steps g l buffer s .value .reply) (read-steps g l buffer s .value .buffer))
-        (sym (stands .holds l below)) (reads .tells)
-
-    module _ (long : length buffer ≡ g .W) where
-      -- A write puts its buffer into the store.
-      pub write-stands : Standing g (write-steps g l buffer s .after) (with-words l buffer store)
-      write-stands =
-          let w = write-law ok l buffer s (stands .lengths) (stands .sound) below long in
-          record {
-            sound = w .sound;
-            lengths = w .lengths;
-            holds = λ k h. same? k l
-                (λ e. rw (eq-eqb k l e, e) (sym (w .written)))
-                (λ e. rw (ne-eqb k l e) (stands .holds k h ∙ sym (w .keeps k h e)));
-          }
+    -- A read answers with what the store says.
+    pub serve-tells : q .kind ≡ 0 → Tells (store (q .page)) (serve g q buffer s .value .reply) (serve g q buffer s .value .buffer)
+    serve-tells kind =
+        subst (λ h. Tells h (serve g q buffer s .value .reply) (serve g q buffer s .value .buffer))
+        (sym (stands .holds (q .page) (page-passed g (s .small) q passed))) (serves .tells kind)
 
   -- After a format nothing is held.
   pub format-stands : (s : State) → Lengths g s → Standing g (format-steps g s .after) (λ l. Nothing)
@@ -137,9 +132,9 @@ module _ {g : Geometry} (ok : Accepted g) where
           below? UNWRITTEN (read g boundary l buffer s .value .reply)
           (λ h. rw (t .refuses h) (record { stands = stands; done = done-none g flash-refl }))
           (λ h.
-          let below = page-passed g (s .small) (read-of l) (own-passed g (read-of l) buffer s (t .served h .0)) in
+          let passed = t .served h .0 in
           rw (t .served h .1)
-          (record { stands = read-stands stands l buffer below; done = reads stands l buffer below .kept .done }))
+          (serve-leaves (read-of l) buffer stands (own-passed g (read-of l) buffer s passed) (buffer-passed g (read-of l) buffer s passed)))
 
       pub write-leaves : Leaves g s (write g boundary l buffer s)
           (cond (eqb (write g boundary l buffer s .value .reply) DONE) (with-words l buffer store) store)
@@ -149,9 +144,6 @@ module _ {g : Geometry} (ok : Accepted g) where
           (λ h. refusal-leaves (with-words l buffer store) (replied buffer (write g boundary l buffer s .value .reply))
           (write g boundary l buffer s) (write g boundary l buffer s .value .reply) stands (t .refuses h) (omega arith))
           (λ h.
-          let below = page-passed g (s .small) (write-of l) (own-passed g (write-of l) buffer s (t .served h .0)) in
-          let long = buffer-passed g (write-of l) buffer s (t .served h .0) in
-          rw (t .served h .1, write-reply g l buffer s) (record {
-            stands = write-stands stands l buffer below long;
-            done = write-law ok l buffer s (stands .lengths) (stands .sound) below long .done;
-          }))
+          let passed = t .served h .0 in
+          rw (t .served h .1)
+          (serve-leaves (write-of l) buffer stands (own-passed g (write-of l) buffer s passed) (buffer-passed g (write-of l) buffer s passed)))

@@ -78,7 +78,7 @@ answered-exactly k (row ∷ rows) d o n m =
     later : row .number ≡ n → first-applying (tests-of rows (d .1)) ≡ n → ⊥
     later e q = omega (arith, answer-above (row .number) rows (d .1) (o .1) (λ z. m (sym q ∙ z)))
 
-done-exactly : (k : ℕ) (rows : List Ground) (d : All-decided rows) → Rising k rows
+pub done-exactly : (k : ℕ) (rows : List Ground) (d : All-decided rows) → Rising k rows
     → (first-applying (tests-of rows d) ≡ DONE) ↔ All-passed rows
 unfolding first-applying
 done-exactly k [] d o = (λ _. tt, λ _. refl)

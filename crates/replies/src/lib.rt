@@ -9,6 +9,8 @@ pub const KIND_READ: u32 = 0;
 
 pub const KIND_WRITE: u32 = 1;
 
+pub const KINDS: u32 = 2;
+
 // A request: kind 0 reads and kind 1 writes a logical page.
 pub struct Request {
     pub kind: u32,

@@ -1,5 +1,6 @@
 // Tests in number order, each answered with its number, and 0 where none applies. What is tested of a slice is its length, which comes by
 // value.
+use crate::KINDS;
 use crate::Request;
 use crate::counting::COUNTS_WORDS;
 use geometry::accepts;
@@ -99,7 +100,7 @@ pub fn size_answer(
 pub fn request_answer(rec: Record, g: Geometry, q: Request) -> u32
     ensures { λ r. ⌜ r ≡ first-applying (request-tests (geometry g) (small rec) (request q)) ⌝ }
 {
-    if 2 <= q.kind {
+    if KINDS <= q.kind {
         return KIND;
     }
     if g.l <= q.page {

@@ -1,28 +1,23 @@
 -- What the requests of a run keep, one after the other: the state stays sound, what is lent keeps its lengths, and each costs little.
-use Prim.Native.Nat.{ℕ, zero, suc, _+_, _*_, _≤_, _<_}
-use mathlib.Core.Path.{_≡_, refl, sym, ap, _∙_}
+use Prim.Native.Nat.{ℕ, zero, suc, _+_, _*_, _≤_}
+use mathlib.Core.Path.{_≡_, refl, ap, _∙_}
 use mathlib.Core.List.{List, []}
 use native.Mathlib.Omega.{arith}
-use lib.Dec.{eqb}
 use lib.ListN.{length, getD, length-set}
 use lib.Seq.{length-sets}
-use borrow.Author.Tests.{eq-eqb, ne-eqb}
-use Rattle.flash.specs.Cases.{on, same?}
 use Rattle.flash.specs.Listed.{cost, cost-none, cost-++}
 use Rattle.flash.specs.Words.{Lengths}
 use Rattle.scope.specs.Geometry.{Geometry, Accepted}
 use Rattle.scope.specs.Lent.{State, Request}
 use Rattle.scope.specs.Sound.{Sound}
-use Rattle.scope.specs.Operations.{Outcome, give, look, _>>=_}
-use Rattle.scope.specs.Replies.{DONE, first-applying, admit}
-use Rattle.scope.specs.Calls.{RunReplied, request-tests, part, no-request, serve, answer-record, serve-record, serve-records}
-use Rattle.promises.specs.Read.{read-law}
-use Rattle.promises.specs.Write.{write-law}
+use Rattle.scope.specs.Operations.{Outcome, give, _>>=_}
+use Rattle.scope.specs.Calls.{RunReplied, part, no-request, answer-record, serve-record, serve-records}
+use Rattle.promises.specs.Remembered.{held}
 use Rattle.promises.specs.Records.{record-stores}
+use Rattle.promises.specs.RunStands.{record-stands}
 use Rattle.words.specs.Runs.{length-part}
 use Rattle.geometry.specs.Sizes.{piece-inside}
-use Rattle.admission.specs.Room.{most-cost, read-few, write-few}
-use Rattle.replies.specs.Tests.{request-below}
+use Rattle.admission.specs.Room.{most-cost, write-few}
 
 record Keeps {A : Type 0} (g : Geometry) (bound : ℕ) (o : Outcome A) : Type 0 where
   sound : Sound g (o .after)
@@ -40,24 +35,12 @@ pub record Keeps-lent (g : Geometry) (words answers : List ℕ) (bound : ℕ) (o
 module _ {g : Geometry} (ok : Accepted g) where
   -- ---- one request
 
-  serve-keeps : (q : Request) (buffer : List ℕ) (s : State) → Lengths g s → Sound g s → q .page < g .L → length buffer ≡ g .W
-      → Keeps g most-cost (serve g q buffer s)
-  unfolding serve
-  serve-keeps q buffer s len sound below long =
-      on (eqb (q .kind) 0)
-      (λ e. let law = read-law ok (q .page) buffer s len sound below .kept in
-      rw e (record { sound = law .sound; lengths = law .lengths; few = omega (arith, law .costs, read-few ok) }))
-      (λ e. let law = write-law ok (q .page) buffer s len sound below long in
-      rw e (record { sound = law .sound; lengths = law .lengths; few = omega (arith, law .costs, write-few ok) }))
-
   answer-keeps : (q : Request) (buffer : List ℕ) (s : State) → Lengths g s → Sound g s → length buffer ≡ g .W
       → Keeps g most-cost (answer-record g q buffer s)
-  unfolding answer-record admit look give _>>=_
   answer-keeps q buffer s len sound long =
-      let n = first-applying (request-tests g (s .small) q) in
-      same? n DONE
-      (λ e. rw (eq-eqb n DONE e) (serve-keeps q buffer s len sound (request-below g (s .small) q (sym e)) long))
-      (λ e. rw (ne-eqb n DONE e) (record { sound = sound; lengths = len; few = omega (arith, cost-none) }))
+      let stands = record-stands ok q buffer {store = held g s} (record { sound = sound; lengths = len; holds = λ l h. refl }) long in
+      let after = stands .leaves .stands in
+      record { sound = after .sound; lengths = after .lengths; few = omega (arith, stands .costs, write-few ok) }
 
   record-keeps : (i : ℕ) (q : Request) (lent : RunReplied) (s : State) → Lengths g s → Sound g s
       → i * g .W + g .W ≤ length (lent .words)

@@ -42,11 +42,15 @@ size-tests g sizes = record { number = GEOMETRY; applies = not (accepted g) } �
 abbrev pub state-tests : Geometry → Bool → State → List Test
 state-tests g sizes s = size-tests g sizes ++ record { number = DAMAGED; applies = not (sound g s) } ∷ []
 
--- What is tested of a request, be it a single call's or a record's, with the small record as it is then. "Kind 0 read or 1 write." "PAGE:
--- the logical page is L or more."
+-- "Kind 0 read or 1 write."
+abbrev pub kinds : ℕ
+kinds = 2
+
+-- What is tested of a request, be it a single call's or a record's, with the small record as it is then. "PAGE: the logical page is L or
+-- more."
 abbrev pub request-tests : Geometry → SmallRecord → Request → List Test
 request-tests g small q =
-    record { number = KIND; applies = leb 2 (q .kind) } ∷ record { number = PAGE; applies = leb (g .L) (q .page) } ∷ []
+    record { number = KIND; applies = leb kinds (q .kind) } ∷ record { number = PAGE; applies = leb (g .L) (q .page) } ∷ []
 
 -- The request that a read, and a write, of page l is.
 abbrev pub read-of : ℕ → Request

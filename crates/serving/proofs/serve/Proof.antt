@@ -8,7 +8,7 @@ use Rattle.lent.specs.Model.{geometry, small, state}
 use Rattle.scope.specs.Calls.{serve-record}
 use Rattle.words.specs.Runs.{length-part}
 use Rattle.replies.specs.Model.{request}
-use Rattle.replies.specs.Tests.{request-below}
+use Rattle.admission.specs.Tested.{request-below}
 use Rattle.running.specs.Serve.{Serving, not-admitted, request-refused, request-served}
 use Rattle.serving.proofs.serve.Statement.{statement}
 use Rattle.serving.proofs.serve.Tie as tie
