@@ -17,7 +17,7 @@ use Rattle.scope.specs.Steps.{translate}
 use Rattle.scope.specs.Replies.{DONE, UNWRITTEN}
 use Rattle.scope.specs.Requests.{Replied, replied, read-place, read-steps, write-steps, format-steps}
 use Rattle.scope.specs.Calls.{state-sizes, buffer-sizes, read-of, write-of, run-replied, serve, answer-record, serve-record, serve-records, format, check, read, write, run}
-use Rattle.promises.specs.Grounds.{Right, request-grounds, format-grounds, check-grounds, single-grounds, run-grounds}
+use Rattle.promises.specs.Grounds.{Right, right-behind, request-grounds, format-grounds, check-grounds, single-grounds, run-grounds}
 use Rattle.promises.specs.Tests.{All-passed, By-grounds, by-grounds}
 use Rattle.promises.specs.GroundsDecided.{request-decided, format-decided, check-decided, single-decided, run-decided}
 
@@ -135,7 +135,7 @@ module _ (g : Geometry) (q : Request) (buffer : List ℕ) (s : State) where
 
   module _ {boundary : Bool} (h : All-passed (single-grounds g boundary q buffer s)) where
     pub buffer-passed : length buffer ≡ g .W
-    buffer-passed = h .1 .0 .0 .1 .1 .1 .1 .0
+    buffer-passed = right-behind (state-sizes g s) (buffer-sizes g buffer) (h .1 .0 .0) .0
 
     pub own-passed : All-passed (request-grounds g (s .small) q)
     own-passed = h .1 .1 .1
