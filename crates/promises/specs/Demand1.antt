@@ -11,9 +11,9 @@ use Rattle.scope.specs.Lent.{none, State, Request}
 use Rattle.scope.specs.Operations.{Operation, _>>=_, Outcome, Step, give}
 use Rattle.scope.specs.Replies.{DONE, UNWRITTEN}
 use Rattle.scope.specs.Requests.{format-steps}
-use Rattle.scope.specs.Calls.{read-of, write-of, RunReplied, no-request, part, serve-records, check, read, write, run}
+use Rattle.scope.specs.Calls.{read-of, write-of, RunReplied, no-request, part, serve-records, check, read, write, run, state-sizes, run-sizes}
 use Rattle.flash.specs.Cases.{below?}
-use Rattle.promises.specs.Grounds.{Ground, Refusal}
+use Rattle.promises.specs.Grounds.{Ground, right-behind, Refusal}
 use Rattle.promises.specs.Refused.{own, own-operations, Unchanged, Demand-1, Demand-1-record, before-record}
 use Rattle.promises.specs.Serve.{serve-hands-back}
 use Rattle.promises.specs.Tests.{By-grounds}
@@ -69,7 +69,7 @@ module _ (g : Geometry) (boundary : Bool) (requests : List Request) (words answe
       → (length words ≡ length requests * g .W) × (length answers ≡ length requests)
   run-fits e =
       let sizes = run-by-grounds g boundary requests words answers s .served (omega arith) .0 .1 .0 .0 .0 in
-      (sizes .1 .1 .1 .1 .0, sizes .1 .1 .1 .1 .1 .0)
+      let right = right-behind (state-sizes g s) (run-sizes g requests words answers) sizes in (right .0, right .1 .0)
 
   -- Record i's own answer is the one that the run hands back.
   pub record-answer : run g boundary requests words answers s .value .reply ≡ DONE → (i : ℕ) → i < length requests

@@ -46,6 +46,10 @@ pub right-both : (zs ys : List Size) → Right zs → Right ys → Right (zs ++ 
 right-both [] ys a b = b
 right-both (z ∷ zs) ys a b = (a .0, right-both zs ys (a .1) b)
 
+pub right-behind : (zs ys : List Size) → Right (zs ++ ys) → Right ys
+right-behind [] ys a = a
+right-behind (z ∷ zs) ys a = right-behind zs ys (a .1)
+
 abbrev pub Wrong : List Size → Type 0
 Wrong [] = ⊥
 Wrong (z ∷ zs) = (z .has ≢ z .should) ⊎ Wrong zs

@@ -19,7 +19,7 @@ use Rattle.scope.specs.Replies.{DONE, UNWRITTEN, GEOMETRY, LENGTH, DAMAGED, KIN
 use Rattle.scope.specs.Calls.{state-sizes, buffer-sizes, run-sizes, kinds, request-tests, read-of}
 use Rattle.scope.specs.Laws.Decides.{Decides, by-equal, by-and, by-not, by-most, by-itself}
 use Rattle.scope.specs.Laws.Decided.{accepted-decided, sound-decided}
-use Rattle.promises.specs.Grounds.{Right, Wrong, Fits, Misfits, size-grounds, state-ground, state-grounds, request-grounds, format-grounds, check-grounds, single-grounds, run-grounds}
+use Rattle.promises.specs.Grounds.{Right, right-behind, Wrong, Fits, Misfits, size-grounds, state-ground, state-grounds, request-grounds, format-grounds, check-grounds, single-grounds, run-grounds}
 use Rattle.promises.specs.Tests.{Decided, All-decided, decided-then, All-passed, done-exactly}
 use Rattle.promises.specs.Demands.{Below-limit}
 
@@ -156,7 +156,7 @@ module _ (g : Geometry) (q : Request) (buffer : List ℕ) (s : State) where
 
   module _ {boundary : Bool} (h : All-passed (single-grounds g boundary q buffer s)) where
     pub buffer-passed : length buffer ≡ g .W
-    buffer-passed = h .1 .0 .0 .1 .1 .1 .1 .0
+    buffer-passed = right-behind (state-sizes g s) (buffer-sizes g buffer) (h .1 .0 .0) .0
 
     pub own-passed : All-passed (request-grounds g (s .small) q)
     own-passed = h .1 .1 .1
