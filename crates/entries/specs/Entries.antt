@@ -1,23 +1,75 @@
 -- What the leaves do to the cache is what 01's steps do.
-use Prim.Native.Nat.{ℕ, _+_, _-_, _*_, _≤_}
+use Prim.Native.Nat.{ℕ, _+_, _-_, _*_, _≤_, _<_}
 use mathlib.Core.Path.{_≡_, refl, sym, ap, _∙_}
+use mathlib.Core.Logic.{_≢_}
 use mathlib.Core.List.{List, [], _∷_, _++_}
 use native.Mathlib.Numerals.{add-one}
-use lib.ListN.{length}
+use native.Mathlib.Omega.{arith}
+use lib.Dec.{eqb, ltb}
+use lib.ListN.{length, getD}
 use lib.Seq.{sets}
+use borrow.Author.Tests.{eqb-true, ltb-true}
 use Rattle.scope.specs.Geometry.{Geometry}
 use Rattle.scope.specs.SmallRecord.{with-used}
-use Rattle.scope.specs.Lent.{none, entry-words, cache-size}
+use Rattle.scope.specs.Lent.{none, entry-words, cache-size, logical-at}
+use Rattle.scope.specs.Sound.{rank-of}
 use Rattle.scope.specs.Cache.{entry-at, without, touch, enter, forget, set-entry}
+use Rattle.flash.specs.Cases.{same?, and-true, is-false}
+use Rattle.flash.specs.Stores.{getD-sets-outside}
+use Rattle.cache.specs.Entries.{placed}
+use Rattle.cache.specs.Ranks.{Not-cached, cached?}
 use Rattle.lent.specs.declared.Work.{Work}
 use Rattle.lent.specs.Model.{small, counts}
 use Rattle.lent.specs.DoesLaws.{does-ends, cache-same, does-give, does-bind, does-set-cache, does-set-small}
 use Rattle.lent.specs.Shapes.{Does-cache}
+use Rattle.words.specs.Runs.{getD-any}
+use Rattle.words.specs.Searches.{lowest-fails}
 
 -- A cache of the right size, with no more entries in use than it has.
 pub record Cache-lent (g : Geometry) (cache : List ℕ) (used : ℕ) : Type 0 where
   pub cache-fits : length cache ≡ cache-size g
   pub used-to : used ≤ g .C
+
+-- "Different logical pages": the entries in use have.
+abbrev pub Different : List ℕ → ℕ → Type 0
+Different cache used = (i j : ℕ) → i < used → j < used → logical-at i cache ≡ logical-at j cache → i ≡ j
+
+-- No entry from rank i on, and before n, has logical page l.
+abbrev pub None-has : ℕ → ℕ → ℕ → List ℕ → Type 0
+None-has l i n cache = (k : ℕ) → i ≤ k → k < n → logical-at k cache ≢ l
+
+-- What is read of four entries is their logical pages.
+pub none-of-four : (l i : ℕ) (cache : List ℕ) → (i + 4) * entry-words ≤ length cache → getD cache (i * 3) 0 ≢ l → getD cache (i * 3 + 3) 0 ≢ l
+    → getD cache (i * 3 + 6) 0 ≢ l → getD cache (i * 3 + 9) 0 ≢ l → None-has l i (i + 4) cache
+none-of-four l i cache fits first second third fourth k from upto e =
+    same? k i (λ q. first (read (i * 3) (omega arith)))
+    (λ n₁. same? k (i + 1) (λ q. second (read (i * 3 + 3) (omega arith)))
+    (λ n₂. same? k (i + 2) (λ q. third (read (i * 3 + 6) (omega arith))) (λ n₃. fourth (read (i * 3 + 9) (omega arith)))))
+  where
+    read : (at : ℕ) → k * 3 ≡ at → getD cache at 0 ≡ l
+    read at is = ap (λ (j : ℕ). getD cache j 0) (sym is) ∙ getD-any cache (k * 3) 0 none (omega arith) ∙ e
+
+-- Another place for the entry at rank i leaves them.
+pub different-placed : (cache : List ℕ) {used : ℕ} → Different cache used → (i place : ℕ) → Different (placed i place cache) used
+different-placed cache different i place a b in-use-a in-use-b e = different a b in-use-a in-use-b (sym (same a) ∙ e ∙ same b)
+  where
+    same : (j : ℕ) → logical-at j (placed i place cache) ≡ logical-at j cache
+    same j = getD-sets-outside cache (i * entry-words + 1) (place ∷ 1 ∷ []) (j * entry-words) none (λ k m q. omega arith)
+
+-- The entry of a logical page is the only one, so that its rank is the one that was found; where none is found, C is.
+module _ (g : Geometry) (cache : List ℕ) {used : ℕ} (l : ℕ) (most : used ≤ g .C) where
+  pub rank-only : Different cache used → (i : ℕ) → i < used → logical-at i cache ≡ l → rank-of g cache used l ≡ i
+  rank-only different i h e =
+      cached? g cache used l most
+      (λ found. different (rank-of g cache used l) i (found .in-use) h (found .is-l ∙ sym e))
+      (λ not. absurd (not i h e))
+
+  pub rank-none : Not-cached cache used l → rank-of g cache used l ≡ g .C
+  unfolding rank-of
+  rank-none not =
+      lowest-fails (g .C) _ (λ i h. is-false _ (λ p.
+      let q = and-true (ltb i used) (eqb (logical-at i cache) l) p in
+      absurd (not i (ltb-true i used (q .0)) (eqb-true (logical-at i cache) l (q .1)))))
 
 module _ {cache cache′ : List ℕ} where
   pub touch-does : (i : ℕ) {w : Work} → cache′ ≡ entry-at i cache ++ without i cache → Does-cache (touch i) cache w 0 cache′ w

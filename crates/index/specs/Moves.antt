@@ -1,23 +1,17 @@
--- What waits as a list of mappings, and by translation pages: the words that it sets in one of them, and the next one that it touches.
+-- What waits as a list of mappings in a lent array, one more that waits behind the others, and the mappings of one translation page.
 use Prim.Native.Nat.{ℕ, _+_, _*_, _≤_, _<_}
 use mathlib.Core.Path.{_≡_, refl, sym, ap, _∙_}
 use mathlib.Core.Logic.{_≢_}
-use mathlib.Core.Bool.{cond}
 use mathlib.Core.List.{List, [], _∷_, _++_, append-nil}
 use native.Mathlib.Omega.{arith}
-use lib.Dec.{eqb, ltb}
-use lib.ListN.{length, getD, set, length-append, length-set}
-use lib.Seq.{sets}
-use borrow.Author.Tests.{eq-eqb, ne-eqb, lt-ltb, le-ltb}
-use Rattle.scope.specs.Geometry.{Geometry, pages}
-use Rattle.scope.specs.Lent.{Mapping, words-of, translation-page, translation-word}
-use Rattle.scope.specs.Steps.{of-page, set-words}
-use Rattle.flash.specs.Cases.{same?, below?}
-use Rattle.flash.specs.Words.{length-words-of}
-use Rattle.words.specs.Runs.{sets-own}
-use Rattle.promises.specs.Stored.{length-set-words}
-use Rattle.steps.specs.Lies.{Chip-lent, words-lie}
-use Rattle.steps.specs.Chip.{one-word-set}
+use lib.ListN.{length, getD, set, length-set}
+use lib.Seq.{getD-set-same, getD-set-other}
+use borrow.Author.Tests.{eq-eqb, ne-eqb}
+use Rattle.scope.specs.Geometry.{Geometry}
+use Rattle.scope.specs.Lent.{Mapping, translation-page}
+use Rattle.scope.specs.Steps.{of-page}
+use Rattle.flash.specs.Cases.{same?, last}
+use Rattle.copying.specs.Moves.{first-moves, Stored-move, two-stored, third-stored, stored-more}
 
 -- The first n mappings of the lent array wait: the third word of each is its translation page, which is reckoned once for all the times
 -- that it is looked at.
@@ -25,6 +19,60 @@ pub record Waits-in (g : Geometry) (n : ℕ) (waiting : List ℕ) : Type 0 where
   pub long : length waiting ≡ 192
   pub few : n ≤ 64
   pub of-pages : (i : ℕ) → i < n → getD waiting (i * 3 + 2) 0 ≡ translation-page g (getD waiting (i * 3) 0)
+
+-- ---- one more that waits
+
+-- Where n waited, at most one more waits, and the words behind its own stay.
+pub record Moves-ahead (n n′ : ℕ) (words words′ : List ℕ) : Type 0 where
+  pub most : n′ ≤ n + 1
+  pub behind : (j : ℕ) → n * 3 + 3 ≤ j → getD words′ j 0 ≡ getD words j 0
+
+pub all-ahead : {n : ℕ} {words : List ℕ} → Moves-ahead n n words words
+all-ahead = record { most = omega arith; behind = λ j h. refl }
+
+-- The words of one more behind n others, and its translation page t.
+abbrev pub waits-too : ℕ → ℕ → ℕ → ℕ → List ℕ → List ℕ
+waits-too n l p t waiting = set (set (set waiting (n * 3) l) (n * 3 + 1) p) (n * 3 + 2) t
+
+module _ (waiting : List ℕ) (n l p t : ℕ) where
+  pub one-ahead : Moves-ahead n (n + 1) waiting (waits-too n l p t waiting)
+  one-ahead =
+      record {
+        most = omega arith;
+        behind = λ j h. getD-set-other (set (set waiting (n * 3) l) (n * 3 + 1) p) (n * 3 + 2) j t 0 (omega arith)
+            ∙ getD-set-other (set waiting (n * 3) l) (n * 3 + 1) j p 0 (omega arith)
+            ∙ getD-set-other waiting (n * 3) j l 0 (omega arith);
+      }
+
+  module _ (room : n * 3 + 3 ≤ length waiting) where
+    stored : Stored-move n l p waiting (waits-too n l p t waiting)
+    stored = third-stored t (two-stored n l p waiting room)
+
+    pub wait-more : first-moves (n + 1) (waits-too n l p t waiting) ≡ first-moves n waiting ++ record { logical = l; physical = p } ∷ []
+    wait-more = stored-more stored
+
+    its-page : getD (waits-too n l p t waiting) (n * 3 + 2) 0 ≡ t
+    its-page = getD-set-same (set (set waiting (n * 3) l) (n * 3 + 1) p) (n * 3 + 2) t 0
+        (omega (arith, length-set (set waiting (n * 3) l) (n * 3 + 1) p, length-set waiting (n * 3) l))
+
+pub still-waits-in : {g : Geometry} {n : ℕ} {waiting : List ℕ} → Waits-in g n waiting → n < 64 → (l p : ℕ)
+    → Waits-in g (n + 1) (waits-too n l p (translation-page g l) waiting)
+still-waits-in {g} {n} {waiting} waits few l p =
+    let t : ℕ = translation-page g l in
+    let room : n * 3 + 3 ≤ length waiting = omega (arith, waits .long) in
+    let s = stored waiting n l p t room in
+    record {
+      long = s .as-long ∙ waits .long;
+      few = omega arith;
+      of-pages = λ i h. last i n (omega arith)
+          (λ before. s .before (i * 3 + 2) (omega arith)
+          ∙ waits .of-pages i before
+          ∙ ap (translation-page g) (sym (s .before (i * 3) (omega arith))))
+          (λ e. rw e (its-page waiting n l p t room ∙ ap (translation-page g) (sym (s .its-logical))));
+    }
+
+pub none-wait-in : {g : Geometry} {waiting : List ℕ} → length waiting ≡ 192 → Waits-in g 0 waiting
+none-wait-in long = record { long = long; few = omega arith; of-pages = λ i h. absurd (omega arith) }
 
 -- ---- the mappings of one translation page
 
@@ -46,92 +94,3 @@ module _ (g : Geometry) (t : ℕ) where
     pub of-page-other : translation-page g (m .logical) ≢ t → of-page g t (w ++ m ∷ []) ≡ of-page g t w
     unfolding of-page
     of-page-other e = of-page-++ w (m ∷ []) ∙ (rw (ne-eqb (translation-page g (m .logical)) t e) (append-nil (of-page g t w)))
-
--- ---- the words of a page set
-
--- The words of page q are those that it had, with what waits for translation page t set.
-pub record Words-set (g : Geometry) (q t : ℕ) (chip : List ℕ) (w : List Mapping) (chip′ : List ℕ) : Type 0 where
-  pub words : chip′ ≡ sets chip (q * g .W) (set-words g (of-page g t w) (words-of g q chip))
-  pub as-long : length chip′ ≡ length chip
-
-module _ {g : Geometry} {q t : ℕ} {chip : List ℕ} (lent : Chip-lent g chip) (on-chip : q < pages g) where
-  pub none-set : Words-set g q t chip [] chip
-  unfolding of-page set-words
-  none-set = record { words = sym (sets-own chip (q * g .W) (g .W) (words-lie lent q on-chip .words)); as-long = refl }
-
-  pub one-set : {chip₁ chip₂ : List ℕ} (w : List Mapping) (m : Mapping) → Words-set g q t chip w chip₁
-      → chip₂ ≡ cond (eqb (translation-page g (m .logical)) t) (set chip₁ (q * g .W + translation-word g (m .logical)) (m .physical)) chip₁
-      → Words-set g q t chip (w ++ m ∷ []) chip₂
-  one-set {chip₁} {chip₂} w m before e =
-      same? (translation-page g (m .logical)) t
-      (λ of-t.
-      let stored : chip₂ ≡ set chip₁ (q * g .W + translation-word g (m .logical)) (m .physical) =
-      e ∙ (rw (eq-eqb (translation-page g (m .logical)) t of-t)) in
-      record {
-        words = one-word-set g q (of-page g t w) m chip (words-of g q chip) (lent .bounded .W-from) long (before .words) stored
-            ∙ ap result (sym (of-page-more g t w m of-t));
-        as-long = ap length stored ∙ length-set chip₁ _ (m .physical) ∙ before .as-long;
-      })
-      (λ other.
-      let same : chip₂ ≡ chip₁ = e ∙ (rw (ne-eqb (translation-page g (m .logical)) t other)) in
-      record {
-        words = same ∙ before .words ∙ ap result (sym (of-page-other g t w m other));
-        as-long = ap length same ∙ before .as-long;
-      })
-    where
-      result : List Mapping → List ℕ
-      result ms = sets chip (q * g .W) (set-words g ms (words-of g q chip))
-
-      long : length (set-words g (of-page g t w) (words-of g q chip)) ≡ g .W
-      long = length-set-words g (of-page g t w) (words-of g q chip) ∙ length-words-of g q chip on-chip (lent .chip-fits)
-
--- ---- the next translation page touched
-
--- The lower of two translation pages, where the second is not below `from`.
-abbrev pub nearer : ℕ → ℕ → ℕ → ℕ
-nearer best from t = cond (ltb t from) best (cond (ltb t best) t best)
-
--- r is the lowest translation page from `from` on for which something waits; m where there is none below m.
-pub record Next-touched (g : Geometry) (w : List Mapping) (from m r : ℕ) : Type 0 where
-  pub from-there : from ≤ r
-  pub up-to : r ≤ m
-  pub untouched : (t : ℕ) → from ≤ t → t < r → of-page g t w ≡ []
-  pub touched : r < m → 1 ≤ length (of-page g r w)
-
-module _ (g : Geometry) (from m : ℕ) where
-  pub none-touched : from ≤ m → Next-touched g [] from m m
-  unfolding of-page
-  none-touched h = record { from-there = h; up-to = omega arith; untouched = λ t _ _. refl; touched = λ k. absurd (omega arith) }
-
-  pub one-touched : (w : List Mapping) (x : Mapping) (r r′ : ℕ) → Next-touched g w from m r
-      → r′ ≡ nearer r from (translation-page g (x .logical)) → Next-touched g (w ++ x ∷ []) from m r′
-  one-touched w x r r′ before e =
-      below? p from
-      (λ low. rw (e, lt-ltb p from low) (kept (λ t h k. omega arith)))
-      (λ high. below? p r
-      (λ near. rw (e, le-ltb p from high, lt-ltb p r near) (taken high near))
-      (λ far. rw (e, le-ltb p from high, le-ltb p r far) (kept (λ t h k. omega arith))))
-    where
-      p : ℕ
-      p = translation-page g (x .logical)
-
-      more : (t : ℕ) → length (of-page g t w) ≤ length (of-page g t (w ++ x ∷ []))
-      more t = omega (arith, ap length (of-page-++ g t w (x ∷ [])), length-append (of-page g t w) (of-page g t (x ∷ [])))
-
-      kept : ((t : ℕ) → from ≤ t → t < r → p ≢ t) → Next-touched g (w ++ x ∷ []) from m r
-      kept apart =
-          record {
-            from-there = before .from-there;
-            up-to = before .up-to;
-            untouched = λ t h k. of-page-other g t w x (apart t h k) ∙ before .untouched t h k;
-            touched = λ k. omega (arith, more r, before .touched k);
-          }
-
-      taken : from ≤ p → p < r → Next-touched g (w ++ x ∷ []) from m p
-      taken high near =
-          record {
-            from-there = high;
-            up-to = omega (arith, before .up-to);
-            untouched = λ t h k. of-page-other g t w x (omega arith) ∙ before .untouched t h (omega arith);
-            touched = λ k. omega (arith, ap length (of-page-more g p w x refl), length-append (of-page g p w) (x ∷ []));
-          }

@@ -1,7 +1,7 @@
 -- "Each touched translation page, in rising number, is updated once": what waits is settled by going from one touched page to the next,
 -- since the others have nothing to set.
 use Prim.Native.Nat.{ℕ, zero, suc, _+_, _*_, _-_, _≤_, _<_}
-use mathlib.Core.Path.{_≡_, refl, subst, _∙_}
+use mathlib.Core.Path.{_≡_, refl, sym, subst, _∙_}
 use mathlib.Core.List.{List, [], _∷_}
 use native.Mathlib.Nat.{mul-le-mul-left, add-zero, add-suc}
 use native.Mathlib.Numerals.{add-one}
@@ -21,7 +21,7 @@ use Rattle.lent.specs.declared.Work.{Work}
 use Rattle.lent.specs.DoesLaws.{does-give, does-for-none, does-for-more}
 use Rattle.lent.specs.Shapes.{Room-to-count, room-after, less-room}
 use Rattle.index.specs.Index.{Index, Does-index, index-state, Index-lent, index-lengths, lengths-lent, Index-ready}
-use Rattle.index.specs.Moves.{Next-touched}
+use Rattle.index.specs.Taking.{Lowest, Rest, lowest-rises}
 use Rattle.index.specs.Writing.{Page-ready}
 
 -- There are few translation pages.
@@ -73,13 +73,13 @@ module _ {g : Geometry} {ms : List Mapping} {x x₁ : Index} {w w₁ : Work} whe
       }
 
   -- To the next page that is touched.
-  pub to-next : {from m t : ℕ} → Settled-upto g ms x w from x₁ w₁ → Next-touched g ms from m t
-      → Settled-upto g ms x w t x₁ w₁
-  to-next {from} {t = t} before next =
-      let there : from + (t - from) ≡ t = omega (arith, next .from-there) in
+  to-next : {from t : ℕ} → Settled-upto g ms x w from x₁ w₁ → from ≤ t
+      → ((k : ℕ) → from ≤ k → k < t → of-page g k ms ≡ []) → Settled-upto g ms x w t x₁ w₁
+  to-next {from} {t} before up untouched =
+      let there : from + (t - from) ≡ t = omega arith in
       subst (λ k. Settled-upto g ms x w k x₁ w₁) there
       (upwards (λ k. Settled-upto g ms x w k x₁ w₁) from (t - from)
-      (λ k h l so-far. one-passed so-far (next .untouched k h (omega arith))) before)
+      (λ k h l so-far. one-passed so-far (untouched k h (omega arith))) before)
 
   -- It is ready for its update.
   pub next-page-ready : {t : ℕ} → Settled-upto g ms x w t x₁ w₁ → t < M g → 1 ≤ length (of-page g t ms)
@@ -126,45 +126,58 @@ module _ {g : Geometry} {ms : List Mapping} {t : ℕ}
             (update g t (of-page g t ms) s .did) (less-room (omega arith) (before .counting)) (law .costs) (updated (blank g) .counting);
       })
 
--- ---- the loop: t is the next page that is touched, or M
+-- ---- the loop: t is the lowest page of what is left, or M
 
-pub record Settling (g : Geometry) (ms : List Mapping) (x : Index) (w : Work) (m t : ℕ) (x′ : Index) (w′ : Work) : Type 0 where
+-- What is left are the mappings `rest`: of what waited, those of page t and above.
+pub record Settling (g : Geometry) (ms rest : List Mapping) (x : Index) (w : Work) (m t : ℕ)
+    (x′ : Index) (w′ : Work) : Type 0 where
   pub is-M : m ≡ M g
-  pub up-to : t ≤ m
-  pub touched : t < m → 1 ≤ length (of-page g t ms)
+  pub low : Lowest g rest m t
+  pub left : (s : ℕ) → t ≤ s → of-page g s rest ≡ of-page g s ms
   pub so-far : Settled-upto g ms x w t x′ w′
 
 module _ {g : Geometry} {ms : List Mapping} {x : Index} {w : Work} {m : ℕ}
     (ready : Index-ready g x w ms) where
-  pub settle-starts : {t : ℕ} → m ≡ length (x .directory) → Next-touched g ms 0 m t
-      → Settling g ms x w m t x w
-  settle-starts is-m next =
+  pub settle-starts : {t : ℕ} → m ≡ length (x .directory) → Lowest g ms m t → Settling g ms ms x w m t x w
+  settle-starts is-m low =
       record {
         is-M = is-m ∙ ready .lent .directory-fits;
-        up-to = next .up-to;
-        touched = next .touched;
-        so-far = to-next (none-settled ready) next;
+        low = low;
+        left = λ s h. refl;
+        so-far = to-next (none-settled ready) (omega arith) (λ k _ h. low .untouched k h);
       }
 
-  module _ {x₁ : Index} {w₁ : Work} {t : ℕ}
-      (before : Settling g ms x w m t x₁ w₁) where
-    pub settle-next : t < m → Page-ready g x₁ w₁ t
-    settle-next below = next-page-ready (before .so-far) (omega (arith, before .is-M)) (before .touched below)
+  module _ {rest : List Mapping} {x₁ : Index} {w₁ : Work} {t : ℕ}
+      (before : Settling g ms rest x w m t x₁ w₁) where
+    module _ (below : t < m) where
+      touched : 1 ≤ length (of-page g t ms)
+      touched = subst (λ (l : List Mapping). 1 ≤ length l) (before .left t (omega arith)) (before .low .touched below)
 
-    pub settle-goes-on : {x₂ : Index} {w₂ : Work} {t′ : ℕ} → t < m
-        → Does-index (update g t (of-page g t ms)) x₁ w₁ tt x₂ w₂
-        → Next-touched g ms (t + 1) m t′ → Settling g ms x w m t′ x₂ w₂
-    settle-goes-on below updated next =
-        record {
-          is-M = before .is-M;
-          up-to = next .up-to;
-          touched = next .touched;
-          so-far = to-next
-              (one-settled (ready .below-L) (before .so-far) (omega (arith, before .is-M)) (before .touched below) updated) next;
-        }
+      pub settle-next : Page-ready g x₁ w₁ t
+      settle-next = next-page-ready (before .so-far) (omega (arith, before .is-M)) touched
+
+      pub settle-goes-on : {rest′ : List Mapping} {x₂ : Index} {w₂ : Work} {t′ : ℕ}
+          → Does-index (update g t (of-page g t rest)) x₁ w₁ tt x₂ w₂
+          → Rest g t rest rest′ → Lowest g rest′ m t′ → Settling g ms rest′ x w m t′ x₂ w₂
+      settle-goes-on {rest′} {x₂} {w₂} {t′} updated taken low =
+          let rises : t < t′ = lowest-rises (before .low) below taken low in
+          record {
+            is-M = before .is-M;
+            low = low;
+            left = λ s h. still s (omega arith);
+            so-far = to-next (one-settled (ready .below-L) (before .so-far) (omega (arith, before .is-M)) touched of-all) (omega arith)
+                (λ k h l. sym (still k (omega arith)) ∙ low .untouched k l);
+          }
+        where
+          still : (s : ℕ) → t < s → of-page g s rest′ ≡ of-page g s ms
+          still s h = taken .kept s (omega arith) ∙ before .left s (omega arith)
+
+          of-all : Does-index (update g t (of-page g t ms)) x₁ w₁ tt x₂ w₂
+          of-all = subst (λ (l : List Mapping). Does-index (update g t l) x₁ w₁ tt x₂ w₂)
+              (before .left t (omega arith)) updated
 
     pub settle-ends : m ≤ t → Does-index (update-all g ms) x w tt x₁ w₁
     unfolding update-all
     settle-ends all =
-        let end : t ≡ M g = omega (arith, before .up-to, before .is-M) in
+        let end : t ≡ M g = omega (arith, before .low .up-to, before .is-M) in
         subst (λ n. Settled-upto g ms x w n x₁ w₁) end (before .so-far) .does

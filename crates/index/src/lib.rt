@@ -6,8 +6,9 @@ use page::begin;
 use page::finish;
 use steps::chip::next_page;
 use steps::chip::set_word;
-use touched::next_touched;
-use touched::set_words;
+use touched::Left;
+use touched::lowest;
+use touched::take_words;
 ghost use mathlib.Core.List.{[], _∷_};
 ghost use Rattle.scope.specs.Lent.{translation-page};
 ghost use Rattle.scope.specs.Steps.{of-page, update, update-all};
@@ -16,6 +17,7 @@ ghost use Rattle.words.specs.Census.{Census};
 ghost use Rattle.copying.specs.Moves.{first-moves};
 ghost use Rattle.index.specs.Moves.{Waits-in};
 ghost use Rattle.index.specs.Index.{index, Does-index, Index-ready};
+ghost use Rattle.index.specs.Taking.{Left-after};
 ghost use Rattle.index.specs.Writing.{Page-ready};
 
 pub mod page;
@@ -48,31 +50,41 @@ pub fn update_one(
     finish(begun, g, t, spare, census, directory)
 }
 
-// Translation page t is updated with all that waits for it.
-fn update_page(
+// What is settled so far, and what is left.
+struct Settled {
     work: Work,
+    left: Left,
+}
+
+// The lowest translation page that something waits for is updated with all of it.
+fn update_page(
+    settled: Settled,
     g: Geometry,
-    t: u32,
-    n: usize,
-    waiting: &[u32; 192],
+    m: u32,
+    waiting: &mut [u32; 192],
     chip: &mut [u32],
     spare: &mut [u32],
     census: &mut [u32],
     directory: &mut [u32],
-) -> Work
-    requires { ⌜ Page-ready (geometry g) (index chip spare directory) work t ⌝ }
+) -> Settled
+    requires { ⌜ Page-ready (geometry g) (index chip spare directory) (settled .work) (settled .left .lowest) ⌝ }
     requires { ⌜ Census (geometry g) (now spare) (now census) ⌝ }
-    requires { ⌜ Waits-in (geometry g) n (now waiting) ⌝ }
-    ensures { λ r. ⌜ Does-index (update (geometry g) t (of-page (geometry g) t (first-moves n (now (waiting .entry)))))
-        (index (chip .entry) (spare .entry) (directory .entry)) work tt
-        (index (chip .exit) (spare .exit) (directory .exit)) r ⌝ }
+    requires { ⌜ Waits-in (geometry g) (settled .left .n) (now waiting) ⌝ }
+    ensures { λ r. ⌜ Does-index (update (geometry g) (settled .left .lowest)
+        (of-page (geometry g) (settled .left .lowest) (first-moves (settled .left .n) (now (waiting .entry)))))
+        (index (chip .entry) (spare .entry) (directory .entry)) (settled .work) tt
+        (index (chip .exit) (spare .exit) (directory .exit)) (r .work) ⌝ }
     ensures { λ _. ⌜ Census (geometry g) (now (spare .exit)) (now (census .exit)) ⌝ }
+    ensures { λ r. ⌜ Left-after (geometry g) (settled .left .lowest) m (settled .left .n) (now (waiting .entry))
+        (r .left .n) (r .left .lowest) (now (waiting .exit)) ⌝ }
 {
-    let begun = begin(work, g, t, chip, spare, census, directory);
+    let t = settled.left.lowest;
+    let begun = begin(settled.work, g, t, chip, spare, census, directory);
     let rec = begun.rec;
     let q = next_page(rec, g, Region::Translation);
-    set_words(g, q, t, n, waiting, chip);
-    finish(begun, g, t, spare, census, directory)
+    let left = take_words(g, q, t, settled.left.n, m, waiting, chip);
+    let work = finish(begun, g, t, spare, census, directory);
+    Settled { work, left }
 }
 
 // The first n mappings that wait are settled: each translation page that they touch, in rising number, is updated once.
@@ -80,7 +92,7 @@ pub fn settle(
     work: Work,
     g: Geometry,
     n: usize,
-    waiting: &[u32; 192],
+    waiting: &mut [u32; 192],
     chip: &mut [u32],
     spare: &mut [u32],
     census: &mut [u32],
@@ -95,11 +107,13 @@ pub fn settle(
     ensures { λ _. ⌜ Census (geometry g) (now (spare .exit)) (now (census .exit)) ⌝ }
 {
     let m = directory.len() as u32;
-    let mut settled = work;
-    let mut t = next_touched(n, waiting, 0, m);
-    while t < m {
-        settled = update_page(settled, g, t, n, waiting, chip, spare, census, directory);
-        t = next_touched(n, waiting, t + 1, m);
+    let t = lowest(n, waiting, m);
+    let mut settled = Settled {
+        work,
+        left: Left { n, lowest: t },
+    };
+    while settled.left.lowest < m {
+        settled = update_page(settled, g, m, waiting, chip, spare, census, directory);
     }
-    settled
+    settled.work
 }

@@ -1,80 +1,111 @@
-// What waits, by translation pages: the words of one of them set from it, and the next one that it touches. What waits is lent, three words
-// to a mapping: the logical page, the physical page, and the translation page, which is reckoned once and looked at many times.
+// What waits, by translation pages: all that is of one of them taken out and set, and the lowest of those that are left. What waits is lent,
+// three words to a mapping: the logical page, the physical page, and the translation page, which is reckoned once and looked at many times.
 use lent::Geometry;
 use steps::chip::set_word;
 ghost use mathlib.Core.Path.{_≡_};
-ghost use mathlib.Core.Bool.{cond};
-ghost use Prim.Native.Nat.{_+_, _*_, _≤_, _<_};
-ghost use lib.Dec.{eqb};
-ghost use lib.ListN.{set};
+ghost use mathlib.Core.Logic.{_⊎_};
+ghost use Prim.Native.Nat.{_*_, _≤_, _<_};
+ghost use lib.ListN.{length};
 ghost use lib.Seq.{sets};
 ghost use Rattle.scope.specs.Geometry.{pages};
-ghost use Rattle.scope.specs.Lent.{words-of, translation-page, translation-word};
+ghost use Rattle.scope.specs.Lent.{words-of, translation-page};
 ghost use Rattle.scope.specs.Steps.{of-page, set-words};
 ghost use Rattle.lent.specs.Model.{geometry};
 ghost use Rattle.steps.specs.Lies.{Chip-lent};
 ghost use Rattle.copying.specs.Moves.{first-moves};
-ghost use Rattle.index.specs.Moves.{Waits-in, Next-touched, nearer};
+ghost use Rattle.index.specs.Moves.{Waits-in, waits-too};
+ghost use Rattle.index.specs.Taking.{lower, Lowest, Left-after, Taken-out, Stays};
 
-// In the translation page at q, the word of logical page l, where l's translation page is t.
-fn set_if_of(g: Geometry, q: u32, t: u32, page: u32, l: u32, place: u32, chip: &mut [u32])
-    requires { ⌜ Chip-lent (geometry g) (now chip) × (q < pages (geometry g)) × (page ≡ translation-page (geometry g) l) ⌝ }
-    ensures { λ _. ⌜ now (chip .exit) ≡ cond (eqb (translation-page (geometry g) l) t)
-        (set (now (chip .entry)) (q * g .w + translation-word (geometry g) l) place) (now (chip .entry)) ⌝ }
+// What is left to settle: how many mappings, and the lowest of their translation pages.
+pub struct Left {
+    pub n: usize,
+    pub lowest: u32,
+}
+
+// One more waits, behind n others.
+pub fn put_behind(n: usize, logical: u32, physical: u32, page: u32, waiting: &mut [u32; 192])
+    requires { ⌜ (n < 64) × (length (now waiting) ≡ 192) ⌝ }
+    ensures { λ _. ⌜ now (waiting .exit) ≡ waits-too n logical physical page (now (waiting .entry)) ⌝ }
+{
+    waiting[n * 3] = logical;
+    waiting[n * 3 + 1] = physical;
+    waiting[n * 3 + 2] = page;
+}
+
+// The lower of two translation pages.
+fn lower(best: u32, t: u32) -> u32
+    ensures { λ r. ⌜ r ≡ lower best t ⌝ }
+{
+    if t < best { t } else { best }
+}
+
+// A mapping of translation page t: its word is set in the page at q. One of another page is left, behind those that are.
+fn take(
+    left: Left,
+    g: Geometry,
+    q: u32,
+    t: u32,
+    logical: u32,
+    physical: u32,
+    page: u32,
+    waiting: &mut [u32; 192],
+    chip: &mut [u32],
+) -> Left
+    requires { ⌜ Chip-lent (geometry g) (now chip) × (q < pages (geometry g)) × (page ≡ translation-page (geometry g) logical) ⌝ }
+    requires { ⌜ (left .n < 64) × (length (now waiting) ≡ 192) ⌝ }
+    ensures { λ r. ⌜ Taken-out (geometry g) q t record { logical = logical; physical = physical } (left .n) (left .lowest)
+        (now (waiting .entry)) (now (chip .entry)) (r .n) (r .lowest) (now (waiting .exit)) (now (chip .exit))
+        ⊎ Stays (geometry g) t record { logical = logical; physical = physical } (left .n) (left .lowest)
+        (now (waiting .entry)) (now (chip .entry)) (r .n) (r .lowest) (now (waiting .exit)) (now (chip .exit)) ⌝ }
 {
     if page == t {
-        set_word(g, q, l, place, chip);
+        set_word(g, q, logical, physical, chip);
+        return left;
+    }
+    put_behind(left.n, logical, physical, page, waiting);
+    Left {
+        n: left.n + 1,
+        lowest: lower(left.lowest, page),
     }
 }
 
-// There, the words of all that waits for translation page t.
-pub(crate) fn set_words(
+// There, the words of all that waits for translation page t, which is taken out: the others are left, in their order.
+pub(crate) fn take_words(
     g: Geometry,
     q: u32,
     t: u32,
     n: usize,
-    waiting: &[u32; 192],
+    m: u32,
+    waiting: &mut [u32; 192],
     chip: &mut [u32],
-)
+) -> Left
     requires { ⌜ Chip-lent (geometry g) (now chip) × (q < pages (geometry g)) × Waits-in (geometry g) n (now waiting) ⌝ }
     ensures { λ _. ⌜ now (chip .exit) ≡ sets (now (chip .entry)) (q * g .w)
         (set-words (geometry g) (of-page (geometry g) t (first-moves n (now (waiting .entry)))) (words-of (geometry g) q (now (chip .entry)))) ⌝ }
+    ensures { λ r. ⌜ Left-after (geometry g) t m n (now (waiting .entry)) (r .n) (r .lowest) (now (waiting .exit)) ⌝ }
 {
+    let mut left = Left { n: 0, lowest: m };
     let mut i = 0;
     while i < n {
-        set_if_of(
-            g,
-            q,
-            t,
-            waiting[i * 3 + 2],
-            waiting[i * 3],
-            waiting[i * 3 + 1],
-            chip,
-        );
+        let logical = waiting[i * 3];
+        let physical = waiting[i * 3 + 1];
+        let page = waiting[i * 3 + 2];
+        left = take(left, g, q, t, logical, physical, page, waiting, chip);
         i += 1;
     }
+    left
 }
 
-// The lower of two translation pages, where the second is not below `from`.
-fn nearer(best: u32, from: u32, t: u32) -> u32
-    ensures { λ r. ⌜ r ≡ nearer best from t ⌝ }
-{
-    if t < from {
-        return best;
-    }
-    if t < best { t } else { best }
-}
-
-// The lowest translation page from `from` on for which something waits; m where there is none below m.
-pub(crate) fn next_touched(n: usize, waiting: &[u32; 192], from: u32, m: u32) -> u32
-    requires { ⌜ (n ≤ 64) × (from ≤ m) ⌝ }
+// The lowest translation page for which something waits; m where there is none below m.
+pub(crate) fn lowest(n: usize, waiting: &[u32; 192], m: u32) -> u32
+    requires { ⌜ n ≤ 64 ⌝ }
     ensures { λ r. ⌜ ((g : Geometry) → Waits-in (geometry g) n (now (waiting .entry))
-        → Next-touched (geometry g) (first-moves n (now (waiting .entry))) from m r) ⌝ }
+        → Lowest (geometry g) (first-moves n (now (waiting .entry))) m r) ⌝ }
 {
     let mut best = m;
     let mut i = 0;
     while i < n {
-        best = nearer(best, from, waiting[i * 3 + 2]);
+        best = lower(best, waiting[i * 3 + 2]);
         i += 1;
     }
     best

@@ -17,6 +17,7 @@ use Rattle.cache.specs.Ranks.{rank-found}
 use Rattle.lent.specs.declared.Work.{Work}
 use Rattle.lent.specs.Shapes.{Does-flash, Does-by-chip, Does-cache}
 use Rattle.words.specs.Filter.{Filter}
+use Rattle.entries.specs.Entries.{Different, different-placed}
 use Rattle.entries.specs.Filter.{filter-moved, filter-forgotten, filter-placed}
 
 -- A page that was found is cached.
@@ -51,6 +52,16 @@ module _ {cache cache′ filter : List ℕ} {w : Work} (f : Filter cache (w .rec
   placed-filter i place does =
       subst (λ (x : List ℕ). Filter x (w .rec .used) filter) (ap (λ (s : State). s .cache) (does some-state .after))
       (filter-placed f i place)
+
+-- The logical pages in the cache still differ.
+pub different-still : (cache : List ℕ) {n m : ℕ} → m ≡ n → Different cache n → Different cache m
+different-still cache e different = subst (λ (k : ℕ). Different cache k) (sym e) different
+
+pub placed-different : {cache cache′ : List ℕ} {w : Work} → Different cache (w .rec .used) → (i place : ℕ)
+    → Does-cache (set-entry i place) cache w tt cache′ w → Different cache′ (w .rec .used)
+unfolding set-entry set-cache
+placed-different {cache} {w = w} different i place does =
+    subst (λ (x : List ℕ). Different x (w .rec .used)) (ap (λ (s : State). s .cache) (does [] [] [] .after)) (different-placed cache different i place)
 
 -- Flash's steps leave the number of entries in use.
 module _ (g : Geometry) {chip spare chip′ spare′ : List ℕ} {w w′ : Work} where

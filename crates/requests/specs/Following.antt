@@ -1,11 +1,10 @@
 -- What follows the moves of a collection in the data region: an entry that takes the new place, or one more that waits behind those that
 -- wait already, in the words of moves that are followed.
 use Prim.Native.Nat.{ℕ, _+_, _*_, _≤_, _<_}
-use mathlib.Core.Path.{_≡_, refl, sym, ap, _∙_}
+use mathlib.Core.Path.{_≡_, refl, sym, _∙_}
 use mathlib.Core.List.{List, [], _∷_, _++_, append-nil}
 use native.Mathlib.Omega.{arith}
-use lib.ListN.{length, getD, set, length-set}
-use lib.Seq.{getD-set-same, getD-set-other}
+use lib.ListN.{getD}
 use borrow.Author.Tests.{lt-ltb, le-ltb}
 use Rattle.scope.specs.Geometry.{Geometry}
 use Rattle.scope.specs.Lent.{Mapping, translation-page}
@@ -13,14 +12,13 @@ use Rattle.scope.specs.Sound.{rank-of}
 use Rattle.scope.specs.Operations.{Step}
 use Rattle.scope.specs.Cache.{set-entry}
 use Rattle.scope.specs.Steps.{cache-or-wait, cache-follows}
-use Rattle.flash.specs.Cases.{last}
 use Rattle.region.specs.Apart.{follow-each, cache-apart}
 use Rattle.lent.specs.declared.Work.{Work}
 use Rattle.lent.specs.DoesLaws.{does-value, does-give, does-look-at, does-bind, does-cond-true, does-cond-false}
 use Rattle.lent.specs.Shapes.{Does-cache}
-use Rattle.copying.specs.Moves.{move-at, first-moves, no-moves, one-more, Stored-move, two-stored, third-stored, stored-more}
+use Rattle.copying.specs.Moves.{move-at, first-moves, no-moves, one-more}
 use Rattle.copying.specs.Choice.{follow-none-does, follow-more-does}
-use Rattle.index.specs.Moves.{Waits-in}
+use Rattle.index.specs.Moves.{Waits-in, Moves-ahead, waits-too, wait-more, still-waits-in, one-ahead}
 
 -- What is to wait of a step stands behind what waits already.
 pub record Does-waiting (m : Step (List Mapping)) (cache : List ℕ) (w : Work) (waiting waiting′ : List Mapping) (cache′ : List ℕ) : Type 0 where
@@ -28,59 +26,19 @@ pub record Does-waiting (m : Step (List Mapping)) (cache : List ℕ) (w : Work) 
   pub does : Does-cache m cache w more cache′ w
   pub waits : waiting′ ≡ waiting ++ more
 
--- ---- one that waits, in the words of the array
-
--- Where n waited, at most one more waits, and the words behind its own stay.
-pub record Moves-ahead (n n′ : ℕ) (words words′ : List ℕ) : Type 0 where
-  pub most : n′ ≤ n + 1
-  pub behind : (j : ℕ) → n * 3 + 3 ≤ j → getD words′ j 0 ≡ getD words j 0
-
-pub all-ahead : {n : ℕ} {words : List ℕ} → Moves-ahead n n words words
-all-ahead = record { most = omega arith; behind = λ j h. refl }
-
--- The words of one more behind n others, and its translation page t.
-abbrev pub waits-too : ℕ → ℕ → ℕ → ℕ → List ℕ → List ℕ
-waits-too n l p t waiting = set (set (set waiting (n * 3) l) (n * 3 + 1) p) (n * 3 + 2) t
-
-module _ (waiting : List ℕ) (n l p t : ℕ) where
-  pub one-ahead : Moves-ahead n (n + 1) waiting (waits-too n l p t waiting)
-  one-ahead =
-      record {
-        most = omega arith;
-        behind = λ j h. getD-set-other (set (set waiting (n * 3) l) (n * 3 + 1) p) (n * 3 + 2) j t 0 (omega arith)
-            ∙ getD-set-other (set waiting (n * 3) l) (n * 3 + 1) j p 0 (omega arith)
-            ∙ getD-set-other waiting (n * 3) j l 0 (omega arith);
-      }
-
-  module _ (room : n * 3 + 3 ≤ length waiting) where
-    stored : Stored-move n l p waiting (waits-too n l p t waiting)
-    stored = third-stored t (two-stored n l p waiting room)
-
-    pub wait-more : first-moves (n + 1) (waits-too n l p t waiting) ≡ first-moves n waiting ++ record { logical = l; physical = p } ∷ []
-    wait-more = stored-more stored
-
-    its-page : getD (waits-too n l p t waiting) (n * 3 + 2) 0 ≡ t
-    its-page = getD-set-same (set (set waiting (n * 3) l) (n * 3 + 1) p) (n * 3 + 2) t 0
-        (omega (arith, length-set (set waiting (n * 3) l) (n * 3 + 1) p, length-set waiting (n * 3) l))
-
-pub still-waits-in : {g : Geometry} {n : ℕ} {waiting : List ℕ} → Waits-in g n waiting → n < 64 → (l p : ℕ)
-    → Waits-in g (n + 1) (waits-too n l p (translation-page g l) waiting)
-still-waits-in {g} {n} {waiting} waits few l p =
+-- One more waits, in the words behind n others.
+pub one-waits : {g : Geometry} {n : ℕ} {waiting waiting′ : List ℕ} → Waits-in g n waiting → n < 64 → (l p : ℕ)
+    → waiting′ ≡ waits-too n l p (translation-page g l) waiting
+    → (first-moves (n + 1) waiting′ ≡ first-moves n waiting ++ record { logical = l; physical = p } ∷ [])
+    × Waits-in g (n + 1) waiting′
+    × Moves-ahead n (n + 1) waiting waiting′
+one-waits {g} {n} {waiting} waits few l p stored =
     let t : ℕ = translation-page g l in
-    let room : n * 3 + 3 ≤ length waiting = omega (arith, waits .long) in
-    let s = stored waiting n l p t room in
-    record {
-      long = s .as-long ∙ waits .long;
-      few = omega arith;
-      of-pages = λ i h. last i n (omega arith)
-          (λ before. s .before (i * 3 + 2) (omega arith)
-          ∙ waits .of-pages i before
-          ∙ ap (translation-page g) (sym (s .before (i * 3) (omega arith))))
-          (λ e. rw e (its-page waiting n l p t room ∙ ap (translation-page g) (sym (s .its-logical))));
-    }
-
-pub none-wait-in : {g : Geometry} {waiting : List ℕ} → length waiting ≡ 192 → Waits-in g 0 waiting
-none-wait-in long = record { long = long; few = omega arith; of-pages = λ i h. absurd (omega arith) }
+    rw stored (
+      wait-more waiting n l p t (omega (arith, waits .long)),
+      still-waits-in waits few l p,
+      one-ahead waiting n l p t,
+    )
 
 -- ---- what follows a moved page
 

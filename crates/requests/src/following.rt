@@ -1,7 +1,8 @@
 // What follows the moves of a collection in the data region: the entry of a cached owner takes the new place, and the others wait. These
 // are gathered at the front of the array of moves, in the words of moves that have been followed.
-use entries::rank_of;
+use entries::rank_from_last;
 use entries::set_entry;
+use index::touched::put_behind;
 use lent::FILTER_WORDS;
 use lent::Geometry;
 use lent::Work;
@@ -15,10 +16,10 @@ ghost use Rattle.region.specs.Apart.{follow-each};
 ghost use Rattle.lent.specs.Model.{geometry};
 ghost use Rattle.lent.specs.Shapes.{Does-cache};
 ghost use Rattle.words.specs.Filter.{Filter};
-ghost use Rattle.entries.specs.Entries.{Cache-lent};
+ghost use Rattle.entries.specs.Entries.{Cache-lent, Different};
 ghost use Rattle.copying.specs.Moves.{first-moves};
-ghost use Rattle.index.specs.Moves.{Waits-in};
-ghost use Rattle.requests.specs.Following.{Does-waiting, Moves-ahead};
+ghost use Rattle.index.specs.Moves.{Waits-in, Moves-ahead};
+ghost use Rattle.requests.specs.Following.{Does-waiting};
 
 // One more waits, behind n others, with its translation page.
 fn wait(g: Geometry, n: usize, logical: u32, physical: u32, waiting: &mut [u32; 192]) -> usize
@@ -29,9 +30,7 @@ fn wait(g: Geometry, n: usize, logical: u32, physical: u32, waiting: &mut [u32; 
     ensures { λ r. ⌜ Waits-in (geometry g) r (now (waiting .exit)) ⌝ }
     ensures { λ r. ⌜ Moves-ahead n r (now (waiting .entry)) (now (waiting .exit)) ⌝ }
 {
-    waiting[n * 3] = logical;
-    waiting[n * 3 + 1] = physical;
-    waiting[n * 3 + 2] = logical / g.w;
+    put_behind(n, logical, physical, logical / g.w, waiting);
     n + 1
 }
 
@@ -48,15 +47,17 @@ fn follow(
 ) -> usize
     requires { ⌜ Accepted (geometry g) × Cache-lent (geometry g) (now cache) (work .rec .used) × (n < 64) ⌝ }
     requires { ⌜ Filter (now cache) (work .rec .used) (now filter) ⌝ }
+    requires { ⌜ Different (now cache) (work .rec .used) ⌝ }
     requires { ⌜ Waits-in (geometry g) n (now waiting) ⌝ }
     ensures { λ r. ⌜ Does-waiting (cache-or-wait (geometry g) l page) (now (cache .entry)) work
         (first-moves n (now (waiting .entry))) (first-moves r (now (waiting .exit))) (now (cache .exit)) ⌝ }
     ensures { λ _. ⌜ Filter (now (cache .exit)) (work .rec .used) (now (filter .entry)) ⌝ }
+    ensures { λ _. ⌜ Different (now (cache .exit)) (work .rec .used) ⌝ }
     ensures { λ r. ⌜ Waits-in (geometry g) r (now (waiting .exit)) ⌝ }
     ensures { λ r. ⌜ Moves-ahead n r (now (waiting .entry)) (now (waiting .exit)) ⌝ }
 {
     let rec = work.rec;
-    let i = rank_of(rec, g, l, cache, filter);
+    let i = rank_from_last(rec, g, l, cache, filter);
     if i < g.c as usize {
         set_entry(i, page, cache);
         return n;
@@ -75,6 +76,7 @@ pub(crate) fn follow_moves(
 ) -> usize
     requires { ⌜ Accepted (geometry g) × Cache-lent (geometry g) (now cache) (work .rec .used) × (n ≤ 64) ⌝ }
     requires { ⌜ Filter (now cache) (work .rec .used) (now filter) ⌝ }
+    requires { ⌜ Different (now cache) (work .rec .used) ⌝ }
     requires { ⌜ length (now moves) ≡ 192 ⌝ }
     ensures { λ r. ⌜ Does-cache (follow-each (cache-follows (geometry g)) (first-moves n (now (moves .entry)))) (now (cache .entry)) work
         (first-moves r (now (moves .exit))) (now (cache .exit)) work ⌝ }

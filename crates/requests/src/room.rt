@@ -46,7 +46,16 @@ fn collect(
     let moved = copied.work;
     let n = copied.n;
     let waiting = follow_moves(n, g, moved, cache, filter, &mut moves);
-    let settled = settle(moved, g, waiting, &moves, chip, spare, census, directory);
+    let settled = settle(
+        moved,
+        g,
+        waiting,
+        &mut moves,
+        chip,
+        spare,
+        census,
+        directory,
+    );
     erase(settled, g, v, chip, spare, census)
 }
 

@@ -1,4 +1,4 @@
--- `index::settle` meets its contract: t is always the next translation page that something waits for.
+-- `index::settle` meets its contract: what is left waits for the translation pages from the lowest of them on.
 use native.Mathlib.Omega.{arith}
 use mathlib.Core.Path.{_≡_, refl, sym, _∙_}
 use Prim.Native.Nat.{_-_}
@@ -7,95 +7,97 @@ use Rattle.lent.specs.Model.{geometry}
 use Rattle.words.specs.Census.{Census}
 use Rattle.copying.specs.Moves.{first-moves}
 use Rattle.index.specs.Index.{lists}
+use Rattle.index.specs.Moves.{Waits-in}
+use Rattle.index.specs.Taking.{lowest-rises}
 use Rattle.index.specs.Settling.{M-small, Settling, settle-starts, settle-next, settle-goes-on, settle-ends}
 use Rattle.index.proofs.settle.Statement.{statement}
 use Rattle.index.proofs.settle.Tie as tie
 
 abbrev Inv-loop : tie.InvT-loop
-Inv-loop g n waiting chip₀ spare₀ census₀ directory₀ m settled₀ t₀ chip spare census directory settled t =
-    Settling (geometry g) (first-moves n waiting) (lists chip₀ spare₀ directory₀) settled₀ m t (lists chip spare directory) settled
+Inv-loop g n waiting₀ chip₀ spare₀ census₀ directory₀ m t settled₀ waiting chip spare census directory settled =
+    Settling (geometry g) (first-moves n waiting₀) (first-moves (settled .left .n) waiting) (lists chip₀ spare₀ directory₀) (settled₀ .work)
+    m (settled .left .lowest) (lists chip spare directory) (settled .work)
+    × Waits-in (geometry g) (settled .left .n) waiting
     × Census (geometry g) spare census
     × (length census ≡ length census₀)
 
 abbrev μ-loop : tie.MeasureT-loop
-μ-loop g n waiting chip₀ spare₀ census₀ directory₀ m settled₀ t₀ chip spare census directory settled t = m - t
+μ-loop g n waiting₀ chip₀ spare₀ census₀ directory₀ m t settled₀ waiting chip spare census directory settled = m - settled .left .lowest
+
+-- The places: where all begins, the turn, and the call in it.
+abbrev start : tie.At-loop Inv-loop μ-loop → tie.Start Inv-loop μ-loop
+start c = c .before .before .before .before .before .before .before
+
+abbrev turn : tie.After-update-page Inv-loop μ-loop → tie.Then1 Inv-loop μ-loop
+turn c = c .before .before .before .before .before .before
+
+abbrev updated : tie.After-slice-known8 Inv-loop μ-loop → tie.After-update-page Inv-loop μ-loop
+updated c = c .before .before .before .before .before .before .before .before
 
 cast-m : tie.Need-cast-m Inv-loop μ-loop
 cast-m c =
     let ready = c .before .before .before .before .pre .0 in
     omega (arith, M-small (ready .lent .accepted), ready .lent .directory-fits)
 
-next-touched-requires : tie.Need-next-touched-requires Inv-loop μ-loop
-next-touched-requires c κs =
-    let start = c .before .before .before .before in
-    (start .pre .1 .1 .few, omega arith)
+lowest-requires : tie.Need-lowest-requires Inv-loop μ-loop
+lowest-requires c κs = c .before .before .before .before .before .pre .1 .1 .few
 
 loop-holds : tie.Need-loop-holds Inv-loop μ-loop
 loop-holds c =
-    let start = c .before .before .before .before .before in
-    (settle-starts (start .pre .0) refl (c .next-touched .ensures (start .args .g) (start .pre .1 .1)), start .pre .1 .0, refl)
+    let begun = c .before .before .before .before .before .before in
+    let pre = begun .pre in
+    (settle-starts (pre .0) refl (c .lowest .ensures (begun .args .g) (pre .1 .1)), pre .1 .1, pre .1 .0, refl)
 
 update-page-requires : tie.Need-update-page-requires Inv-loop μ-loop
 update-page-requires c κs =
-    let tested = c .before .before .before .before in
-    let at-loop = tested .before in
-    let start = at-loop .before .before .before .before .before .before in
-    (settle-next (start .pre .0) (at-loop .loop .inv .0) (tested .loop-test .taken), (at-loop .loop .inv .1, start .pre .1 .1))
-
-add-next-touched : tie.Need-add-next-touched Inv-loop μ-loop
-add-next-touched c =
-    let tested = c .before .before .before .before .before .before .before .before .before .before .before .before .before in
-    let ready = tested .before .before .before .before .before .before .before .pre .0 in
-    omega (arith, M-small (ready .lent .accepted), ready .lent .directory-fits, tested .loop-test .taken)
-
-next-touched-requires-2 : tie.Need-next-touched-requires-2 Inv-loop μ-loop
-next-touched-requires-2 c κs =
-    let tested = c .before .before .before .before .before .before .before .before .before .before .before .before .before in
-    let start = tested .before .before .before .before .before .before .before in
-    (start .pre .1 .1 .few, omega (arith, tested .loop-test .taken))
+    let tested = c .before .before .before .before .before in
+    let at = tested .before .before in
+    let inv = at .loop .inv in
+    (settle-next (start at .pre .0) (inv .0) (tested .if1 .taken), (inv .2, inv .1))
 
 loop-less : tie.Need-loop-less Inv-loop μ-loop
 loop-less c =
-    let tested = c .before .before .before .before .before .before .before .before .before .before .before .before .before .before in
-    let start = tested .before .before .before .before .before .before .before in
-    let next = c .next-touched2 .ensures (start .args .g) (start .pre .1 .1) in
-    omega (arith, next .from-there, next .up-to, tested .loop-test .taken)
+    let tested = turn (updated c) in
+    let left = updated c .update-page .ensures .1 .1 in
+    omega (arith, lowest-rises (tested .before .before .loop .inv .0 .low) (tested .if1 .taken) (left .rest) (left .low), tested .if1 .taken)
 
 loop-again : tie.Need-loop-again Inv-loop μ-loop
 loop-again c =
-    let updated = c .before .before .before .before .before .before .before .before .before in
-    let tested = updated .before .before .before .before .before in
-    let at-loop = tested .before in
-    let inv = at-loop .loop .inv in
-    let start = at-loop .before .before .before .before .before .before in (
-      settle-goes-on (start .pre .0) (inv .0) (tested .loop-test .taken) (updated .update-page .ensures .0)
-          (c .next-touched2 .ensures (start .args .g) (start .pre .1 .1)),
-      updated .update-page .ensures .1,
-      updated .update-page .kept .1 .1 .1 .1 .1 .1 .1 .0 ∙ inv .2,
+    let done = updated c .update-page in
+    let left = done .ensures .1 .1 in
+    let tested = turn (updated c) in
+    let at = tested .before .before in
+    let inv = at .loop .inv in (
+      settle-goes-on (start at .pre .0) (inv .0) (tested .if1 .taken) (done .ensures .0) (left .rest) (left .low),
+      left .waits,
+      done .ensures .1 .0,
+      omega (arith, done .kept, inv .3),
     )
 
 same-length : tie.Need-same-length Inv-loop μ-loop
 same-length c =
-    let at-loop = c .before in
-    at-loop .loop .inv .0 .so-far .lent .chip-fits ∙ sym (at-loop .before .before .before .before .before .before .pre .0 .lent .chip-fits)
+    let at = c .before .before .before in
+    at .loop .inv .0 .so-far .lent .chip-fits ∙ sym (start at .pre .0 .lent .chip-fits)
 
 same-length-2 : tie.Need-same-length-2 Inv-loop μ-loop
 same-length-2 c =
-    let at-loop = c .before in
-    at-loop .loop .inv .0 .so-far .lent .spare-fits ∙ sym (at-loop .before .before .before .before .before .before .pre .0 .lent .spare-fits)
+    let at = c .before .before .before in
+    at .loop .inv .0 .so-far .lent .spare-fits ∙ sym (start at .pre .0 .lent .spare-fits)
 
 same-length-3 : tie.Need-same-length-3 Inv-loop μ-loop
-same-length-3 c = c .before .loop .inv .2
+same-length-3 c = c .before .before .before .loop .inv .3
 
 same-length-4 : tie.Need-same-length-4 Inv-loop μ-loop
 same-length-4 c =
-    let at-loop = c .before in
-    at-loop .loop .inv .0 .so-far .lent .directory-fits ∙ sym (at-loop .before .before .before .before .before .before .pre .0 .lent .directory-fits)
+    let at = c .before .before .before in
+    at .loop .inv .0 .so-far .lent .directory-fits ∙ sym (start at .pre .0 .lent .directory-fits)
 
 returns : tie.Need-returns Inv-loop μ-loop
 returns c =
-    let inv = c .before .loop .inv in
-    (settle-ends (c .before .before .before .before .before .before .before .pre .0) (inv .0) (c .loop-test .left), inv .1)
+    let left = c .before in
+    let at = left .before .before in
+    let inv = at .loop .inv in
+    (settle-ends (start at .pre .0) (inv .0) (left .if1 .left), inv .2)
 
 pub settle-spec : {M : Type 1} → statement M
 settle-spec =
@@ -104,11 +106,9 @@ settle-spec =
     Inv-loop
     μ-loop
     cast-m
-    next-touched-requires
+    lowest-requires
     loop-holds
     update-page-requires
-    add-next-touched
-    next-touched-requires-2
     loop-less
     loop-again
     same-length

@@ -2,13 +2,14 @@
 use native.Mathlib.Omega.{arith}
 use borrow.Author.Needs.{needs}
 use Rattle.lent.specs.Model.{geometry}
-use Rattle.requests.specs.Following.{entry-follows, page-waits, all-ahead}
-use Rattle.requests.specs.Filtered.{placed-filter}
+use Rattle.index.specs.Moves.{all-ahead}
+use Rattle.requests.specs.Following.{entry-follows, page-waits}
+use Rattle.requests.specs.Filtered.{placed-filter, placed-different}
 use Rattle.requests.proofs.following.follow.Statement.{statement}
 use Rattle.requests.proofs.following.follow.Tie as tie
 
-rank-of-requires : tie.Need-rank-of-requires
-rank-of-requires c κs = let start = c .before .before .before in (start .pre .0 .1, start .pre .1 .0)
+rank-from-last-requires : tie.Need-rank-from-last-requires
+rank-from-last-requires c κs = let pre = c .before .before .before .pre in (pre .0 .1, (pre .1 .0, pre .1 .1 .0))
 
 cast-if1 : tie.Need-cast-if1
 cast-if1 c = search needs
@@ -25,17 +26,20 @@ returns c =
     let found = c .before .before .before .before .before .before in
     let start = found .before .before .before .before in
     let a = start .args in
-    let is-rank = found .rank-of .ensures .1 in
+    let is-rank = found .rank-from-last .ensures .1 in
     let below = c .before .before .before .before .if1 .taken in
     let sets = c .before .before .set-entry .ensures (a .work) in (
       entry-follows (geometry (a .g)) (a .l) (a .page) is-rank below sets,
-      (placed-filter (start .pre .1 .0) (found .rank-of .result) (a .page) sets, (start .pre .1 .1, all-ahead)),
+      (
+        placed-filter (start .pre .1 .0) (found .rank-from-last .result) (a .page) sets,
+        (placed-different (start .pre .1 .1 .0) (found .rank-from-last .result) (a .page) sets, (start .pre .1 .1 .1, all-ahead)),
+      ),
     )
 
 wait-requires : tie.Need-wait-requires
 wait-requires c κs =
     let start = c .before .before .before .before .before .before .before in
-    ((start .pre .0 .0, start .pre .0 .2), start .pre .1 .1)
+    ((start .pre .0 .0, start .pre .0 .2), start .pre .1 .1 .1)
 
 same-length-2 : tie.Need-same-length-2
 same-length-2 c = search needs
@@ -44,16 +48,16 @@ returns-2 : tie.Need-returns-2
 returns-2 c =
     let start = c .before .before .before .before .before .before .before .before in
     let a = start .args in (
-      page-waits (geometry (a .g)) (a .l) (a .page) (c .before .before .before .before .rank-of .ensures .1) (c .before .before .if1 .left)
+      page-waits (geometry (a .g)) (a .l) (a .page) (c .before .before .before .before .rank-from-last .ensures .1) (c .before .before .if1 .left)
           (c .wait .ensures .0),
-      (start .pre .1 .0, c .wait .ensures .1),
+      (start .pre .1 .0, (start .pre .1 .1 .0, c .wait .ensures .1)),
     )
 
 pub follow-spec : {M : Type 1} → statement M
 follow-spec =
     tie.close
     (tie.spec
-    rank-of-requires
+    rank-from-last-requires
     cast-if1
     set-entry-requires
     same-length

@@ -6,8 +6,9 @@ use lib.ListN.{length}
 use borrow.Author.Needs.{needs}
 use Rattle.words.specs.Filter.{Filter}
 use Rattle.lent.specs.Model.{geometry}
-use Rattle.index.specs.Moves.{Waits-in}
-use Rattle.requests.specs.Following.{Followed-upto, none-followed, one-followed, none-wait-in}
+use Rattle.entries.specs.Entries.{Different}
+use Rattle.index.specs.Moves.{Waits-in, none-wait-in}
+use Rattle.requests.specs.Following.{Followed-upto, none-followed, one-followed}
 use Rattle.requests.proofs.following.follow_moves.Statement.{statement}
 use Rattle.requests.proofs.following.follow_moves.Tie as tie
 
@@ -15,6 +16,7 @@ abbrev Inv-loop : tie.InvT-loop
 Inv-loop n g work cache₀ filter moves₀ waiting₀ i₀ cache moves waiting i =
     Followed-upto (geometry g) n i waiting cache₀ moves₀ work cache moves
     × Filter cache (work .rec .used) filter
+    × Different cache (work .rec .used)
     × Waits-in (geometry g) waiting moves
     × (length cache ≡ length cache₀)
 
@@ -33,7 +35,7 @@ lies : (c : tie.In-loop Inv-loop μ-loop) → c .before .loop .i * 3 + 3 ≤ 192
 lies c = omega (arith, c .loop-test .taken, start (c .before) .pre .0)
 
 loop-holds : tie.Need-loop-holds Inv-loop μ-loop
-loop-holds c = let pre = c .before .pre in (none-followed, pre .1 .0, none-wait-in (pre .1 .1), refl)
+loop-holds c = let pre = c .before .pre in (none-followed, pre .1 .0, pre .1 .1 .0, none-wait-in (pre .1 .1 .1), refl)
 
 mul-l : tie.Need-mul-l Inv-loop μ-loop
 mul-l c = omega (arith, lies c)
@@ -63,10 +65,10 @@ follow-requires c κs =
     let pre = start (at .before) .pre .0 in (
       (
         pre .0,
-        record { cache-fits = inv .3 ∙ pre .1 .cache-fits; used-to = pre .1 .used-to },
+        record { cache-fits = inv .4 ∙ pre .1 .cache-fits; used-to = pre .1 .used-to },
         omega (arith, inv .0 .most, at .loop-test .taken, pre .2),
       ),
-      (inv .1, inv .2),
+      (inv .1, (inv .2, inv .3)),
     )
 
 add-i : tie.Need-add-i Inv-loop μ-loop
@@ -80,14 +82,15 @@ loop-again c =
     let done = c .before .before .follow in
     let at = turn (c .before .before) in
     let inv = at .before .loop .inv in (
-      one-followed (inv .0) (at .loop-test .taken) (done .ensures .0) (done .ensures .1 .1 .1),
+      one-followed (inv .0) (at .loop-test .taken) (done .ensures .0) (done .ensures .1 .1 .1 .1),
       done .ensures .1 .0,
       done .ensures .1 .1 .0,
-      done .kept .1 .1 .1 .1 .1 .0 ∙ inv .3,
+      done .ensures .1 .1 .1 .0,
+      done .kept .1 .1 .1 .1 .1 .0 ∙ inv .4,
     )
 
 same-length : tie.Need-same-length Inv-loop μ-loop
-same-length c = c .before .loop .inv .3
+same-length c = c .before .loop .inv .4
 
 returns : tie.Need-returns Inv-loop μ-loop
 returns c =
@@ -97,7 +100,7 @@ returns c =
     let end : left .i ≡ a .n = omega (arith, inv .0 .upto) in (
       subst (λ (k : ℕ). Followed-upto (geometry (a .g)) (a .n) k (left .waiting) (a .cache .now) (a .moves .now) (a .work) (left .cache) (left .moves))
           end (inv .0) .does,
-      (inv .1, inv .2),
+      (inv .1, inv .3),
     )
 
 pub follow-moves-spec : {M : Type 1} → statement M

@@ -4,7 +4,7 @@ use native.Mathlib.Omega.{arith}
 use Rattle.lent.specs.Model.{geometry}
 use Rattle.copying.specs.Choice.{start-keeps-used}
 use Rattle.requests.specs.Collecting.{start-ready, settle-ready, settled-keeps-used, erase-ready, collected-does}
-use Rattle.requests.specs.Filtered.{filter-still, erase-keeps-used}
+use Rattle.requests.specs.Filtered.{filter-still, different-still, erase-keeps-used}
 use Rattle.requests.proofs.room.collect.Statement.{statement}
 use Rattle.requests.proofs.room.collect.Tie as tie
 
@@ -38,7 +38,7 @@ follow-moves-requires c κs =
         record { cache-fits = ready .lengths .cache-fits; used-to = omega (arith, used, ready .sound .rule-5 .at-most) },
         omega (arith, done .start .ensures .1 .0 .few, ready .accepted .P-to),
       ),
-      (filter-still used (pre .1 .1), done .start .ensures .1 .1 .1),
+      (filter-still used (pre .1 .1), (different-still (begun done .args .cache .now) used (ready .sound .rule-5 .different), done .start .ensures .1 .1 .1)),
     )
 
 settle-requires : tie.Need-settle-requires
