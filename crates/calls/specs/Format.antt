@@ -11,7 +11,7 @@ use Rattle.scope.specs.Operations.{Counts, no-counts}
 use Rattle.scope.specs.Replies.{DONE, first-applying, right-sizes}
 use Rattle.scope.specs.Requests.{format-steps}
 use Rattle.scope.specs.Calls.{state-sizes, size-tests, format}
-use Rattle.requests.specs.Fresh.{Sized}
+use Rattle.formatting.specs.Fresh.{Sized}
 use Rattle.scope.specs.Boundary.{put-counts}
 use Rattle.scope.specs.Contracts.{Answers}
 use Rattle.replies.specs.Answers.{does-answers, refuses, admits}

@@ -55,7 +55,7 @@ pub fn format(
         put_none(counts);
         return Out { answer, rec };
     }
-    let fresh = requests::fresh::format(g, chip, spare, directory, cache);
+    let fresh = formatting::format(g, chip, spare, directory, cache);
     put_counts(counts, fresh.counts);
     let new = fresh.rec;
     Out {

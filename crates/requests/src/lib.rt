@@ -1,6 +1,5 @@
-// Translate, room in the data region, read, write and format in code: each does its definition.
+// Translate, room in the data region, read and write in code: each does its definition.
 pub mod answers;
 pub mod following;
-pub mod fresh;
 pub mod room;
 pub mod translation;

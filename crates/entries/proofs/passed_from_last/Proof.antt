@@ -1,5 +1,5 @@
 -- `entries::passed_from_last` meets its contract: those from rank i on are passed.
-use Prim.Native.Nat.{_≤_}
+use Prim.Native.Nat.{_-_, _≤_}
 use native.Mathlib.Omega.{arith}
 use borrow.Author.Needs.{needs}
 use Rattle.flash.specs.Cases.{below?}

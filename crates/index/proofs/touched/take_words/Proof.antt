@@ -1,7 +1,7 @@
 -- `index::touched::take_words` meets its contract: the first i mappings are taken out or left.
 use native.Mathlib.Omega.{arith}
 use mathlib.Core.Path.{_≡_, subst}
-use Prim.Native.Nat.{ℕ, _+_, _-_, _*_, _≤_, _<_}
+use Prim.Native.Nat.{ℕ, _-_}
 use borrow.Author.Needs.{needs}
 use Rattle.lent.specs.Model.{geometry}
 use Rattle.steps.specs.Lies.{chip-still}

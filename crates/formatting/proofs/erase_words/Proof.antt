@@ -1,11 +1,11 @@
--- `requests::fresh::erase_words` meets its contract: a run as long as the list is all that is left of it.
+-- `formatting::erase_words` meets its contract: a run as long as the list is all that is left of it.
 use mathlib.Core.Path.{_∙_}
 use borrow.Author.Needs.{needs}
 use denote.Ref.{now}
 use lib.ListN.{length, length-replicate}
 use Rattle.words.specs.Runs.{sets-whole}
-use Rattle.requests.proofs.fresh.erase_words.Statement.{statement}
-use Rattle.requests.proofs.fresh.erase_words.Tie as tie
+use Rattle.formatting.proofs.erase_words.Statement.{statement}
+use Rattle.formatting.proofs.erase_words.Tie as tie
 
 fill-erased-requires : tie.Need-fill-erased-requires
 fill-erased-requires c κs = search needs

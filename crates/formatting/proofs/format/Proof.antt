@@ -1,11 +1,11 @@
--- `requests::fresh::format` meets its contract: what the erases of all blocks leave is what four runs of erased words leave.
+-- `formatting::format` meets its contract: what the erases of all blocks leave is what four runs of erased words leave.
 use mathlib.Core.Path.{refl}
 use borrow.Author.Needs.{needs}
 use denote.Ref.{now}
 use Rattle.lent.specs.Model.{geometry}
-use Rattle.requests.specs.Fresh.{format-does}
-use Rattle.requests.proofs.fresh.format.Statement.{statement}
-use Rattle.requests.proofs.fresh.format.Tie as tie
+use Rattle.formatting.specs.Fresh.{format-does}
+use Rattle.formatting.proofs.format.Statement.{statement}
+use Rattle.formatting.proofs.format.Tie as tie
 
 erase-words-requires : tie.Need-erase-words-requires
 erase-words-requires c κs = search needs

@@ -12,7 +12,7 @@ ghost use Rattle.lent.specs.Does.{Does};
 ghost use Rattle.scope.specs.Operations.{no-counts};
 ghost use Rattle.scope.specs.Replies.{DONE};
 ghost use Rattle.scope.specs.Requests.{format-steps};
-ghost use Rattle.requests.specs.Fresh.{Sized};
+ghost use Rattle.formatting.specs.Fresh.{Sized};
 
 // All words of a slice.
 fn erase_words(s: &mut [u32])

@@ -1,0 +1,2 @@
+-- That the runs of erased words are what format's steps leave.
+pub mod Fresh
