@@ -47,9 +47,11 @@ fn lower(best: u32, t: u32) -> u32
     if t < best { t } else { best }
 }
 
-// A mapping of translation page t: its word is set in the page at q. One of another page is left, behind those that are.
+// A mapping of translation page t: its word is set in the page at q. One of another page is left, behind the n that are. The two numbers
+// come apart: as a struct they would be read, each turn, in words wider than those just written (docs/DECISIONS.md).
 fn take(
-    left: Left,
+    n: usize,
+    lowest: u32,
     g: Geometry,
     q: u32,
     t: u32,
@@ -60,20 +62,22 @@ fn take(
     chip: &mut [u32],
 ) -> Left
     requires { ⌜ Chip-lent (geometry g) (now chip) × (q < pages (geometry g)) × (page ≡ translation-page (geometry g) logical) ⌝ }
-    requires { ⌜ (left .n < most-pages-in-block) × (length (now waiting) ≡ moves-words) ⌝ }
-    ensures { λ r. ⌜ Taken-out (geometry g) q t record { logical = logical; physical = physical } (left .n) (left .lowest)
+    requires { ⌜ (n < most-pages-in-block) × (length (now waiting) ≡ moves-words) ⌝ }
+    ensures { λ r. ⌜ Taken-out (geometry g) q t record { logical = logical; physical = physical } n lowest
         (now (waiting .entry)) (now (chip .entry)) (r .n) (r .lowest) (now (waiting .exit)) (now (chip .exit))
-        ⊎ Stays (geometry g) t record { logical = logical; physical = physical } (left .n) (left .lowest)
+        ⊎ Stays (geometry g) t record { logical = logical; physical = physical } n lowest
         (now (waiting .entry)) (now (chip .entry)) (r .n) (r .lowest) (now (waiting .exit)) (now (chip .exit)) ⌝ }
 {
     if page == t {
         set_word(g, q, logical, physical, chip);
-        return left;
+        return Left { n, lowest };
     }
-    put_behind(left.n, logical, physical, page, waiting);
+    put_behind(n, logical, physical, page, waiting);
+    let more = n + 1;
+    let less = lower(lowest, page);
     Left {
-        n: left.n + 1,
-        lowest: lower(left.lowest, page),
+        n: more,
+        lowest: less,
     }
 }
 
@@ -92,16 +96,19 @@ pub(crate) fn take_words(
         (set-words (geometry g) (of-page (geometry g) t (first-moves n (now (waiting .entry)))) (words-of (geometry g) q (now (chip .entry)))) ⌝ }
     ensures { λ r. ⌜ Left-after (geometry g) t m n (now (waiting .entry)) (r .n) (r .lowest) (now (waiting .exit)) ⌝ }
 {
-    let mut left = Left { n: 0, lowest: m };
+    let mut k = 0;
+    let mut best = m;
     let mut i = 0;
     while i < n {
         let logical = waiting[i * MOVE_WORDS];
         let physical = waiting[i * MOVE_WORDS + 1];
         let page = waiting[i * MOVE_WORDS + 2];
-        left = take(left, g, q, t, logical, physical, page, waiting, chip);
+        let left = take(k, best, g, q, t, logical, physical, page, waiting, chip);
+        k = left.n;
+        best = left.lowest;
         i += 1;
     }
-    left
+    Left { n: k, lowest: best }
 }
 
 // The lowest translation page for which something waits; m where there is none below m.
