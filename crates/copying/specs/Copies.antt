@@ -10,7 +10,7 @@ use native.Mathlib.Omega.{arith}
 use lib.Dec.{eqb}
 use lib.ListN.{length}
 use Rattle.scope.specs.Counting.{count}
-use Rattle.scope.specs.Geometry.{Geometry, pages}
+use Rattle.scope.specs.Geometry.{most-pages-in-block, Geometry, pages}
 use Rattle.scope.specs.Regions.{Region, owners, page-in}
 use Rattle.scope.specs.SmallRecord.{next-offset}
 use Rattle.scope.specs.Lent.{valid, State, Mapping, with-flash, is-valid}
@@ -76,7 +76,7 @@ pub record Page-to-copy (g : Geometry) (r : Region) (p : ℕ) (chip spare : List
   pub spare-lent : Spare-lent g spare
   pub on-chip : p < pages g
   pub next : Has-next g r (small (w .rec))
-  pub few : n < 64
+  pub few : n < most-pages-in-block
   pub countable : is-valid p spare ≡ true → Room-to-count 2 (w .counts)
 
 module _ (g : Geometry) (r : Region) (p : ℕ) {chip spare : List ℕ} {w : Work} where

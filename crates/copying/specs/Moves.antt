@@ -8,6 +8,7 @@ use native.Mathlib.Numerals.{add-one}
 use native.Mathlib.Omega.{arith}
 use lib.ListN.{length, getD, set, length-append, length-set}
 use lib.Seq.{getD-set-same, getD-set-other}
+use Rattle.scope.specs.Geometry.{most-pages-in-block}
 use Rattle.scope.specs.Lent.{Mapping}
 use Rattle.flash.specs.Cases.{last}
 use Rattle.cache.specs.Waiting.{Waits}
@@ -22,9 +23,16 @@ waits-last : (w : List Mapping) (m : Mapping) → Waits (w ++ m ∷ []) (m .logi
 waits-last [] m = inl refl
 waits-last (x ∷ w) m = inr (waits-last w m)
 
+-- The words of a move, and of as many as a block has pages at most.
+abbrev pub move-words : ℕ
+move-words = 3
+
+abbrev pub moves-words : ℕ
+moves-words = most-pages-in-block * move-words
+
 -- A move, and the first n of them.
 abbrev pub move-at : ℕ → List ℕ → Mapping
-move-at i moves = record { logical = getD moves (i * 3) 0; physical = getD moves (i * 3 + 1) 0 }
+move-at i moves = record { logical = getD moves (i * move-words) 0; physical = getD moves (i * move-words + 1) 0 }
 
 unfoldable pub first-moves : ℕ → List ℕ → List Mapping
 first-moves zero moves = []
@@ -45,7 +53,7 @@ module _ (moves : List ℕ) where
   moves-counted (suc n) = length-append (first-moves n moves) _ ∙ omega (arith, moves-counted n)
 
   -- Each of their owners is one that moved.
-  pub owner-waits : (n i : ℕ) → i < n → Waits (first-moves n moves) (getD moves (i * 3) 0)
+  pub owner-waits : (n i : ℕ) → i < n → Waits (first-moves n moves) (getD moves (i * move-words) 0)
   unfolding first-moves
   owner-waits zero i h = absurd (omega arith)
   owner-waits (suc n) i h =
@@ -58,35 +66,38 @@ module _ (moves : List ℕ) where
 -- What is stored for the move behind n others: the words before its own stay.
 pub record Stored-move (n l p : ℕ) (moves moves′ : List ℕ) : Type 0 where
   pub as-long : length moves′ ≡ length moves
-  pub before : (j : ℕ) → j < n * 3 → getD moves′ j 0 ≡ getD moves j 0
-  pub its-logical : getD moves′ (n * 3) 0 ≡ l
-  pub its-physical : getD moves′ (n * 3 + 1) 0 ≡ p
+  pub before : (j : ℕ) → j < n * move-words → getD moves′ j 0 ≡ getD moves j 0
+  pub its-logical : getD moves′ (n * move-words) 0 ≡ l
+  pub its-physical : getD moves′ (n * move-words + 1) 0 ≡ p
 
-first-stay : (n k : ℕ) (moves moves′ : List ℕ) → ((j : ℕ) → j < n * 3 → getD moves′ j 0 ≡ getD moves j 0) → k ≤ n
+first-stay : (n k : ℕ) (moves moves′ : List ℕ) → ((j : ℕ) → j < n * move-words → getD moves′ j 0 ≡ getD moves j 0) → k ≤ n
     → first-moves k moves′ ≡ first-moves k moves
 unfolding first-moves
 first-stay n zero moves moves′ same h = refl
 first-stay n (suc k) moves moves′ same h =
-    rw (first-stay n k moves moves′ same (omega arith), same (k * 3) (omega arith), same (k * 3 + 1) (omega arith)) refl
+    rw (first-stay n k moves moves′ same (omega arith), same (k * move-words) (omega arith), same (k * move-words + 1) (omega arith)) refl
 
 -- Its two words are stored; whatever is stored as its third leaves these.
-pub two-stored : (n l p : ℕ) (moves : List ℕ) → n * 3 + 3 ≤ length moves → Stored-move n l p moves (set (set moves (n * 3) l) (n * 3 + 1) p)
+pub two-stored : (n l p : ℕ) (moves : List ℕ) → n * move-words + move-words ≤ length moves
+    → Stored-move n l p moves (set (set moves (n * move-words) l) (n * move-words + 1) p)
 two-stored n l p moves room =
     record {
       as-long = simp length-set;
-      before = λ j h. getD-set-other (set moves (n * 3) l) (n * 3 + 1) j p 0 (omega arith) ∙ getD-set-other moves (n * 3) j l 0 (omega arith);
-      its-logical = getD-set-other (set moves (n * 3) l) (n * 3 + 1) (n * 3) p 0 (omega arith) ∙ getD-set-same moves (n * 3) l 0 (omega arith);
-      its-physical = getD-set-same (set moves (n * 3) l) (n * 3 + 1) p 0 (omega (arith, length-set moves (n * 3) l));
+      before = λ j h. getD-set-other (set moves (n * move-words) l) (n * move-words + 1) j p 0 (omega arith)
+          ∙ getD-set-other moves (n * move-words) j l 0 (omega arith);
+      its-logical = getD-set-other (set moves (n * move-words) l) (n * move-words + 1) (n * move-words) p 0 (omega arith)
+          ∙ getD-set-same moves (n * move-words) l 0 (omega arith);
+      its-physical = getD-set-same (set moves (n * move-words) l) (n * move-words + 1) p 0 (omega (arith, length-set moves (n * move-words) l));
     }
 
 pub third-stored : {n l p : ℕ} {moves moves′ : List ℕ} (t : ℕ) → Stored-move n l p moves moves′
-    → Stored-move n l p moves (set moves′ (n * 3 + 2) t)
+    → Stored-move n l p moves (set moves′ (n * move-words + 2) t)
 third-stored {n} {moves′ = moves′} t s =
     record {
-      as-long = length-set moves′ (n * 3 + 2) t ∙ s .as-long;
-      before = λ j h. getD-set-other moves′ (n * 3 + 2) j t 0 (omega arith) ∙ s .before j h;
-      its-logical = getD-set-other moves′ (n * 3 + 2) (n * 3) t 0 (omega arith) ∙ s .its-logical;
-      its-physical = getD-set-other moves′ (n * 3 + 2) (n * 3 + 1) t 0 (omega arith) ∙ s .its-physical;
+      as-long = length-set moves′ (n * move-words + 2) t ∙ s .as-long;
+      before = λ j h. getD-set-other moves′ (n * move-words + 2) j t 0 (omega arith) ∙ s .before j h;
+      its-logical = getD-set-other moves′ (n * move-words + 2) (n * move-words) t 0 (omega arith) ∙ s .its-logical;
+      its-physical = getD-set-other moves′ (n * move-words + 2) (n * move-words + 1) t 0 (omega arith) ∙ s .its-physical;
     }
 
 pub stored-more : {n l p : ℕ} {moves moves′ : List ℕ} → Stored-move n l p moves moves′

@@ -23,7 +23,7 @@ use Rattle.lent.specs.Does.{Does}
 use Rattle.lent.specs.DoesLaws.{does-bind}
 use Rattle.lent.specs.Shapes.{Does-flash, Does-by-spare, Room-to-count, room-after, less-room}
 use Rattle.steps.specs.Lies.{Chip-lent, Spare-lent}
-use Rattle.copying.specs.Moves.{first-moves, moves-counted, owner-waits}
+use Rattle.copying.specs.Moves.{move-words, first-moves, moves-counted, owner-waits}
 use Rattle.copying.specs.Choice.{To-collect, start-collect}
 use Rattle.copying.specs.Copies.{noted-view, Noted-owners, noting, flash-state, Copy-ready, Copied-upto}
 use Rattle.copying.specs.Copies.{copied-chip, copied-spare, copied-few, copied-owned, copied-room}
@@ -54,7 +54,7 @@ pub record Started (g : Geometry) (r : Region) (v n : ℕ) (moves chip spare : L
   pub spare-lent : Spare-lent g spare
   pub on-chip : v < blocks g
   pub few : n < g .P
-  pub owned : (i : ℕ) → i < n → getD moves (i * 3) 0 < owners g r
+  pub owned : (i : ℕ) → i < n → getD moves (i * move-words) 0 < owners g r
   pub room : (m : ℕ) → Room-to-count (m + 2 * (g .P - 1)) (w .counts) → Room-to-count m (w′ .counts)
 
 module _ {g : Geometry} {r : Region} {v : ℕ} {chip spare : List ℕ} {w w₁ : Work} (ready : Collect-ready g r v chip spare w)
@@ -102,6 +102,6 @@ module _ {g : Geometry} {r : Region} {v : ℕ} {chip spare : List ℕ} {w w₁ :
           spare-lent = copied-spare all copy-ready;
           on-chip = block-on-chip g r v (copy-ready .starts .in-region);
           few = omega (arith, copied-few all copy-ready, moves-counted moves n);
-          owned = λ i h. copied-owned all copy-ready (getD moves (i * 3) 0) (owner-waits moves n i h);
+          owned = λ i h. copied-owned all copy-ready (getD moves (i * move-words) 0) (owner-waits moves n i h);
           room = λ m counts. copied-room all copy-ready m (room-still _ counts);
         }

@@ -1,5 +1,5 @@
-// The start of a collection: the erased block is opened, and the victim's valid pages move there, in their order. Their moves, at most 64,
-// are noted in 192 words that are lent, three to a move: the owner, where the page has gone, and one that is the caller's to use.
+// The start of a collection: the erased block is opened, and the victim's valid pages move there, in their order. Their moves, as many as a
+// block has pages at most, are noted in words that are lent: the owner, where the page has gone, and one that is the caller's to use.
 use lent::Geometry;
 use lent::Region;
 use lent::Work;
@@ -13,10 +13,15 @@ ghost use Rattle.region.specs.Apart.{waits-all};
 ghost use Rattle.lent.specs.Model.{geometry, region};
 ghost use Rattle.lent.specs.Shapes.{Does-flash};
 ghost use Rattle.words.specs.Census.{Census};
-ghost use Rattle.copying.specs.Moves.{first-moves};
+ghost use Rattle.copying.specs.Moves.{moves-words, first-moves};
 ghost use Rattle.copying.specs.Choice.{start-collect};
 ghost use Rattle.copying.specs.Copies.{Page-to-copy, Does-noting, Copy-ready};
 ghost use Rattle.copying.specs.Starting.{Collect-ready, Started};
+
+// The words of a move, and of as many as a block has pages at most.
+pub const MOVE_WORDS: usize = 3;
+
+pub const MOVES_WORDS: usize = 64 * MOVE_WORDS;
 
 // How many moves are noted, beside what travels by value.
 pub struct Copied {
@@ -33,16 +38,16 @@ fn copy_if_valid(
     chip: &mut [u32],
     spare: &mut [u32],
     census: &mut [u32],
-    moves: &mut [u32; 192],
+    moves: &mut [u32; MOVES_WORDS],
 ) -> Copied
     requires { ⌜ Page-to-copy (geometry g) (region r) page (now chip) (now spare) (copied .work) (copied .n) ⌝ }
     requires { ⌜ Census (geometry g) (now spare) (now census) ⌝ }
-    requires { ⌜ length (now moves) ≡ 192 ⌝ }
+    requires { ⌜ length (now moves) ≡ moves-words ⌝ }
     ensures { λ x. ⌜ Does-noting (move-if-valid (geometry g) (region r) waits-all page)
         (now (chip .entry)) (now (spare .entry)) (copied .work) (first-moves (copied .n) (now (moves .entry)))
         (first-moves (x .n) (now (moves .exit))) (now (chip .exit)) (now (spare .exit)) (x .work) ⌝ }
     ensures { λ _. ⌜ Census (geometry g) (now (spare .exit)) (now (census .exit)) ⌝ }
-    ensures { λ _. ⌜ length (now (moves .exit)) ≡ 192 ⌝ }
+    ensures { λ _. ⌜ length (now (moves .exit)) ≡ moves-words ⌝ }
 {
     if !is_valid(page, spare) {
         return copied;
@@ -50,8 +55,8 @@ fn copy_if_valid(
     let work = copied.work;
     let n = copied.n;
     let moved = relocate(work, g, r, page, chip, spare, census);
-    moves[n * 3] = moved.owner;
-    moves[n * 3 + 1] = moved.page;
+    moves[n * MOVE_WORDS] = moved.owner;
+    moves[n * MOVE_WORDS + 1] = moved.page;
     let after = moved.work;
     Copied {
         n: n + 1,
@@ -68,15 +73,15 @@ fn copy_pages(
     chip: &mut [u32],
     spare: &mut [u32],
     census: &mut [u32],
-    moves: &mut [u32; 192],
+    moves: &mut [u32; MOVES_WORDS],
 ) -> Copied
     requires { ⌜ Copy-ready (geometry g) (region r) v (now chip) (now spare) work ⌝ }
     requires { ⌜ Census (geometry g) (now spare) (now census) ⌝ }
-    requires { ⌜ length (now moves) ≡ 192 ⌝ }
+    requires { ⌜ length (now moves) ≡ moves-words ⌝ }
     ensures { λ x. ⌜ Does-flash (move-pages (geometry g) (region r) waits-all v (g .p)) (now (chip .entry)) (now (spare .entry)) work
         (first-moves (x .n) (now (moves .exit))) (now (chip .exit)) (now (spare .exit)) (x .work) ⌝ }
     ensures { λ _. ⌜ Census (geometry g) (now (spare .exit)) (now (census .exit)) ⌝ }
-    ensures { λ _. ⌜ length (now (moves .exit)) ≡ 192 ⌝ }
+    ensures { λ _. ⌜ length (now (moves .exit)) ≡ moves-words ⌝ }
 {
     let mut copied = Copied { n: 0, work };
     let mut i = 0;
@@ -96,16 +101,16 @@ pub fn start(
     chip: &mut [u32],
     spare: &mut [u32],
     census: &mut [u32],
-    moves: &mut [u32; 192],
+    moves: &mut [u32; MOVES_WORDS],
 ) -> Copied
     requires { ⌜ Collect-ready (geometry g) (region r) v (now chip) (now spare) work ⌝ }
     requires { ⌜ Census (geometry g) (now spare) (now census) ⌝ }
-    requires { ⌜ length (now moves) ≡ 192 ⌝ }
+    requires { ⌜ length (now moves) ≡ moves-words ⌝ }
     ensures { λ x. ⌜ Does-flash (start-collect (geometry g) (region r) waits-all v) (now (chip .entry)) (now (spare .entry)) work
         (first-moves (x .n) (now (moves .exit))) (now (chip .exit)) (now (spare .exit)) (x .work) ⌝ }
     ensures { λ x. ⌜ Started (geometry g) (region r) v (x .n) (now (moves .exit)) (now (chip .exit)) (now (spare .exit)) work (x .work) ⌝ }
     ensures { λ _. ⌜ Census (geometry g) (now (spare .exit)) (now (census .exit)) ⌝ }
-    ensures { λ _. ⌜ length (now (moves .exit)) ≡ 192 ⌝ }
+    ensures { λ _. ⌜ length (now (moves .exit)) ≡ moves-words ⌝ }
 {
     let opened = open_lowest(work, g, r, spare, census);
     copy_pages(opened, g, r, v, chip, spare, census, moves)

@@ -39,15 +39,16 @@ abbrev pub None-has : ℕ → ℕ → ℕ → List ℕ → Type 0
 None-has l i n cache = (k : ℕ) → i ≤ k → k < n → logical-at k cache ≢ l
 
 -- What is read of four entries is their logical pages.
-pub none-of-four : (l i : ℕ) (cache : List ℕ) → (i + 4) * entry-words ≤ length cache → getD cache (i * 3) 0 ≢ l → getD cache (i * 3 + 3) 0 ≢ l
-    → getD cache (i * 3 + 6) 0 ≢ l → getD cache (i * 3 + 9) 0 ≢ l → None-has l i (i + 4) cache
+pub none-of-four : (l i : ℕ) (cache : List ℕ) → let at = i * entry-words in (i + 4) * entry-words ≤ length cache
+    → getD cache at 0 ≢ l → getD cache (at + entry-words) 0 ≢ l
+    → getD cache (at + 2 * entry-words) 0 ≢ l → getD cache (at + 3 * entry-words) 0 ≢ l → None-has l i (i + 4) cache
 none-of-four l i cache fits first second third fourth k from upto e =
-    same? k i (λ q. first (read (i * 3) (omega arith)))
-    (λ n₁. same? k (i + 1) (λ q. second (read (i * 3 + 3) (omega arith)))
-    (λ n₂. same? k (i + 2) (λ q. third (read (i * 3 + 6) (omega arith))) (λ n₃. fourth (read (i * 3 + 9) (omega arith)))))
+    same? k i (λ q. first (read _ (omega arith)))
+    (λ n₁. same? k (i + 1) (λ q. second (read _ (omega arith)))
+    (λ n₂. same? k (i + 2) (λ q. third (read _ (omega arith))) (λ n₃. fourth (read _ (omega arith)))))
   where
-    read : (at : ℕ) → k * 3 ≡ at → getD cache at 0 ≡ l
-    read at is = ap (λ (j : ℕ). getD cache j 0) (sym is) ∙ getD-any cache (k * 3) 0 none (omega arith) ∙ e
+    read : (at : ℕ) → k * entry-words ≡ at → getD cache at 0 ≡ l
+    read at is = ap (λ (j : ℕ). getD cache j 0) (sym is) ∙ getD-any cache (k * entry-words) 0 none (omega arith) ∙ e
 
 -- Another place for the entry at rank i leaves them.
 pub different-placed : (cache : List ℕ) {used : ℕ} → Different cache used → (i place : ℕ) → Different (placed i place cache) used

@@ -17,7 +17,7 @@ use Rattle.region.specs.Apart.{waits-all, follow-each, directory-apart}
 use Rattle.lent.specs.declared.Work.{Work}
 use Rattle.lent.specs.DoesLaws.{does-give, does-bind}
 use Rattle.lent.specs.Shapes.{Does-flash, Does-directory, less-room}
-use Rattle.copying.specs.Moves.{move-at, first-moves, no-moves, one-more}
+use Rattle.copying.specs.Moves.{move-at, first-moves, no-moves, one-more, move-words}
 use Rattle.copying.specs.Choice.{To-collect, Makes-room, start-collect, follow-none-does, follow-more-does, start-follows-does, collect-does}
 use Rattle.copying.specs.Starting.{Collect-ready}
 use Rattle.index.specs.Index.{Index, lists, with-index, Does-index, Room-ready}
@@ -40,7 +40,8 @@ none-named moves n =
 
 pub one-named : {moves : List ℕ} {n i : ℕ} {directory₀ directory directory′ : List ℕ} → Named-upto moves n i directory₀ directory → i < n
     → length directory′ ≡ length directory
-    → ((w : Work) → Does-directory (directory-names-it (getD moves (i * 3) 0) (getD moves (i * 3 + 1) 0)) directory w tt directory′ w)
+    → ((w : Work) → Does-directory (directory-names-it (getD moves (i * move-words) 0) (getD moves (i * move-words + 1) 0))
+    directory w tt directory′ w)
     → Named-upto moves n (i + 1) directory₀ directory′
 one-named {moves} {i = i} before more long names =
     record {

@@ -7,71 +7,71 @@ use native.Mathlib.Omega.{arith}
 use lib.ListN.{length, getD, set, length-set}
 use lib.Seq.{getD-set-same, getD-set-other}
 use borrow.Author.Tests.{eq-eqb, ne-eqb}
-use Rattle.scope.specs.Geometry.{Geometry}
+use Rattle.scope.specs.Geometry.{most-pages-in-block, Geometry}
 use Rattle.scope.specs.Lent.{Mapping, translation-page}
 use Rattle.scope.specs.Steps.{of-page}
 use Rattle.flash.specs.Cases.{same?, last}
-use Rattle.copying.specs.Moves.{first-moves, Stored-move, two-stored, third-stored, stored-more}
+use Rattle.copying.specs.Moves.{move-words, moves-words, first-moves, Stored-move, two-stored, third-stored, stored-more}
 
 -- The first n mappings of the lent array wait: the third word of each is its translation page, which is reckoned once for all the times
 -- that it is looked at.
 pub record Waits-in (g : Geometry) (n : ℕ) (waiting : List ℕ) : Type 0 where
-  pub long : length waiting ≡ 192
-  pub few : n ≤ 64
-  pub of-pages : (i : ℕ) → i < n → getD waiting (i * 3 + 2) 0 ≡ translation-page g (getD waiting (i * 3) 0)
+  pub long : length waiting ≡ moves-words
+  pub few : n ≤ most-pages-in-block
+  pub of-pages : (i : ℕ) → i < n → getD waiting (i * move-words + 2) 0 ≡ translation-page g (getD waiting (i * move-words) 0)
 
 -- ---- one more that waits
 
 -- Where n waited, at most one more waits, and the words behind its own stay.
 pub record Moves-ahead (n n′ : ℕ) (words words′ : List ℕ) : Type 0 where
   pub most : n′ ≤ n + 1
-  pub behind : (j : ℕ) → n * 3 + 3 ≤ j → getD words′ j 0 ≡ getD words j 0
+  pub behind : (j : ℕ) → n * move-words + move-words ≤ j → getD words′ j 0 ≡ getD words j 0
 
 pub all-ahead : {n : ℕ} {words : List ℕ} → Moves-ahead n n words words
 all-ahead = record { most = omega arith; behind = λ j h. refl }
 
 -- The words of one more behind n others, and its translation page t.
 abbrev pub waits-too : ℕ → ℕ → ℕ → ℕ → List ℕ → List ℕ
-waits-too n l p t waiting = set (set (set waiting (n * 3) l) (n * 3 + 1) p) (n * 3 + 2) t
+waits-too n l p t waiting = set (set (set waiting (n * move-words) l) (n * move-words + 1) p) (n * move-words + 2) t
 
 module _ (waiting : List ℕ) (n l p t : ℕ) where
   pub one-ahead : Moves-ahead n (n + 1) waiting (waits-too n l p t waiting)
   one-ahead =
       record {
         most = omega arith;
-        behind = λ j h. getD-set-other (set (set waiting (n * 3) l) (n * 3 + 1) p) (n * 3 + 2) j t 0 (omega arith)
-            ∙ getD-set-other (set waiting (n * 3) l) (n * 3 + 1) j p 0 (omega arith)
-            ∙ getD-set-other waiting (n * 3) j l 0 (omega arith);
+        behind = λ j h. getD-set-other (set (set waiting (n * move-words) l) (n * move-words + 1) p) (n * move-words + 2) j t 0 (omega arith)
+            ∙ getD-set-other (set waiting (n * move-words) l) (n * move-words + 1) j p 0 (omega arith)
+            ∙ getD-set-other waiting (n * move-words) j l 0 (omega arith);
       }
 
-  module _ (room : n * 3 + 3 ≤ length waiting) where
+  module _ (room : n * move-words + move-words ≤ length waiting) where
     stored : Stored-move n l p waiting (waits-too n l p t waiting)
     stored = third-stored t (two-stored n l p waiting room)
 
     pub wait-more : first-moves (n + 1) (waits-too n l p t waiting) ≡ first-moves n waiting ++ record { logical = l; physical = p } ∷ []
     wait-more = stored-more stored
 
-    its-page : getD (waits-too n l p t waiting) (n * 3 + 2) 0 ≡ t
-    its-page = getD-set-same (set (set waiting (n * 3) l) (n * 3 + 1) p) (n * 3 + 2) t 0
-        (omega (arith, length-set (set waiting (n * 3) l) (n * 3 + 1) p, length-set waiting (n * 3) l))
+    its-page : getD (waits-too n l p t waiting) (n * move-words + 2) 0 ≡ t
+    its-page = getD-set-same (set (set waiting (n * move-words) l) (n * move-words + 1) p) (n * move-words + 2) t 0
+        (omega (arith, length-set (set waiting (n * move-words) l) (n * move-words + 1) p, length-set waiting (n * move-words) l))
 
-pub still-waits-in : {g : Geometry} {n : ℕ} {waiting : List ℕ} → Waits-in g n waiting → n < 64 → (l p : ℕ)
+pub still-waits-in : {g : Geometry} {n : ℕ} {waiting : List ℕ} → Waits-in g n waiting → n < most-pages-in-block → (l p : ℕ)
     → Waits-in g (n + 1) (waits-too n l p (translation-page g l) waiting)
 still-waits-in {g} {n} {waiting} waits few l p =
     let t : ℕ = translation-page g l in
-    let room : n * 3 + 3 ≤ length waiting = omega (arith, waits .long) in
+    let room : n * move-words + move-words ≤ length waiting = omega (arith, waits .long) in
     let s = stored waiting n l p t room in
     record {
       long = s .as-long ∙ waits .long;
       few = omega arith;
       of-pages = λ i h. last i n (omega arith)
-          (λ before. s .before (i * 3 + 2) (omega arith)
+          (λ before. s .before (i * move-words + 2) (omega arith)
           ∙ waits .of-pages i before
-          ∙ ap (translation-page g) (sym (s .before (i * 3) (omega arith))))
+          ∙ ap (translation-page g) (sym (s .before (i * move-words) (omega arith))))
           (λ e. rw e (its-page waiting n l p t room ∙ ap (translation-page g) (sym (s .its-logical))));
     }
 
-pub none-wait-in : {g : Geometry} {waiting : List ℕ} → length waiting ≡ 192 → Waits-in g 0 waiting
+pub none-wait-in : {g : Geometry} {waiting : List ℕ} → length waiting ≡ moves-words → Waits-in g 0 waiting
 none-wait-in long = record { long = long; few = omega arith; of-pages = λ i h. absurd (omega arith) }
 
 -- ---- the mappings of one translation page

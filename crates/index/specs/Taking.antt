@@ -9,7 +9,7 @@ use lib.Dec.{ltb}
 use lib.ListN.{length, getD, set, length-append, length-set}
 use lib.Seq.{sets}
 use borrow.Author.Tests.{lt-ltb, le-ltb}
-use Rattle.scope.specs.Geometry.{Geometry, pages}
+use Rattle.scope.specs.Geometry.{most-pages-in-block, Geometry, pages}
 use Rattle.scope.specs.Lent.{Mapping, words-of, translation-page, translation-word}
 use Rattle.scope.specs.Steps.{of-page, set-words}
 use Rattle.flash.specs.Cases.{below?}
@@ -18,7 +18,7 @@ use Rattle.words.specs.Runs.{sets-own}
 use Rattle.promises.specs.Stored.{length-set-words}
 use Rattle.steps.specs.Lies.{Chip-lent, words-lie}
 use Rattle.steps.specs.Chip.{one-word-set}
-use Rattle.copying.specs.Moves.{move-at, first-moves, no-moves, one-more}
+use Rattle.copying.specs.Moves.{move-words, move-at, first-moves, no-moves, one-more}
 use Rattle.index.specs.Moves.{Waits-in, waits-too, one-ahead, wait-more, still-waits-in, none-wait-in}
 use Rattle.index.specs.Moves.{of-page-++, of-page-more, of-page-other}
 
@@ -173,7 +173,7 @@ stays-so x {k} {lowest} {words = words} is-page other is-lower behind =
 pub record Taken-upto (g : Geometry) (q t m n i : ℕ) (words₀ chip₀ : List ℕ) (k lowest : ℕ) (words chip : List ℕ) : Type 0 where
   pub upto : i ≤ n
   pub most : k ≤ i
-  pub ahead : (j : ℕ) → i * 3 ≤ j → getD words j 0 ≡ getD words₀ j 0
+  pub ahead : (j : ℕ) → i * move-words ≤ j → getD words j 0 ≡ getD words₀ j 0
   pub is-set : Words-set g q t chip₀ (first-moves i words₀) chip
   pub left : Left-after g t m i words₀ k lowest words
 
@@ -199,10 +199,12 @@ module _ {g : Geometry} {q t m n : ℕ} {words₀ chip₀ : List ℕ} (lent : Ch
 
     -- It is the mapping that waited.
     is-x : first-moves (i + 1) words₀ ≡ first-moves i words₀ ++ x ∷ []
-    is-x = one-more words₀ i ∙ (rw (before .ahead (i * 3) (omega arith), before .ahead (i * 3 + 1) (omega arith)) refl)
+    is-x = one-more words₀ i ∙ (rw (before .ahead (i * move-words) (omega arith), before .ahead (i * move-words + 1) (omega arith)) refl)
 
-    pub its-page : getD words (i * 3 + 2) 0 ≡ translation-page g (x .logical)
-    its-page = before .ahead (i * 3 + 2) (omega arith) ∙ waits .of-pages i more ∙ ap (translation-page g) (sym (before .ahead (i * 3) (omega arith)))
+    pub its-page : getD words (i * move-words + 2) 0 ≡ translation-page g (x .logical)
+    its-page = before .ahead (i * move-words + 2) (omega arith)
+        ∙ waits .of-pages i more
+        ∙ ap (translation-page g) (sym (before .ahead (i * move-words) (omega arith)))
 
     module _ {k′ lowest′ : ℕ} {words′ chip′ : List ℕ} where
       taken : Taken-out g q t x k lowest words chip k′ lowest′ words′ chip′ → Taken-upto g q t m n (i + 1) words₀ chip₀ k′ lowest′ words′ chip′
@@ -221,8 +223,8 @@ module _ {g : Geometry} {q t m n : ℕ} {words₀ chip₀ : List ℕ} (lent : Ch
 
       stays : Stays g t x k lowest words chip k′ lowest′ words′ chip′ → Taken-upto g q t m n (i + 1) words₀ chip₀ k′ lowest′ words′ chip′
       stays stay =
-          let few : k < 64 = omega (arith, before .most, waits .few) in
-          let room : k * 3 + 3 ≤ length words = omega (arith, before .left .waits .long) in
+          let few : k < most-pages-in-block = omega (arith, before .most, waits .few) in
+          let room : k * move-words + move-words ≤ length words = omega (arith, before .left .waits .long) in
           let p : ℕ = translation-page g (x .logical) in
           let is-more : first-moves (k + 1) (waits-too k (x .logical) (x .physical) p words) ≡ first-moves k words ++ x ∷ [] =
           wait-more words k (x .logical) (x .physical) p room in

@@ -1,4 +1,5 @@
 // The index in code: update of a translation page, room in the translation region, what waits settled. Each does its definition.
+use copying::copies::MOVES_WORDS;
 use lent::Geometry;
 use lent::Region;
 use lent::Work;
@@ -61,7 +62,7 @@ fn update_page(
     settled: Settled,
     g: Geometry,
     m: u32,
-    waiting: &mut [u32; 192],
+    waiting: &mut [u32; MOVES_WORDS],
     chip: &mut [u32],
     spare: &mut [u32],
     census: &mut [u32],
@@ -92,7 +93,7 @@ pub fn settle(
     work: Work,
     g: Geometry,
     n: usize,
-    waiting: &mut [u32; 192],
+    waiting: &mut [u32; MOVES_WORDS],
     chip: &mut [u32],
     spare: &mut [u32],
     census: &mut [u32],

@@ -1,6 +1,8 @@
 // Room in the translation region: where a block is to be collected, its valid pages are copied, and the directory follows their moves.
 use copying::choice::Choice;
 use copying::choice::choose;
+use copying::copies::MOVE_WORDS;
+use copying::copies::MOVES_WORDS;
 use copying::copies::start;
 use lent::Geometry;
 use lent::Region;
@@ -11,6 +13,7 @@ ghost use mathlib.Core.Path.{_≡_};
 ghost use mathlib.Core.List.{[]};
 ghost use Prim.Native.Nat.{ℕ, _*_, _≤_, _<_};
 ghost use lib.ListN.{length, getD};
+ghost use Rattle.scope.specs.Geometry.{most-pages-in-block};
 ghost use Rattle.scope.specs.Regions.{Translation};
 ghost use Rattle.scope.specs.Room.{make-room};
 ghost use Rattle.scope.specs.Steps.{directory-follows};
@@ -19,20 +22,20 @@ ghost use Rattle.lent.specs.declared.Work.{Work};
 ghost use Rattle.lent.specs.Model.{geometry};
 ghost use Rattle.lent.specs.Shapes.{Does-directory};
 ghost use Rattle.words.specs.Census.{Census};
-ghost use Rattle.copying.specs.Moves.{first-moves};
+ghost use Rattle.copying.specs.Moves.{move-words, moves-words, first-moves};
 ghost use Rattle.copying.specs.Choice.{To-collect};
 ghost use Rattle.index.specs.Index.{index, Does-index, Room-ready};
 
 // The directory names the pages of the first n moves.
-fn names_moved(n: usize, moves: &[u32; 192], directory: &mut [u32])
-    requires { ⌜ (n ≤ 64) × (length (now moves) ≡ 192) ⌝ }
-    requires { ⌜ ((i : ℕ) → i < n → getD (now moves) (i * 3) 0 < length (now directory)) ⌝ }
+fn names_moved(n: usize, moves: &[u32; MOVES_WORDS], directory: &mut [u32])
+    requires { ⌜ (n ≤ most-pages-in-block) × (length (now moves) ≡ moves-words) ⌝ }
+    requires { ⌜ ((i : ℕ) → i < n → getD (now moves) (i * move-words) 0 < length (now directory)) ⌝ }
     ensures { λ _. ⌜ ((w : Work) → Does-directory (follow-each directory-follows (first-moves n (now (moves .entry))))
         (now (directory .entry)) w [] (now (directory .exit)) w) ⌝ }
 {
     let mut i = 0;
     while i < n {
-        names_it(moves[i * 3], moves[i * 3 + 1], directory);
+        names_it(moves[i * MOVE_WORDS], moves[i * MOVE_WORDS + 1], directory);
         i += 1;
     }
 }
@@ -54,7 +57,7 @@ fn collect(
         (index (chip .exit) (spare .exit) (directory .exit)) r ⌝ }
     ensures { λ _. ⌜ Census (geometry g) (now (spare .exit)) (now (census .exit)) ⌝ }
 {
-    let mut moves = [0u32; 192];
+    let mut moves = [0u32; MOVES_WORDS];
     let copied = start(
         work,
         g,

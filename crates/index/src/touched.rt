@@ -1,5 +1,7 @@
 // What waits, by translation pages: all that is of one of them taken out and set, and the lowest of those that are left. What waits is lent,
 // three words to a mapping: the logical page, the physical page, and the translation page, which is reckoned once and looked at many times.
+use copying::copies::MOVE_WORDS;
+use copying::copies::MOVES_WORDS;
 use lent::Geometry;
 use steps::chip::set_word;
 ghost use mathlib.Core.Path.{_≡_};
@@ -7,12 +9,12 @@ ghost use mathlib.Core.Logic.{_⊎_};
 ghost use Prim.Native.Nat.{_*_, _≤_, _<_};
 ghost use lib.ListN.{length};
 ghost use lib.Seq.{sets};
-ghost use Rattle.scope.specs.Geometry.{pages};
+ghost use Rattle.scope.specs.Geometry.{most-pages-in-block, pages};
 ghost use Rattle.scope.specs.Lent.{words-of, translation-page};
 ghost use Rattle.scope.specs.Steps.{of-page, set-words};
 ghost use Rattle.lent.specs.Model.{geometry};
 ghost use Rattle.steps.specs.Lies.{Chip-lent};
-ghost use Rattle.copying.specs.Moves.{first-moves};
+ghost use Rattle.copying.specs.Moves.{moves-words, first-moves};
 ghost use Rattle.index.specs.Moves.{Waits-in, waits-too};
 ghost use Rattle.index.specs.Taking.{lower, Lowest, Left-after, Taken-out, Stays};
 
@@ -23,13 +25,19 @@ pub struct Left {
 }
 
 // One more waits, behind n others.
-pub fn put_behind(n: usize, logical: u32, physical: u32, page: u32, waiting: &mut [u32; 192])
-    requires { ⌜ (n < 64) × (length (now waiting) ≡ 192) ⌝ }
+pub fn put_behind(
+    n: usize,
+    logical: u32,
+    physical: u32,
+    page: u32,
+    waiting: &mut [u32; MOVES_WORDS],
+)
+    requires { ⌜ (n < most-pages-in-block) × (length (now waiting) ≡ moves-words) ⌝ }
     ensures { λ _. ⌜ now (waiting .exit) ≡ waits-too n logical physical page (now (waiting .entry)) ⌝ }
 {
-    waiting[n * 3] = logical;
-    waiting[n * 3 + 1] = physical;
-    waiting[n * 3 + 2] = page;
+    waiting[n * MOVE_WORDS] = logical;
+    waiting[n * MOVE_WORDS + 1] = physical;
+    waiting[n * MOVE_WORDS + 2] = page;
 }
 
 // The lower of two translation pages.
@@ -39,33 +47,37 @@ fn lower(best: u32, t: u32) -> u32
     if t < best { t } else { best }
 }
 
-// A mapping of translation page t: its word is set in the page at q. One of another page is left, behind those that are.
+// A mapping of translation page t: its word is set in the page at q. One of another page is left, behind the n that are. The two numbers
+// come apart: as a struct they would be read, each turn, in words wider than those just written (docs/DECISIONS.md).
 fn take(
-    left: Left,
+    n: usize,
+    lowest: u32,
     g: Geometry,
     q: u32,
     t: u32,
     logical: u32,
     physical: u32,
     page: u32,
-    waiting: &mut [u32; 192],
+    waiting: &mut [u32; MOVES_WORDS],
     chip: &mut [u32],
 ) -> Left
     requires { ⌜ Chip-lent (geometry g) (now chip) × (q < pages (geometry g)) × (page ≡ translation-page (geometry g) logical) ⌝ }
-    requires { ⌜ (left .n < 64) × (length (now waiting) ≡ 192) ⌝ }
-    ensures { λ r. ⌜ Taken-out (geometry g) q t record { logical = logical; physical = physical } (left .n) (left .lowest)
+    requires { ⌜ (n < most-pages-in-block) × (length (now waiting) ≡ moves-words) ⌝ }
+    ensures { λ r. ⌜ Taken-out (geometry g) q t record { logical = logical; physical = physical } n lowest
         (now (waiting .entry)) (now (chip .entry)) (r .n) (r .lowest) (now (waiting .exit)) (now (chip .exit))
-        ⊎ Stays (geometry g) t record { logical = logical; physical = physical } (left .n) (left .lowest)
+        ⊎ Stays (geometry g) t record { logical = logical; physical = physical } n lowest
         (now (waiting .entry)) (now (chip .entry)) (r .n) (r .lowest) (now (waiting .exit)) (now (chip .exit)) ⌝ }
 {
     if page == t {
         set_word(g, q, logical, physical, chip);
-        return left;
+        return Left { n, lowest };
     }
-    put_behind(left.n, logical, physical, page, waiting);
+    put_behind(n, logical, physical, page, waiting);
+    let more = n + 1;
+    let less = lower(lowest, page);
     Left {
-        n: left.n + 1,
-        lowest: lower(left.lowest, page),
+        n: more,
+        lowest: less,
     }
 }
 
@@ -76,7 +88,7 @@ pub(crate) fn take_words(
     t: u32,
     n: usize,
     m: u32,
-    waiting: &mut [u32; 192],
+    waiting: &mut [u32; MOVES_WORDS],
     chip: &mut [u32],
 ) -> Left
     requires { ⌜ Chip-lent (geometry g) (now chip) × (q < pages (geometry g)) × Waits-in (geometry g) n (now waiting) ⌝ }
@@ -84,28 +96,31 @@ pub(crate) fn take_words(
         (set-words (geometry g) (of-page (geometry g) t (first-moves n (now (waiting .entry)))) (words-of (geometry g) q (now (chip .entry)))) ⌝ }
     ensures { λ r. ⌜ Left-after (geometry g) t m n (now (waiting .entry)) (r .n) (r .lowest) (now (waiting .exit)) ⌝ }
 {
-    let mut left = Left { n: 0, lowest: m };
+    let mut k = 0;
+    let mut best = m;
     let mut i = 0;
     while i < n {
-        let logical = waiting[i * 3];
-        let physical = waiting[i * 3 + 1];
-        let page = waiting[i * 3 + 2];
-        left = take(left, g, q, t, logical, physical, page, waiting, chip);
+        let logical = waiting[i * MOVE_WORDS];
+        let physical = waiting[i * MOVE_WORDS + 1];
+        let page = waiting[i * MOVE_WORDS + 2];
+        let left = take(k, best, g, q, t, logical, physical, page, waiting, chip);
+        k = left.n;
+        best = left.lowest;
         i += 1;
     }
-    left
+    Left { n: k, lowest: best }
 }
 
 // The lowest translation page for which something waits; m where there is none below m.
-pub(crate) fn lowest(n: usize, waiting: &[u32; 192], m: u32) -> u32
-    requires { ⌜ n ≤ 64 ⌝ }
+pub(crate) fn lowest(n: usize, waiting: &[u32; MOVES_WORDS], m: u32) -> u32
+    requires { ⌜ n ≤ most-pages-in-block ⌝ }
     ensures { λ r. ⌜ ((g : Geometry) → Waits-in (geometry g) n (now (waiting .entry))
         → Lowest (geometry g) (first-moves n (now (waiting .entry))) m r) ⌝ }
 {
     let mut best = m;
     let mut i = 0;
     while i < n {
-        best = lower(best, waiting[i * 3 + 2]);
+        best = lower(best, waiting[i * MOVE_WORDS + 2]);
         i += 1;
     }
     best

@@ -61,7 +61,8 @@ pub placed-different : {cache cache′ : List ℕ} {w : Work} → Different cach
     → Does-cache (set-entry i place) cache w tt cache′ w → Different cache′ (w .rec .used)
 unfolding set-entry set-cache
 placed-different {cache} {w = w} different i place does =
-    subst (λ (x : List ℕ). Different x (w .rec .used)) (ap (λ (s : State). s .cache) (does some-state .after)) (different-placed cache different i place)
+    subst (λ (x : List ℕ). Different x (w .rec .used)) (ap (λ (s : State). s .cache) (does some-state .after))
+    (different-placed cache different i place)
 
 -- Flash's steps leave the number of entries in use.
 module _ (g : Geometry) {chip spare chip′ spare′ : List ℕ} {w w′ : Work} where

@@ -6,7 +6,7 @@ use mathlib.Core.List.{List, [], _∷_, _++_, append-nil}
 use native.Mathlib.Omega.{arith}
 use lib.ListN.{getD}
 use borrow.Author.Tests.{lt-ltb, le-ltb}
-use Rattle.scope.specs.Geometry.{Geometry}
+use Rattle.scope.specs.Geometry.{most-pages-in-block, Geometry}
 use Rattle.scope.specs.Lent.{Mapping, translation-page}
 use Rattle.scope.specs.Sound.{rank-of}
 use Rattle.scope.specs.Operations.{Step}
@@ -16,7 +16,7 @@ use Rattle.region.specs.Apart.{follow-each, cache-apart}
 use Rattle.lent.specs.declared.Work.{Work}
 use Rattle.lent.specs.DoesLaws.{does-value, does-give, does-look-at, does-bind, does-cond-true, does-cond-false}
 use Rattle.lent.specs.Shapes.{Does-cache}
-use Rattle.copying.specs.Moves.{move-at, first-moves, no-moves, one-more}
+use Rattle.copying.specs.Moves.{move-words, move-at, first-moves, no-moves, one-more}
 use Rattle.copying.specs.Choice.{follow-none-does, follow-more-does}
 use Rattle.index.specs.Moves.{Waits-in, Moves-ahead, waits-too, wait-more, still-waits-in, one-ahead}
 
@@ -27,7 +27,7 @@ pub record Does-waiting (m : Step (List Mapping)) (cache : List ℕ) (w : Work) 
   pub waits : waiting′ ≡ waiting ++ more
 
 -- One more waits, in the words behind n others.
-pub one-waits : {g : Geometry} {n : ℕ} {waiting waiting′ : List ℕ} → Waits-in g n waiting → n < 64 → (l p : ℕ)
+pub one-waits : {g : Geometry} {n : ℕ} {waiting waiting′ : List ℕ} → Waits-in g n waiting → n < most-pages-in-block → (l p : ℕ)
     → waiting′ ≡ waits-too n l p (translation-page g l) waiting
     → (first-moves (n + 1) waiting′ ≡ first-moves n waiting ++ record { logical = l; physical = p } ∷ [])
     × Waits-in g (n + 1) waiting′
@@ -72,7 +72,7 @@ pub record Followed-upto (g : Geometry) (n i k : ℕ) (cache₀ moves₀ : List 
   pub upto : i ≤ n
   pub most : k ≤ i
   pub does : Does-cache (follow-each (cache-follows g) (first-moves i moves₀)) cache₀ w (first-moves k moves) cache w
-  pub ahead : (j : ℕ) → i * 3 ≤ j → getD moves j 0 ≡ getD moves₀ j 0
+  pub ahead : (j : ℕ) → i * move-words ≤ j → getD moves j 0 ≡ getD moves₀ j 0
 
 module _ {g : Geometry} {n : ℕ} {cache₀ moves₀ : List ℕ} {w : Work} where
   pub none-followed : Followed-upto g n 0 0 cache₀ moves₀ w cache₀ moves₀
@@ -85,7 +85,8 @@ module _ {g : Geometry} {n : ℕ} {cache₀ moves₀ : List ℕ} {w : Work} wher
       }
 
   pub one-followed : {i k k′ : ℕ} {cache moves cache′ moves′ : List ℕ} → Followed-upto g n i k cache₀ moves₀ w cache moves → i < n
-      → Does-waiting (cache-or-wait g (getD moves (i * 3) 0) (getD moves (i * 3 + 1) 0)) cache w (first-moves k moves) (first-moves k′ moves′) cache′
+      → Does-waiting (cache-or-wait g (getD moves (i * move-words) 0) (getD moves (i * move-words + 1) 0))
+      cache w (first-moves k moves) (first-moves k′ moves′) cache′
       → Moves-ahead k k′ moves moves′ → Followed-upto g n (i + 1) k′ cache₀ moves₀ w cache′ moves′
   one-followed {i} {cache = cache} {moves} {cache′} before more follows ahead =
       record {
@@ -98,6 +99,6 @@ module _ {g : Geometry} {n : ℕ} {cache₀ moves₀ : List ℕ} {w : Work} wher
       }
     where
       -- The move is the one that was noted.
-      same : Does-cache (cache-or-wait g (getD moves (i * 3) 0) (getD moves (i * 3 + 1) 0)) cache w (follows .more) cache′ w
-          → Does-cache (cache-or-wait g (getD moves₀ (i * 3) 0) (getD moves₀ (i * 3 + 1) 0)) cache w (follows .more) cache′ w
-      same does = rw (sym (before .ahead (i * 3) (omega arith)), sym (before .ahead (i * 3 + 1) (omega arith))) does
+      same : Does-cache (cache-or-wait g (getD moves (i * move-words) 0) (getD moves (i * move-words + 1) 0)) cache w (follows .more) cache′ w
+          → Does-cache (cache-or-wait g (getD moves₀ (i * move-words) 0) (getD moves₀ (i * move-words + 1) 0)) cache w (follows .more) cache′ w
+      same does = rw (sym (before .ahead (i * move-words) (omega arith)), sym (before .ahead (i * move-words + 1) (omega arith))) does

@@ -1,5 +1,7 @@
 // What follows the moves of a collection in the data region: the entry of a cached owner takes the new place, and the others wait. These
 // are gathered at the front of the array of moves, in the words of moves that have been followed.
+use copying::copies::MOVE_WORDS;
+use copying::copies::MOVES_WORDS;
 use entries::rank_from_last;
 use entries::set_entry;
 use index::touched::put_behind;
@@ -10,20 +12,26 @@ ghost use mathlib.Core.Path.{_≡_};
 ghost use mathlib.Core.List.{[], _∷_, _++_};
 ghost use Prim.Native.Nat.{_≤_, _<_};
 ghost use lib.ListN.{length};
-ghost use Rattle.scope.specs.Geometry.{Accepted};
+ghost use Rattle.scope.specs.Geometry.{most-pages-in-block, Accepted};
 ghost use Rattle.scope.specs.Steps.{cache-or-wait, cache-follows};
 ghost use Rattle.region.specs.Apart.{follow-each};
 ghost use Rattle.lent.specs.Model.{geometry};
 ghost use Rattle.lent.specs.Shapes.{Does-cache};
 ghost use Rattle.words.specs.Filter.{Filter};
 ghost use Rattle.entries.specs.Entries.{Cache-lent, Different};
-ghost use Rattle.copying.specs.Moves.{first-moves};
+ghost use Rattle.copying.specs.Moves.{moves-words, first-moves};
 ghost use Rattle.index.specs.Moves.{Waits-in, Moves-ahead};
 ghost use Rattle.requests.specs.Following.{Does-waiting};
 
 // One more waits, behind n others, with its translation page.
-fn wait(g: Geometry, n: usize, logical: u32, physical: u32, waiting: &mut [u32; 192]) -> usize
-    requires { ⌜ Accepted (geometry g) × (n < 64) ⌝ }
+fn wait(
+    g: Geometry,
+    n: usize,
+    logical: u32,
+    physical: u32,
+    waiting: &mut [u32; MOVES_WORDS],
+) -> usize
+    requires { ⌜ Accepted (geometry g) × (n < most-pages-in-block) ⌝ }
     requires { ⌜ Waits-in (geometry g) n (now waiting) ⌝ }
     ensures { λ r. ⌜ first-moves r (now (waiting .exit))
         ≡ first-moves n (now (waiting .entry)) ++ record { logical = logical; physical = physical } ∷ [] ⌝ }
@@ -43,9 +51,9 @@ fn follow(
     page: u32,
     cache: &mut [u32],
     filter: &[u64; FILTER_WORDS],
-    waiting: &mut [u32; 192],
+    waiting: &mut [u32; MOVES_WORDS],
 ) -> usize
-    requires { ⌜ Accepted (geometry g) × Cache-lent (geometry g) (now cache) (work .rec .used) × (n < 64) ⌝ }
+    requires { ⌜ Accepted (geometry g) × Cache-lent (geometry g) (now cache) (work .rec .used) × (n < most-pages-in-block) ⌝ }
     requires { ⌜ Filter (now cache) (work .rec .used) (now filter) ⌝ }
     requires { ⌜ Different (now cache) (work .rec .used) ⌝ }
     requires { ⌜ Waits-in (geometry g) n (now waiting) ⌝ }
@@ -72,12 +80,12 @@ pub(crate) fn follow_moves(
     work: Work,
     cache: &mut [u32],
     filter: &[u64; FILTER_WORDS],
-    moves: &mut [u32; 192],
+    moves: &mut [u32; MOVES_WORDS],
 ) -> usize
-    requires { ⌜ Accepted (geometry g) × Cache-lent (geometry g) (now cache) (work .rec .used) × (n ≤ 64) ⌝ }
+    requires { ⌜ Accepted (geometry g) × Cache-lent (geometry g) (now cache) (work .rec .used) × (n ≤ most-pages-in-block) ⌝ }
     requires { ⌜ Filter (now cache) (work .rec .used) (now filter) ⌝ }
     requires { ⌜ Different (now cache) (work .rec .used) ⌝ }
-    requires { ⌜ length (now moves) ≡ 192 ⌝ }
+    requires { ⌜ length (now moves) ≡ moves-words ⌝ }
     ensures { λ r. ⌜ Does-cache (follow-each (cache-follows (geometry g)) (first-moves n (now (moves .entry)))) (now (cache .entry)) work
         (first-moves r (now (moves .exit))) (now (cache .exit)) work ⌝ }
     ensures { λ _. ⌜ Filter (now (cache .exit)) (work .rec .used) (now (filter .entry)) ⌝ }
@@ -86,8 +94,8 @@ pub(crate) fn follow_moves(
     let mut waiting = 0;
     let mut i = 0;
     while i < n {
-        let l = moves[i * 3];
-        let page = moves[i * 3 + 1];
+        let l = moves[i * MOVE_WORDS];
+        let page = moves[i * MOVE_WORDS + 1];
         waiting = follow(waiting, g, work, l, page, cache, filter, moves);
         i += 1;
     }

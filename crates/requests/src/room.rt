@@ -3,6 +3,7 @@
 use crate::following::follow_moves;
 use copying::choice::Choice;
 use copying::choice::choose;
+use copying::copies::MOVES_WORDS;
 use copying::copies::start;
 use index::settle;
 use lent::FILTER_WORDS;
@@ -41,7 +42,7 @@ fn collect(
     ensures { λ _. ⌜ Census (geometry g) (now (spare .exit)) (now (census .exit)) ⌝ }
     ensures { λ r. ⌜ Filter (now (cache .exit)) (r .rec .used) (now (filter .entry)) ⌝ }
 {
-    let mut moves = [0u32; 192];
+    let mut moves = [0u32; MOVES_WORDS];
     let copied = start(work, g, Region::Data, v, chip, spare, census, &mut moves);
     let moved = copied.work;
     let n = copied.n;

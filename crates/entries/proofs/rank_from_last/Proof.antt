@@ -7,7 +7,7 @@ use native.Mathlib.Omega.{arith}
 use lib.ListN.{length, getD}
 use borrow.Author.Tests.{not-true}
 use borrow.Author.Needs.{needs}
-use Rattle.scope.specs.Lent.{none, logical-at}
+use Rattle.scope.specs.Lent.{none, entry-words, logical-at}
 use Rattle.flash.specs.Cases.{same?, below?}
 use Rattle.words.specs.Bitmap.{has}
 use Rattle.words.specs.Runs.{getD-any}
@@ -54,14 +54,14 @@ loop-holds : tie.Need-loop-holds Inv-loop μ-loop
 loop-holds c = (omega arith, λ k h j. absurd (omega arith))
 
 -- The entry before rank i lies in the cache, and what is read there is its logical page.
-lies : (c : tie.In-loop Inv-loop μ-loop) → (c .before .loop .i - 1) * 3 < length (start (c .before) .args .cache .now)
+lies : (c : tie.In-loop Inv-loop μ-loop) → (c .before .loop .i - 1) * entry-words < length (start (c .before) .args .cache .now)
 lies c =
     let pre = start (c .before) .pre .0 in
     omega (arith, pre .cache-fits, pre .used-to, c .before .before .passed-from-last .ensures .0, c .before .loop .inv .0, c .loop-test .taken)
 
-reads : (c : tie.In-loop Inv-loop μ-loop)
-    → logical-at (c .before .loop .i - 1) (start (c .before) .args .cache .now) ≡ getD (start (c .before) .args .cache .now) ((c .before .loop .i - 1) * 3) 0
-reads c = getD-any (start (c .before) .args .cache .now) ((c .before .loop .i - 1) * 3) none 0 (lies c)
+reads : (c : tie.In-loop Inv-loop μ-loop) → let cache = start (c .before) .args .cache .now in let i = c .before .loop .i - 1 in
+    logical-at i cache ≡ getD cache (i * entry-words) 0
+reads c = getD-any (start (c .before) .args .cache .now) ((c .before .loop .i - 1) * entry-words) none 0 (lies c)
 
 sub-i : tie.Need-sub-i Inv-loop μ-loop
 sub-i c = search needs
@@ -80,8 +80,11 @@ returns-2 c =
     let at = c .before .before .before in
     let a = start at .args in
     let pre = start at .pre in
-    let in-use : at .loop .i - 1 < a .rec .used = omega (arith, at .before .passed-from-last .ensures .0, at .loop .inv .0, c .before .before .loop-test .taken) in
-    (omega (arith, pre .0 .used-to), rank-only (geometry (a .g)) (now (a .cache)) (a .l) (pre .0 .used-to) (pre .1 .1) _ in-use (reads (c .before .before) ∙ c .if2 .taken))
+    let in-use : at .loop .i - 1 < a .rec .used =
+    omega (arith, at .before .passed-from-last .ensures .0, at .loop .inv .0, c .before .before .loop-test .taken) in (
+      omega (arith, pre .0 .used-to),
+      rank-only (geometry (a .g)) (now (a .cache)) (a .l) (pre .0 .used-to) (pre .1 .1) _ in-use (reads (c .before .before) ∙ c .if2 .taken),
+    )
 
 loop-less : tie.Need-loop-less Inv-loop μ-loop
 loop-less c = search needs

@@ -10,7 +10,7 @@ use borrow.Author.Tests.{not-true, not-false}
 use Rattle.scope.specs.Lent.{is-valid}
 use Rattle.steps.specs.Lies.{spare-lies}
 use Rattle.lent.specs.Model.{geometry, region}
-use Rattle.copying.specs.Moves.{two-stored, stored-more}
+use Rattle.copying.specs.Moves.{move-words, two-stored, stored-more}
 use Rattle.copying.specs.Copies.{valid-copied, other-passed}
 use Rattle.copying.proofs.copies.copy_if_valid.Statement.{statement}
 use Rattle.copying.proofs.copies.copy_if_valid.Tie as tie
@@ -27,7 +27,7 @@ told : (c : tie.Else1) → let a = start (c .before) .args in is-valid (a .page)
 told c = sym (c .before .is-valid .ensures) ∙ not-false _ (c .if1 .left)
 
 -- There is room for one more move.
-few : (c : tie.After-is-valid) → let a = start c .args in a .copied .n * 3 + 3 ≤ length (a .moves .now)
+few : (c : tie.After-is-valid) → let a = start c .args in a .copied .n * move-words + move-words ≤ length (a .moves .now)
 few c = let begun = start c in omega (arith, begun .pre .0 .few, begun .pre .1 .1)
 
 is-valid-requires : tie.Need-is-valid-requires

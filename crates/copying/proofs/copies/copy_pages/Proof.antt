@@ -8,7 +8,7 @@ use Rattle.scope.specs.Geometry.{most-pages}
 use Rattle.steps.specs.Lies.{spare-lies}
 use Rattle.words.specs.Census.{Census}
 use Rattle.lent.specs.Model.{geometry, region}
-use Rattle.copying.specs.Moves.{first-moves, moves-counted}
+use Rattle.copying.specs.Moves.{moves-words, first-moves, moves-counted}
 use Rattle.copying.specs.Copies.{Page-to-copy, Copied-upto, none-copied, one-copied, copied-chip, copied-spare, page-ready}
 use Rattle.copying.proofs.copies.copy_pages.Statement.{statement}
 use Rattle.copying.proofs.copies.copy_pages.Tie as tie
@@ -18,7 +18,7 @@ Inv-loop g r v chip₀ spare₀ census₀ moves₀ copied₀ i₀ chip spare cen
     Copied-upto (geometry g) (region r) v i chip₀ spare₀ (copied₀ .work) (first-moves (copied .n) moves) chip spare (copied .work)
     × Census (geometry g) spare census
     × (length census ≡ length census₀)
-    × (length moves ≡ 192)
+    × (length moves ≡ moves-words)
 
 abbrev μ-loop : tie.MeasureT-loop
 μ-loop g r v chip₀ spare₀ census₀ moves₀ copied₀ i₀ chip spare census moves copied i = g .p - i

@@ -6,6 +6,7 @@ use lib.ListN.{length}
 use borrow.Author.Needs.{needs}
 use Rattle.index.specs.Collecting.{Named-upto, none-named, one-named}
 use Rattle.index.proofs.room.names_moved.Statement.{statement}
+use Rattle.copying.specs.Moves.{move-words}
 use Rattle.index.proofs.room.names_moved.Tie as tie
 
 abbrev Inv-loop : tie.InvT-loop
@@ -22,7 +23,7 @@ abbrev turn : tie.After-names-it Inv-loop μ-loop → tie.In-loop Inv-loop μ-lo
 turn c = c .before .before .before .before
 
 -- The words of the next move lie in the array.
-lies : (c : tie.In-loop Inv-loop μ-loop) → c .before .loop .i * 3 + 3 ≤ length (start (c .before) .args .moves .now)
+lies : (c : tie.In-loop Inv-loop μ-loop) → c .before .loop .i * move-words + move-words ≤ length (start (c .before) .args .moves .now)
 lies c = let begun = start (c .before) in omega (arith, c .loop-test .taken, begun .pre .0)
 
 loop-holds : tie.Need-loop-holds Inv-loop μ-loop

@@ -26,16 +26,16 @@ returns c =
 put-behind-requires : tie.Need-put-behind-requires
 put-behind-requires c κs = search needs
 
-add-t16 : tie.Need-add-t16
-add-t16 c = search needs
+add-more : tie.Need-add-more
+add-more c = search needs
 
 lower-requires : tie.Need-lower-requires
 lower-requires c κs = search needs
 
 returns-2 : tie.Need-returns-2
 returns-2 c =
-    let tested = c .before .before .before .before in
-    inr (stays-so _ (tested .before .before .pre .0 .2) (tested .if1 .left) (c .lower .ensures) (c .before .before .put-behind .ensures))
+    let tested = c .before .before .before in
+    inr (stays-so _ (tested .before .before .pre .0 .2) (tested .if1 .left) (c .lower .ensures) (c .before .put-behind .ensures))
 
 pub take-spec : {M : Type 1} → statement M
 take-spec =
@@ -45,6 +45,6 @@ take-spec =
     same-length
     returns
     put-behind-requires
-    add-t16
+    add-more
     lower-requires
     returns-2)

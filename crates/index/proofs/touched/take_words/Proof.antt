@@ -10,11 +10,10 @@ use Rattle.index.proofs.touched.take_words.Statement.{statement}
 use Rattle.index.proofs.touched.take_words.Tie as tie
 
 abbrev Inv-loop : tie.InvT-loop
-Inv-loop g q t n m waiting₀ chip₀ left₀ i₀ waiting chip left i =
-    Taken-upto (geometry g) q t m n i waiting₀ chip₀ (left .n) (left .lowest) waiting chip
+Inv-loop g q t n m waiting₀ chip₀ k₀ best₀ i₀ waiting chip k best i = Taken-upto (geometry g) q t m n i waiting₀ chip₀ k best waiting chip
 
 abbrev μ-loop : tie.MeasureT-loop
-μ-loop g q t n m waiting₀ chip₀ left₀ i₀ waiting chip left i = n - i
+μ-loop g q t n m waiting₀ chip₀ k₀ best₀ i₀ waiting chip k best i = n - i
 
 -- The places: where all begins, and the turn.
 abbrev start : tie.At-loop Inv-loop μ-loop → tie.Start Inv-loop μ-loop
@@ -90,7 +89,7 @@ returns c =
     let a = start (c .before) .args in
     let end : left .i ≡ a .n = omega (arith, left .inv .upto, c .loop-test .left) in
     let all = subst (λ (i : ℕ). Taken-upto (geometry (a .g)) (a .q) (a .t) (a .m) (a .n) i (a .waiting .now) (a .chip .now)
-    (left .left .n) (left .left .lowest) (left .waiting) (left .chip)) end (left .inv) in
+    (left .k) (left .best) (left .waiting) (left .chip)) end (left .inv) in
     (all .is-set .words, all .left)
 
 pub take-words-spec : {M : Type 1} → statement M

@@ -10,6 +10,7 @@ use Rattle.entries.specs.Entries.{Different}
 use Rattle.index.specs.Moves.{Waits-in, none-wait-in}
 use Rattle.requests.specs.Following.{Followed-upto, none-followed, one-followed}
 use Rattle.requests.proofs.following.follow_moves.Statement.{statement}
+use Rattle.copying.specs.Moves.{move-words, moves-words}
 use Rattle.requests.proofs.following.follow_moves.Tie as tie
 
 abbrev Inv-loop : tie.InvT-loop
@@ -31,7 +32,7 @@ abbrev turn : tie.After-follow Inv-loop μ-loop → tie.In-loop Inv-loop μ-loop
 turn c = c .before .before .before .before .before
 
 -- The words of the next move lie in the array.
-lies : (c : tie.In-loop Inv-loop μ-loop) → c .before .loop .i * 3 + 3 ≤ 192
+lies : (c : tie.In-loop Inv-loop μ-loop) → c .before .loop .i * move-words + move-words ≤ moves-words
 lies c = omega (arith, c .loop-test .taken, start (c .before) .pre .0)
 
 loop-holds : tie.Need-loop-holds Inv-loop μ-loop
@@ -98,8 +99,8 @@ returns c =
     let inv = left .inv in
     let a = start (c .before) .args in
     let end : left .i ≡ a .n = omega (arith, inv .0 .upto) in (
-      subst (λ (k : ℕ). Followed-upto (geometry (a .g)) (a .n) k (left .waiting) (a .cache .now) (a .moves .now) (a .work) (left .cache) (left .moves))
-          end (inv .0) .does,
+      subst (λ (k : ℕ). Followed-upto (geometry (a .g)) (a .n) k (left .waiting) (a .cache .now) (a .moves .now) (a .work)
+          (left .cache) (left .moves)) end (inv .0) .does,
       (inv .1, inv .3),
     )
 

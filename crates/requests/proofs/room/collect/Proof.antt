@@ -25,7 +25,9 @@ abbrev settled : tie.After-erase → tie.After-settle
 settled c = c .before .before .before .before .before .before .before .before .before .before .before .before
 
 start-requires : tie.Need-start-requires
-start-requires c κs = let pre = c .before .before .before .before .before .before .before .before .before .pre in (start-ready (pre .0 .0) (pre .0 .1), (pre .1 .0, refl))
+start-requires c κs =
+    let pre = c .before .before .before .before .before .before .before .before .before .pre in
+    (start-ready (pre .0 .0) (pre .0 .1), (pre .1 .0, refl))
 
 follow-moves-requires : tie.Need-follow-moves-requires
 follow-moves-requires c κs =
@@ -38,7 +40,10 @@ follow-moves-requires c κs =
         record { cache-fits = ready .lengths .cache-fits; used-to = omega (arith, used, ready .sound .rule-5 .at-most) },
         omega (arith, done .start .ensures .1 .0 .few, ready .accepted .P-to),
       ),
-      (filter-still used (pre .1 .1), (different-still (begun done .args .cache .now) used (ready .sound .rule-5 .different), done .start .ensures .1 .1 .1)),
+      (
+        filter-still used (pre .1 .1),
+        (different-still (begun done .args .cache .now) used (ready .sound .rule-5 .different), done .start .ensures .1 .1 .1),
+      ),
     )
 
 settle-requires : tie.Need-settle-requires
