@@ -90,7 +90,7 @@ with-open-requires : tie.Need-with-open-requires
 with-open-requires c κs = search needs
 
 count-program-requires : tie.Need-count-program-requires
-count-program-requires c κs = search needs
+count-program-requires c κs = given (c .before .before .before .before .before .before .before .before .before .before .before) .pre .0 .2
 
 same-length : tie.Need-same-length
 same-length c = search needs

@@ -56,7 +56,7 @@ as-it-is-requires : tie.Need-as-it-is-requires
 as-it-is-requires c κs = search needs
 
 count-erase-requires : tie.Need-count-erase-requires
-count-erase-requires c κs = search needs
+count-erase-requires c κs = erasing (c .before .before .before .before .before) .pre .0 .3
 
 same-length : tie.Need-same-length
 same-length c = search needs

@@ -4,7 +4,7 @@ use borrow.Author.Needs.{needs}
 use Rattle.steps.specs.Lies.{Words-lie, spare-still, next-same, next-words-lie, words-lie, spare-lies, pages-apart}
 use Rattle.steps.specs.Chip.{relocate-does}
 use Rattle.lent.specs.Model.{geometry}
-use Rattle.lent.specs.Shapes.{room-after-read}
+use Rattle.lent.specs.Shapes.{less-room, room-after-read}
 use Rattle.steps.proofs.chip.relocate.Statement.{statement}
 use Rattle.steps.proofs.chip.relocate.Tie as tie
 
@@ -59,7 +59,7 @@ as-it-is-requires : tie.Need-as-it-is-requires
 as-it-is-requires c κs = search needs
 
 count-read-requires : tie.Need-count-read-requires
-count-read-requires c κs = search needs
+count-read-requires c κs = less-room (omega arith) (given (c .before .before .before .before .before .before .before) .pre .1 .0 .1)
 
 claim-next-requires : tie.Need-claim-next-requires
 claim-next-requires c κs =
