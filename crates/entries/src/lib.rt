@@ -162,7 +162,7 @@ pub fn rank_from_last(
     g: Geometry,
     l: u32,
     cache: &[u32],
-    filter: &[u64; 1024],
+    filter: &[u64; FILTER_WORDS],
 ) -> usize
     requires { ⌜ Cache-lent (geometry g) (now cache) (rec .used) ⌝ }
     requires { ⌜ Filter (now cache) (rec .used) (now filter) ⌝ }
