@@ -8,11 +8,11 @@ use mathlib.Core.List.{List, [], _∷_}
 use lib.Dec.{eqb}
 use lib.ListN.{length}
 use Rattle.scope.specs.Geometry.{Geometry}
-use Rattle.scope.specs.SmallRecord.{record-words, record-of}
+use Rattle.scope.specs.SmallRecord.{record-words}
 use Rattle.scope.specs.Lent.{State}
 use Rattle.scope.specs.Requests.{replied}
 use Rattle.scope.specs.Calls.{run-replied, format, check, read, write, run}
-use Rattle.scope.specs.Boundary.{Words, right-words, requests-of, tf-format, tf-check, tf-read, tf-write, tf-run}
+use Rattle.scope.specs.Boundary.{Words, from-words, right-words, requests-of, tf-format, tf-check, tf-read, tf-write, tf-run}
 use Rattle.scope.specs.Contracts.{Answers, Gives, right-lengths}
 use Rattle.promises.specs.Remembered.{Call, Format, Check, Read-page, Write-page, Run, Answer, Event}
 
@@ -90,8 +90,11 @@ lend n counts =
     }
 
 abbrev pub state-of-slices : Slices → State
-state-of-slices n =
-    record { chip = n .chip; spare = n .spare; directory = n .directory; cache = n .cache; small = record-of (n .small) }
+state-of-slices n = from-words (lend n [])
+
+-- The slices with a state's lists, and with these words for the record's.
+abbrev pub slices-of : State → List ℕ → Slices
+slices-of s words = record { chip = s .chip; spare = s .spare; directory = s .directory; cache = s .cache; small = words }
 
 -- A call in words. Page numbers, lengths and request words are any, an odd number of these too.
 pub data In-words : Type 0 where

@@ -11,14 +11,14 @@ use lib.Seq.{sets, length-sets}
 use borrow.Author.Tests.{eqb-true, eq-eqb}
 use Rattle.scope.specs.Geometry.{Geometry}
 use Rattle.scope.specs.SmallRecord.{SmallRecord, record-words, words-from}
-use Rattle.scope.specs.Lent.{State}
+use Rattle.scope.specs.Lent.{State, with-small}
 use Rattle.scope.specs.Operations.{Step, Outcome}
-use Rattle.scope.specs.Boundary.{Words, counts-words, in-words, right-words, tf-format, tf-check, tf-read, tf-write, tf-run}
+use Rattle.scope.specs.Boundary.{Words, from-words, counts-words, in-words, right-words, tf-format, tf-check, tf-read, tf-write, tf-run}
 use Rattle.scope.specs.Contracts.{Answers, Gives, right-lengths}
 use Rattle.scope.specs.Laws.SmallRecord.{record-stored, record-words-kept}
 use Rattle.flash.specs.Cases.{and-true, true-and}
 use Rattle.promises.specs.Remembered.{Call, Format, Check, Read-page, Write-page, Run, make}
-use Rattle.contracts.specs.Faces.{Back, Face, Answered, with-counts, rattle-face, Slices, lend, In-words, Tf-format, Tf-check, Tf-read, Tf-write, Tf-run, call-in-words, Given, state-of-slices, c-face}
+use Rattle.contracts.specs.Faces.{Back, Face, Answered, with-counts, rattle-face, Slices, lend, In-words, Tf-format, Tf-check, Tf-read, Tf-write, Tf-run, call-in-words, Given, state-of-slices, slices-of, c-face}
 
 -- The Bool of a call: whether the lengths are right that no state has.
 abbrev pub boundary-of : Call → Bool
@@ -92,20 +92,8 @@ right-words-exactly n counts = (
   λ h. true-and (eq-eqb (length (n .small)) record-words (h .0)) (eq-eqb (length counts) counts-words (h .1)),
 )
 
--- The slices of lent words.
-abbrev slices : Words → Slices
-slices w =
-    record { chip = w .chip; spare = w .spare; directory = w .directory; cache = w .cache; small = w .small }
-
 abbrev state-stored : Slices → State → Slices
-state-stored n s =
-    record {
-      chip = s .chip;
-      spare = s .spare;
-      directory = s .directory;
-      cache = s .cache;
-      small = sets (n .small) 0 (words-from (s .small));
-    }
+state-stored n s = slices-of s (sets (n .small) 0 (words-from (s .small)))
 
 -- What a contract in words says of the definition on numbers and lists, and of the slices.
 record Comes-down {A : Type 0} (m : Step A) (n : Slices) (counts : List ℕ) (x : A) (n′ : Slices) (counts′ : List ℕ) : Type 0 where
@@ -118,7 +106,7 @@ unfolding in-words
 comes-down m n counts a =
     record {
       answers = record { value = a .answer; after = refl; counted = sym (ap (λ (w : Words). w .counts) (a .lent)) };
-      stored = sym (ap slices (a .lent));
+      stored = sym (ap (λ (w : Words). slices-of (from-words w) (w .small)) (a .lent));
     }
 
 given-down : (g : Geometry) (x : In-words) (counts : List ℕ) (n : Slices) (b : Back) (n′ : Slices) → Given g x counts n b n′ →
@@ -142,24 +130,10 @@ words-tested (Tf-run requests words answers) counts n e =
     right-words-exactly n counts .0 (and-true (right-words (lend n counts)) (eqb (length requests % 2) 0) e .0) .1
 
 state-is : (n : Slices) (s : State) → length (n .small) ≡ record-words → s ≡ state-of-slices (state-stored n s)
-state-is n s whole =
-    ap (λ (r : SmallRecord). record {
-      chip = s .chip;
-      spare = s .spare;
-      directory = s .directory;
-      cache = s .cache;
-      small = r;
-    }) (sym (record-stored (n .small) (s .small) whole))
+state-is n s whole = ap (λ (r : SmallRecord). with-small r s) (sym (record-stored (n .small) (s .small) whole))
 
 slices-kept : (n : Slices) → state-stored n (state-of-slices n) ≡ n
-slices-kept n =
-    ap (λ (words : List ℕ). record {
-      chip = n .chip;
-      spare = n .spare;
-      directory = n .directory;
-      cache = n .cache;
-      small = words;
-    }) (record-words-kept (n .small))
+slices-kept n = ap (slices-of (state-of-slices n)) (record-words-kept (n .small))
 
 pub c-faithful : (g : Geometry) → Faithful c-face g
 c-faithful g =

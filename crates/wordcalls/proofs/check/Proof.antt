@@ -28,7 +28,7 @@ returns c =
     let loaded = done .before .before in
     let tested = loaded .before in
     let a = tested .before .before .before .before .before .before .before .args in
-    tested-in-words (now (a .«record»)) (λ (b : Bool). check (geometry (a .g)) b)
+    tested-in-words _ (λ (b : Bool). check (geometry (a .g)) b)
     (tested .whole-record .ensures) (loaded .load .ensures) (done .check .ensures)
     (stored-back (now (a .«record»)) (loaded .load .ensures))
 

@@ -46,7 +46,7 @@ returns c =
     let loaded = done .before .before .before .before .before .before in
     let tested = loaded .before .before in
     let a = tested .before .before .before .before .before .before .before .before .args in
-    tested-in-words (now (a .«record»)) (λ (b : Bool). format (geometry (a .g)) b)
+    tested-in-words _ (λ (b : Bool). format (geometry (a .g)) b)
     (tested .whole-record .ensures) (loaded .load .ensures) (done .format .ensures) (c .before .before .store .ensures)
 
 pub format-spec : {M : Type 1} → statement M

@@ -49,7 +49,7 @@ returns c =
     let loaded = done .before .before .before .before .before .before .before in
     let tested = loaded .before .before in
     let a = tested .before .before .before .before .before .before .before .before .before .args in
-    tested-in-words (now (a .«record»)) (λ (b : Bool). read (geometry (a .g)) b (a .page) (now (a .buffer)))
+    tested-in-words _ (λ (b : Bool). read (geometry (a .g)) b (a .page) (now (a .buffer)))
     (tested .whole-record .ensures) (loaded .load .ensures) (done .read .ensures) (c .before .before .store .ensures)
 
 pub read-spec : {M : Type 1} → statement M

@@ -46,7 +46,7 @@ returns c =
     let loaded = done .before .before .before .before .before .before in
     let tested = loaded .before .before in
     let a = tested .before .before .before .before .before .before .before .before .before .args in
-    tested-in-words (now (a .«record»)) (λ (b : Bool). write (geometry (a .g)) b (a .page) (now (a .buffer)))
+    tested-in-words _ (λ (b : Bool). write (geometry (a .g)) b (a .page) (now (a .buffer)))
     (tested .whole-record .ensures) (loaded .load .ensures) (done .write .ensures) (c .before .before .store .ensures)
 
 pub write-spec : {M : Type 1} → statement M

@@ -56,7 +56,7 @@ returns c =
     let tested = loaded .before .before in
     let a = tested .before .before .before .before .before .before .before .before .before .before .before .args in
     let ws = now (a .requests) in
-    tested-in-words (now (a .«record»)) (λ (b : Bool). run (geometry (a .g))
+    tested-in-words _ (λ (b : Bool). run (geometry (a .g))
     (b && eqb (length ws % 2) 0) (requests-of ws) (now (a .words)) (now (a .answers)))
     (tested .whole-record .ensures) (loaded .load .ensures) (done .run-words .ensures) (c .before .before .store .ensures)
 
