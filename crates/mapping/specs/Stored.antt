@@ -11,25 +11,20 @@ use borrow.Author.Tests.{lt-ltb, le-ltb}
 use Rattle.scope.specs.Counting.{all}
 use Rattle.scope.specs.Decisions.{unchanged-agree}
 use Rattle.scope.specs.Geometry.{Geometry}
-use Rattle.scope.specs.SmallRecord.{with-used, record-of}
-use Rattle.scope.specs.Lent.{none, Place, Nowhere, decode, State, word-of, logical-at, physical-at, changed-at}
+use Rattle.scope.specs.SmallRecord.{with-used}
+use Rattle.scope.specs.Lent.{none, Place, Nowhere, decode, State, with-flash, with-directory, with-cache, with-small, word-of, logical-at, physical-at, changed-at}
 use Rattle.scope.specs.Laws.Decided.{unchanged-agree-decided}
 use Rattle.scope.specs.Laws.Decides.{Decides}
 use Rattle.scope.specs.Sound.{in-page, stored, Unchanged-agree}
 use Rattle.flash.specs.Cases.{below?}
 use Rattle.flash.specs.Counting.{all-each, each-all}
 use Rattle.flash.specs.Tests.{same-test, decides-by}
+use Rattle.flash.specs.Words.{some-state}
 
 -- A state of which a test looks at these parts alone.
 abbrev pub parts : List ℕ → List ℕ → List ℕ → List ℕ → ℕ → State
 parts chip spare directory cache used =
-    record {
-      chip = chip;
-      spare = spare;
-      directory = directory;
-      cache = cache;
-      small = with-used used (record-of []);
-    }
+    with-flash chip spare (with-directory directory (with-cache cache (with-small (with-used used (some-state .small)) some-state)))
 
 module _ (g : Geometry) (chip directory : List ℕ) (l : ℕ) where
   pub stored-nowhere : Nowhere ≡ decode (getD directory (l / g .W) none) → none ≡ stored g chip directory l

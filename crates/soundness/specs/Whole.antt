@@ -4,9 +4,8 @@ use mathlib.Core.List.{List, []}
 use Rattle.scope.specs.Geometry.{Geometry}
 use Rattle.scope.specs.Regions.{Region, Data, Translation}
 use Rattle.scope.specs.SmallRecord.{SmallRecord}
+use Rattle.scope.specs.Lent.{State}
 use Rattle.scope.specs.Sound.{Owners-differ, Directory-names, Entries-fit, Places-hold, Unchanged-agree, Sound, current}
-use Rattle.lent.specs.Model.{state, small}
-use Rattle.lent.specs.declared.Record.{Record}
 use Rattle.survey.specs.Survey.{Pages-and-blocks}
 use Rattle.mapping.specs.Stored.{parts}
 
@@ -24,28 +23,28 @@ pub record Cache-rules (g : Geometry) (chip spare directory cache : List ℕ) (u
   pub places : Places-hold g (parts chip spare directory cache used)
   pub agree : Unchanged-agree g (parts chip [] directory cache used)
 
-module _ (g : Geometry) (chip spare directory cache : List ℕ) (rec : Record) where
-  pub flash-of-sound : Sound g (state chip spare directory cache rec) → Flash-rules g chip spare directory (small rec)
-  flash-of-sound s =
+module _ (g : Geometry) (s : State) where
+  pub flash-of-sound : Sound g s → Flash-rules g (s .chip) (s .spare) (s .directory) (s .small)
+  flash-of-sound h =
       record {
-        in-data = record { pages = s .rule-1 Data; blocks = s .rule-3 Data };
-        in-translation = record { pages = s .rule-1 Translation; blocks = s .rule-3 Translation };
-        differ = s .rule-2 Translation;
-        names = s .rule-4;
+        in-data = record { pages = h .rule-1 Data; blocks = h .rule-3 Data };
+        in-translation = record { pages = h .rule-1 Translation; blocks = h .rule-3 Translation };
+        differ = h .rule-2 Translation;
+        names = h .rule-4;
       }
 
-  pub cache-of-sound : Sound g (state chip spare directory cache rec) → Cache-rules g chip spare directory cache (rec .used)
+  pub cache-of-sound : Sound g s → Cache-rules g (s .chip) (s .spare) (s .directory) (s .cache) (s .small .used)
   unfolding current
-  cache-of-sound s =
+  cache-of-sound h =
       record {
-        entries = s .rule-5;
-        differ = s .rule-2 Data;
-        places = record { current-place = s .rule-6 .current-place; past-L = s .rule-6 .past-L };
-        agree = s .rule-7;
+        entries = h .rule-5;
+        differ = h .rule-2 Data;
+        places = record { current-place = h .rule-6 .current-place; past-L = h .rule-6 .past-L };
+        agree = h .rule-7;
       }
 
-  pub sound-of-both : Flash-rules g chip spare directory (small rec) → Cache-rules g chip spare directory cache (rec .used)
-      → Sound g (state chip spare directory cache rec)
+  pub sound-of-both : Flash-rules g (s .chip) (s .spare) (s .directory) (s .small)
+      → Cache-rules g (s .chip) (s .spare) (s .directory) (s .cache) (s .small .used) → Sound g s
   unfolding current
   sound-of-both f c =
       record {
@@ -58,10 +57,10 @@ module _ (g : Geometry) (chip spare directory cache : List ℕ) (rec : Record) w
         rule-7 = c .agree;
       }
     where
-      of-region : (r : Region) → Pages-and-blocks g r chip spare (small rec)
+      of-region : (r : Region) → Pages-and-blocks g r (s .chip) (s .spare) (s .small)
       of-region Data = f .in-data
       of-region Translation = f .in-translation
 
-      differ : (r : Region) → Owners-differ g r spare
+      differ : (r : Region) → Owners-differ g r (s .spare)
       differ Data = c .differ
       differ Translation = f .differ

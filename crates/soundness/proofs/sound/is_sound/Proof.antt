@@ -9,7 +9,7 @@ use Rattle.scope.specs.Regions.{Data}
 use Rattle.flash.specs.Cases.{clash}
 use Rattle.flash.specs.Owners.{owners-fit}
 use Rattle.flash.specs.Tests.{decided-same, part-passed, part-refused}
-use Rattle.lent.specs.Model.{geometry, state}
+use Rattle.lent.specs.Model.{geometry}
 use Rattle.soundness.specs.Whole.{flash-of-sound, cache-of-sound, sound-of-both}
 use Rattle.soundness.proofs.sound.is_sound.Statement.{statement}
 use Rattle.soundness.proofs.sound.is_sound.Tie as tie
@@ -25,9 +25,8 @@ returns c =
     let a = c .before .before .before .before .before .before .before .before .before .before .before .args in
     let g = geometry (a .g) in (
       decided-same
-          (part-refused (c .before .before .before .before .flash-sound .ensures .tells) (c .if1 .taken)
-          (flash-of-sound g (now (a .chip)) (now (a .spare)) (now (a .directory)) (now (a .cache)) (a .rec)))
-          (sound-decided g (state (now (a .chip)) (now (a .spare)) (now (a .directory)) (now (a .cache)) (a .rec))),
+          (part-refused (c .before .before .before .before .flash-sound .ensures .tells) (c .if1 .taken) (flash-of-sound g _))
+          (sound-decided g _),
       (λ p. clash p refl, λ p. clash p refl),
     )
 
@@ -57,11 +56,8 @@ returns-2 c =
     let flash = c .before .before .before .before .before .before .flash-sound .ensures in
     let flash-left = c .before .before .if1 .left in (
       decided-same
-          (by-same
-          (sound-of-both g (now (a .chip)) (now (a .spare)) (now (a .directory)) (now (a .cache)) (a .rec) (part-passed (flash .tells) flash-left))
-          (cache-of-sound g (now (a .chip)) (now (a .spare)) (now (a .directory)) (now (a .cache)) (a .rec))
-          (c .cache-sound .ensures .0))
-          (sound-decided g (state (now (a .chip)) (now (a .spare)) (now (a .directory)) (now (a .cache)) (a .rec))),
+          (by-same (sound-of-both g _ (part-passed (flash .tells) flash-left)) (cache-of-sound g _) (c .cache-sound .ensures .0))
+          (sound-decided g _),
       (λ p. flash .numbers (not-false _ flash-left), c .cache-sound .ensures .1),
     )
 
