@@ -1,7 +1,6 @@
 -- `calls::check` meets its contract.
 use borrow.Author.Needs.{needs}
-use denote.Ref.{now}
-use Rattle.lent.specs.Model.{geometry, state}
+use Rattle.lent.specs.Model.{geometry}
 use Rattle.calls.specs.Check.{check-answers}
 use Rattle.calls.proofs.check.Statement.{statement}
 use Rattle.calls.proofs.check.Tie as tie
@@ -22,8 +21,7 @@ returns : tie.Need-returns
 returns c =
     let tested = c .before .before .before .before in
     let a = tested .before .before .before .before .before .before .before .args in
-    check-answers (geometry (a .g)) (state (now (a .chip)) (now (a .spare)) (now (a .directory)) (now (a .cache)) (a .rec))
-    (tested .before .lengths-right .ensures) (tested .check-answer .ensures) (c .before .before .put-none .ensures)
+    check-answers (geometry (a .g)) _ (tested .before .lengths-right .ensures) (tested .check-answer .ensures) (c .before .before .put-none .ensures)
 
 pub check-spec : {M : Type 1} → statement M
 check-spec =

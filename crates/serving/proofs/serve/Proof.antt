@@ -38,7 +38,7 @@ returns-2 : tie.Need-returns-2
 returns-2 c =
     let a = c .before .before .before .before .before .before .before .before .before .before .args in
     record {
-      runs = request-refused (geometry (a .g)) (a .i) (request (a .q)) (a .cur) (state (now (a .chip)) (now (a .spare)) (now (a .directory)) (now (a .cache)) (a .cur .rec)) (now (a .words)) (now (a .answers))
+      runs = request-refused (geometry (a .g)) (a .i) (request (a .q)) (a .cur) _ (now (a .words)) (now (a .answers))
           (c .before .before .if1 .left) (asked (c .before .before) .part-fits) (c .before .request-answer .ensures) (c .if2 .taken);
       noted = λ x. x;
     }
@@ -111,7 +111,7 @@ returns-3 c =
     let a = tested .before .before .before .before .before .before .before .before .before .before .args in
     let at : a .i * a .g .w + a .g .w - a .i * a .g .w ≡ a .g .w = omega arith in
     record {
-      runs = request-served (geometry (a .g)) (a .i) (request (a .q)) (a .cur) (state (now (a .chip)) (now (a .spare)) (now (a .directory)) (now (a .cache)) (a .cur .rec)) (now (a .words)) (now (a .answers))
+      runs = request-served (geometry (a .g)) (a .i) (request (a .q)) (a .cur) _ (now (a .words)) (now (a .answers))
           (tested .before .before .if1 .left) (asked (tested .before .before) .part-fits) refl at
           (sym (tested .if2 .left) ∙ tested .before .request-answer .ensures) (done .serve-request .ensures .0) (done .serve-request .kept .1 .1 .1 .1 .1 .1 .1 .1 .1 .0);
       noted = λ _. done .serve-request .ensures .1;
