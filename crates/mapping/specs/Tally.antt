@@ -1,18 +1,19 @@
 -- What the counts of src/tally.rt say, of one word and of a list of words.
-use Prim.Native.Nat.{ℕ, _+_, _-_, _*_, _≤_, _<_}
+use Prim.Native.Nat.{ℕ, zero, suc, _+_, _-_, _*_, _≤_, _<_}
+use native.Mathlib.Nat.{add-zero}
 use native.Mathlib.Omega.{arith}
 use native.Mathlib.Numerals.{add-one}
-use mathlib.Core.Path.{_≡_, refl, sym, ap, subst, _∙_}
+use mathlib.Core.Path.{_≡_, refl, sym, ap, ap₂, subst, _∙_}
 use mathlib.Core.Logic.{_≢_}
 use mathlib.Core.Bool.{Bool, true, false, cond, _&&_}
 use mathlib.Core.List.{List}
 use lib.ListN.{length, getD}
 use lib.Dec.{eqb, ltb, leb}
-use borrow.Author.Tests.{eqb-true, eq-eqb, le-leb, lt-ltb}
+use borrow.Author.Tests.{eqb-true, eqb-false, leb-true, eq-eqb, le-leb, lt-ltb}
 use Rattle.scope.specs.Counting.{count}
 use Rattle.scope.specs.Geometry.{most-pages}
 use Rattle.scope.specs.Lent.{none, valid, spare-words, is-valid, state-of, owner-of}
-use Rattle.flash.specs.Cases.{and-true, is-false}
+use Rattle.flash.specs.Cases.{on, and-true, is-false}
 use Rattle.flash.specs.Counting.{count-le, count-add, count-each, count-none}
 use Rattle.words.specs.Erased.{Erased-run}
 use Rattle.words.specs.Runs.{getD-any}
@@ -50,6 +51,23 @@ pub record Run-counted (i at n : ℕ) (nowhere : ℕ → Bool) (nones : ℕ) (go
   pub ends : at ≤ n
   pub nones-more : count at nowhere ≡ count i nowhere + nones
   pub good-more : count at good ≡ count i good + found
+
+-- The words are those of owners from `from` on, and the n pages from `first` on lie in the spare: neither are more than a chip has pages.
+abbrev pub Lie : List ℕ → ℕ → List ℕ → ℕ → ℕ → Type 0
+Lie words from spare first n = (from + length words ≤ most-pages) × ((first + n) * spare-words ≤ length spare) × (first + n ≤ most-pages)
+
+-- The k words from word `at` on name pages below `end`.
+abbrev pub Places : List ℕ → ℕ → ℕ → ℕ → Type 0
+Places words at k end = (j : ℕ) → j < k → getD words (at + j) none < end
+
+-- Of four words each.
+pub four-places : (words : List ℕ) (at end : ℕ) → getD words at none < end → getD words (at + 1) none < end → getD words (at + 2) none < end
+    → getD words (at + 3) none < end → Places words at 4 end
+four-places words at end a b c d zero h = rw add-zero a
+four-places words at end a b c d (suc zero) h = b
+four-places words at end a b c d (suc (suc zero)) h = c
+four-places words at end a b c d (suc (suc (suc zero))) h = d
+four-places words at end a b c d (suc (suc (suc (suc j)))) h = absurd (omega arith)
 
 -- Nothing counted yet.
 abbrev pub nothing : Tally
@@ -106,6 +124,28 @@ pair-differs first n spare k p inside differs =
     let owner-read : getD spare (p * spare-words + 1) 0 ≡ k = getD-any spare (p * spare-words + 1) 0 none (omega arith) ∙ owner in
     absurd (differs (omega arith)))
 
+-- So the two comparisons, that of the numbers and that with the first page, tell what the definition's four tests do.
+pub pair-tells : (first n : ℕ) (spare : List ℕ) (k p : ℕ) → p < first + n → p * spare-words + spare-words ≤ length spare
+    → getD spare (p * spare-words) 0 < 4294967296
+    → eqb (getD spare (p * spare-words) 0 + getD spare (p * spare-words + 1) 0 * 4294967296) (valid + k * 4294967296) && leb first p
+    ≡ owns first n spare k p
+pair-tells first n spare k p high inside small =
+    on (eqb (getD spare (p * spare-words) 0 + getD spare (p * spare-words + 1) 0 * 4294967296) (valid + k * 4294967296))
+    (λ e. on (leb first p)
+    (λ low. ap₂ _&&_ e low ∙ sym (pair-owns first n spare k p (leb-true first p low) high inside (eqb-true _ _ e) small))
+    (λ before. ap₂ _&&_ e before ∙ sym (ap (λ b. b && ltb p (first + n) && is-valid p spare && eqb (owner-of p spare) k) before)))
+    (λ e. ap (λ b. b && leb first p) e ∙ sym (pair-differs first n spare k p inside (eqb-false _ _ e)))
+
+-- Of two tests that each count 1, the product counts those that pass both.
+pub both-count : (a b : Bool) {x y : ℕ} → x ≡ cond a 1 0 → y ≡ cond b 1 0 → x * y ≡ cond (a && b) 1 0
+both-count true true e q = rw (e, q)
+both-count true false e q = rw (e, q)
+both-count false true e q = rw (e, q)
+both-count false false e q = rw (e, q)
+
+pub counts-one : (b : Bool) {x : ℕ} → x ≡ cond b 1 0 → x ≤ 1
+counts-one b e = omega (arith, count-le 1 (λ _. b))
+
 -- From no words to n, a word at a time.
 pub tallied-start : (t : Tally) (nowhere good : ℕ → Bool) → Tallied t t 0 nowhere good
 tallied-start t nowhere good = record { nones-more = omega arith; good-more = omega arith }
@@ -133,6 +173,18 @@ run-more i at had now n nowhere good h inside some is =
       ends = omega arith;
       nones-more = rw (add-one at, some) (omega (arith, h .nones-more));
       good-more = rw (add-one at) (omega (arith, h .good-more));
+    }
+
+-- k words more, which all do.
+pub run-by : (k i at had now n : ℕ) (nowhere good : ℕ → Bool) → Run-counted i at n nowhere 0 good had → at + k ≤ n
+    → ((j : ℕ) → j < k → nowhere (at + j) ≡ false) → now ≡ count k (λ j. good (at + j))
+    → Run-counted i (at + k) n nowhere 0 good (had + now)
+run-by k i at had now n nowhere good h inside some is =
+    record {
+      starts = omega (arith, h .starts);
+      ends = inside;
+      nones-more = omega (arith, count-add at k nowhere, count-none k (λ j. nowhere (at + j)) some, h .nones-more);
+      good-more = omega (arith, count-add at k good, h .good-more);
     }
 
 pub run-most : {i at n nones found : ℕ} {nowhere good : ℕ → Bool} → Run-counted i at n nowhere nones good found → found ≤ n

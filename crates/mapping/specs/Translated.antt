@@ -5,7 +5,7 @@ use native.Mathlib.Nat.{le-div-iff-mul-le, lt-div-mul-add, mul-add-div-right, mu
 use native.Mathlib.Nat.{suc-mul, mul-le-mul-right, add-zero}
 use native.Mathlib.Numerals.{add-one}
 use native.Mathlib.Omega.{arith}
-use mathlib.Core.Path.{_≡_, sym, ap, _∙_, subst}
+use mathlib.Core.Path.{_≡_, refl, sym, ap, _∙_, subst}
 use mathlib.Core.Bool.{Bool}
 use mathlib.Core.List.{List}
 use lib.ListN.{length, getD, take, drop, length-take, length-drop}
@@ -23,7 +23,7 @@ use Rattle.words.specs.Erased.{Erased-run}
 use Rattle.words.specs.Runs.{getD-any}
 use Rattle.mapping.specs.Named.{owns, is-none, none-owned}
 use Rattle.mapping.specs.Stored.{stored-nowhere, stored-place}
-use Rattle.mapping.specs.Tally.{Tallied, Tallied-words, word-none, word-good, tallied-start}
+use Rattle.mapping.specs.Tally.{Tallied, Tallied-word, Tallied-words, word-none, word-good, tallied-start, tallied-more}
 use Rattle.mapping.specs.declared.tally.Tally.{Tally}
 use Rattle.mapping.specs.declared.places.Reached.{Reached}
 
@@ -43,6 +43,20 @@ module _ (g : Geometry) (chip : List ℕ) (at from n : ℕ) (is : n ≡ min (g .
 
   pub part-short : (length (lent-part chip at n) ≤ g .W) × (length (lent-part chip at n) ≤ g .L - from)
   part-short = rw part-held (simp length-take (omega arith))
+
+  -- A single one is counted as a word.
+  pub one-held : n ≡ 1 → at < length chip → (spare : List ℕ) (m : ℕ) {t r : Tally}
+      → Tallied-word t r (is-none (getD chip at none)) (owns 0 m spare from (getD chip at none))
+      → Tallied-words (held-words g chip at from) from spare m t r
+  one-held one inside spare m {t} {r} counted =
+      let words : List ℕ = held-words g chip at from in
+      let only : min (g .W) (g .L - from) ≡ 1 = sym is ∙ one in
+      let long : 0 + 1 ≡ length words = rw only (simp (length-take, length-drop) (omega arith)) in
+      let word : getD words 0 none ≡ getD chip at none =
+      rw only (getD-take 1 (drop at chip) 0 none (omega arith) ∙ getD-drop at chip 0 none ∙ rw add-zero refl) in
+      let first : Tallied-word t r (word-none words 0) (word-good words from spare 0 m 0) = rw (word, add-zero) counted in
+      subst (λ (k : ℕ). Tallied t r k (word-none words) (word-good words from spare 0 m)) long
+      (tallied-more t t r 0 _ _ (tallied-start t _ _) first)
 
 module _ (g : Geometry) (W-from : 1 ≤ g .W) where
   -- Each translation page holds some logical page, and all of them hold every one.

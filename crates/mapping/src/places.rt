@@ -36,7 +36,8 @@ fn least(a: usize, b: usize) -> usize
     if a < b { a } else { b }
 }
 
-// The counts with the words from `at` on, for the logical pages from `from` on: W of them, or as many as L leaves.
+// The counts with the words from `at` on, for the logical pages from `from` on: W of them, or as many as L leaves. A single word is counted
+// as one: where pages have no other, the next word is then on its way before this one has come.
 fn tally_held(sum: Tally, g: Geometry, chip: &[u32], at: usize, from: usize, spare: &[u32]) -> Tally
     requires { ⌜ Accepted (geometry g) ⌝ }
     requires { ⌜ (at + g .w ≤ length (now chip)) × (from ≤ g .l) × Room sum (g .w) ⌝ }
@@ -44,15 +45,12 @@ fn tally_held(sum: Tally, g: Geometry, chip: &[u32], at: usize, from: usize, spa
     ensures { λ r. ⌜ Tallied-words (held-words (geometry g) (now (chip .entry)) at from) from (now (spare .entry)) (g .d * g .p) sum r ⌝ }
 {
     let n = least(g.w as usize, g.l as usize - from);
+    let pages = g.d as usize * g.p as usize;
+    if n == 1 {
+        return tallied(sum, chip[at], from as u32, spare, 0, pages);
+    }
     let end = at + n;
-    tally_words(
-        sum,
-        &chip[at..end],
-        from,
-        spare,
-        0,
-        g.d as usize * g.p as usize,
-    )
+    tally_words(sum, &chip[at..end], from, spare, 0, pages)
 }
 
 // The counts so far, and the translation page that comes next.

@@ -1,12 +1,14 @@
--- `tally::owned` meets its contract: the pair tells what the definition's last two tests do.
+-- `tally::owned` meets its contract: the pair of words and the place tell what the definition's tests do.
 use native.Mathlib.Omega.{arith}
-use mathlib.Core.Bool.{Bool, cond}
-use mathlib.Core.Path.{ap, sym}
-use Prim.Native.Nat.{_+_, _*_}
+use mathlib.Core.Bool.{Bool, cond, _&&_}
+use mathlib.Core.Path.{_≡_, ap, _∙_}
+use Prim.Native.Nat.{ℕ, _+_, _*_, _<_}
+use lib.Dec.{eqb, leb}
+use lib.ListN.{getD}
+use denote.Ref.{now}
 use borrow.Author.Needs.{needs}
-use borrow.Author.Tests.{lt-leb}
-use Rattle.scope.specs.Lent.{spare-words}
-use Rattle.mapping.specs.Tally.{pair-owns, pair-differs}
+use Rattle.scope.specs.Lent.{valid, spare-words}
+use Rattle.mapping.specs.Tally.{pair-tells, both-count, counts-one}
 use Rattle.mapping.proofs.tally.owned.Statement.{statement}
 use Rattle.mapping.proofs.tally.owned.Tie as tie
 
@@ -31,51 +33,68 @@ mul-owner-2 c = search needs
 shared-slice-read-owner : tie.Need-shared-slice-read-owner
 shared-slice-read-owner c = search needs
 
+-- The two words, as they are read: 32-bit numbers.
+abbrev state-read : tie.Start → ℕ
+state-read c = getD (now (c .args .spare)) (c .args .at * spare-words) 0
+
+abbrev owner-read : tie.Start → ℕ
+owner-read c = getD (now (c .args .spare)) (c .args .at * spare-words + 1) 0
+
+state-small : (c : tie.After-shared-slice-known3) → state-read (c .before .before .before) < 4294967296
+state-small c = omega (arith, c .before .before .shared-slice-known .given (c .before .before .before .args .at * spare-words))
+
+owner-small : (c : tie.After-shared-slice-known3) → owner-read (c .before .before .before) < 4294967296
+owner-small c = omega (arith, c .before .shared-slice-known2 .given (c .before .before .before .args .at * spare-words + 1))
+
+cast-same : tie.Need-cast-same
+cast-same c = omega (arith, state-small c)
+
+cast-same-2 : tie.Need-cast-same-2
+cast-same-2 c = omega (arith, owner-small c)
+
+mul-same : tie.Need-mul-same
+mul-same c = omega (arith, owner-small c)
+
+add-same : tie.Need-add-same
+add-same c = omega (arith, state-small c, owner-small c)
+
+cast-same-3 : tie.Need-cast-same-3
+cast-same-3 c = search needs
+
+mul-same-2 : tie.Need-mul-same-2
+mul-same-2 c = search needs
+
+add-same-2 : tie.Need-add-same-2
+add-same-2 c = search needs
+
+same-requires : tie.Need-same-requires
+same-requires c κs = search needs
+
+reaches-requires : tie.Need-reaches-requires
+reaches-requires c κs = search needs
+
+-- The product is 1 where both tests are passed.
+abbrev alike : tie.Start → Bool
+alike c = eqb (state-read c + owner-read c * 4294967296) (valid + c .args .k * 4294967296)
+
+product : (c : tie.After-reaches) → let start = c .before .before .before .before .before in
+    c .before .same .result * c .reaches .result ≡ cond (alike start && leb (start .args .first) (start .args .at)) 1 0
+product c =
+    let start = c .before .before .before .before .before in
+    both-count (alike start) (leb (start .args .first) (start .args .at)) (c .before .same .ensures) (c .reaches .ensures)
+
+mul-result : tie.Need-mul-result
+mul-result c =
+    let start = c .before .before .before .before .before in
+    omega (arith, counts-one (alike start && leb (start .args .first) (start .args .at)) (product c))
+
 returns : tie.Need-returns
-returns c = simp (lt-leb _ _ (c .if1 .taken))
-
-cast-if2 : tie.Need-cast-if2
-cast-if2 c =
-    let a = c .before .before .before .args in
-    omega (arith, c .before .before .shared-slice-known .given (a .at * spare-words))
-
-cast-if2-2 : tie.Need-cast-if2-2
-cast-if2-2 c =
-    let a = c .before .before .before .args in
-    omega (arith, c .before .shared-slice-known2 .given (a .at * spare-words + 1))
-
-mul-if2 : tie.Need-mul-if2
-mul-if2 c =
-    let a = c .before .before .before .args in
-    omega (arith, c .before .shared-slice-known2 .given (a .at * spare-words + 1))
-
-add-if2 : tie.Need-add-if2
-add-if2 c =
-    let a = c .before .before .before .args in
-    omega (arith, c .before .before .shared-slice-known .given (a .at * spare-words), c .before .shared-slice-known2 .given (a .at * spare-words + 1))
-
-cast-if2-3 : tie.Need-cast-if2-3
-cast-if2-3 c = search needs
-
-mul-if2-2 : tie.Need-mul-if2-2
-mul-if2-2 c = search needs
-
-add-if2-2 : tie.Need-add-if2-2
-add-if2-2 c = search needs
-
-returns-2 : tie.Need-returns-2
-returns-2 c =
-    let a = c .before .before .before .before .args in
-    sym (ap (λ (b : Bool). cond b 1 0)
-    (pair-differs (a .first) (a .n) (a .spare .now) (a .k) (a .at) (omega (arith, c .before .before .before .before .pre)) (c .if2 .taken)))
-
-returns-3 : tie.Need-returns-3
-returns-3 c =
-    let start = c .before .before .before .before in
+returns c =
+    let start = c .before .before .before .before .before in
     let a = start .args in
-    sym (ap (λ (b : Bool). cond b 1 0)
-    (pair-owns (a .first) (a .n) (a .spare .now) (a .k) (a .at) (c .before .if1 .left) (start .pre .1) (omega (arith, start .pre)) (c .if2 .left)
-    (omega (arith, c .before .before .before .shared-slice-known .given (a .at * spare-words)))))
+    product c
+    ∙ ap (λ (b : Bool). cond b 1 0)
+    (pair-tells (a .first) (a .n) (now (a .spare)) (a .k) (a .at) (start .pre .1) (omega (arith, start .pre)) (state-small (c .before .before)))
 
 pub owned-spec : {M : Type 1} → statement M
 owned-spec =
@@ -88,13 +107,14 @@ owned-spec =
     add-owner
     mul-owner-2
     shared-slice-read-owner
-    returns
-    cast-if2
-    cast-if2-2
-    mul-if2
-    add-if2
-    cast-if2-3
-    mul-if2-2
-    add-if2-2
-    returns-2
-    returns-3)
+    cast-same
+    cast-same-2
+    mul-same
+    add-same
+    cast-same-3
+    mul-same-2
+    add-same-2
+    same-requires
+    reaches-requires
+    mul-result
+    returns)

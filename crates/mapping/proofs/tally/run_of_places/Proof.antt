@@ -1,16 +1,14 @@
--- `tally::run_of_places` meets its contract. The loop's invariant: the words from i to `at` are counted, and all name pages.
+-- `tally::run_of_places` meets its contract. The loop's invariant: the words from i to `at` are counted, and all name pages, as far
+-- as fours did.
 use native.Mathlib.Omega.{arith}
-use mathlib.Core.Path.{_∙_, ap, sym}
-use Prim.Native.Nat.{ℕ, _+_, _-_}
-use mathlib.Core.Bool.{cond}
+use Prim.Native.Nat.{_-_}
 use lib.ListN.{length, getD}
 use borrow.Author.Needs.{needs}
 use denote.Ref.{now}
 use Rattle.scope.specs.Lent.{none}
-use Rattle.flash.specs.Counting.{count-le}
 use Rattle.words.specs.Runs.{getD-any}
-use Rattle.mapping.specs.Named.{owns, is-none, place-some}
-use Rattle.mapping.specs.Tally.{Run-counted, word-none, word-good, run-start, run-more, run-most}
+use Rattle.mapping.specs.Named.{place-some}
+use Rattle.mapping.specs.Tally.{Run-counted, word-none, word-good, run-more, run-most, counts-one}
 use Rattle.mapping.proofs.tally.run_of_places.Statement.{statement}
 use Rattle.mapping.proofs.tally.run_of_places.Tie as tie
 
@@ -21,50 +19,44 @@ Inv-loop words i from spare first n found₀ at₀ found at =
 abbrev μ-loop : tie.MeasureT-loop
 μ-loop words i from spare first n found₀ at₀ found at = length words - at
 
+run-of-fours-requires : tie.Need-run-of-fours-requires Inv-loop μ-loop
+run-of-fours-requires c κs = search needs
+
 loop-holds : tie.Need-loop-holds Inv-loop μ-loop
-loop-holds c = run-start _ _ _ _ (c .before .before .pre .0)
-
-mul-x : tie.Need-mul-x Inv-loop μ-loop
-mul-x c = search needs
-
-shared-slice-read-x : tie.Need-shared-slice-read-x Inv-loop μ-loop
-shared-slice-read-x c = search needs
-
-cast-x : tie.Need-cast-x Inv-loop μ-loop
-cast-x c =
-    omega (arith, c .shared-slice-known3 .given (c .before .before .loop .at))
+loop-holds c = c .run-of-fours .ensures
 
 add-if1 : tie.Need-add-if1 Inv-loop μ-loop
 add-if1 c = search needs
 
+mul-if1 : tie.Need-mul-if1 Inv-loop μ-loop
+mul-if1 c = search needs
+
+shared-slice-read-if1 : tie.Need-shared-slice-read-if1 Inv-loop μ-loop
+shared-slice-read-if1 c = search needs
+
+cast-if1 : tie.Need-cast-if1 Inv-loop μ-loop
+cast-if1 c = omega (arith, c .shared-slice-known3 .given (c .before .before .loop .at))
+
 returns : tie.Need-returns Inv-loop μ-loop
 returns c =
-    let a = c .before .before .before .before .before .before .args in
-    let turn = c .before .before .before .loop in
-    (turn .inv, λ inside. omega (arith, getD-any (now (a .words)) (turn .at) 0 none inside, c .if1 .taken))
+    let turn = c .before .before .before in
+    let a = turn .before .before .before .before .args in
+    (turn .loop .inv, λ inside. omega (arith, getD-any (now (a .words)) (turn .loop .at) 0 none inside, c .if1 .taken))
 
-add-owned : tie.Need-add-owned Inv-loop μ-loop
-add-owned c = search needs
-
-cast-owned : tie.Need-cast-owned Inv-loop μ-loop
-cast-owned c = search needs
-
-owned-requires : tie.Need-owned-requires Inv-loop μ-loop
-owned-requires c κs = search needs
+good-at-requires : tie.Need-good-at-requires Inv-loop μ-loop
+good-at-requires c κs =
+    let turn = c .before .before .before in
+    let start = turn .before .before .before .before in
+    let a = start .args in
+    omega (arith, start .pre, getD-any (now (a .words)) (turn .loop .at) 0 none (c .before .before .loop-test .taken), c .if1 .left)
 
 add-found : tie.Need-add-found Inv-loop μ-loop
 add-found c =
-    let start = c .before .before .before .before .before .before .before in
+    let turn = c .before .before .before .before in
+    let start = turn .before .before .before .before in
     let a = start .args in
-    let turn = c .before .before .before .before .loop in
-    let x = getD (now (a .words)) (turn .at) 0 in
-    omega (
-      arith,
-      start .pre,
-      run-most (turn .inv),
-      c .owned .ensures,
-      count-le 1 (λ k. owns (a .first) (a .n) (now (a .spare)) (a .from + turn .at) x),
-    )
+    let good = word-good (now (a .words)) (a .from) (now (a .spare)) (a .first) (a .n) (turn .loop .at) in
+    omega (arith, start .pre, run-most (turn .loop .inv), counts-one good (c .good-at .ensures))
 
 add-at : tie.Need-add-at Inv-loop μ-loop
 add-at c = search needs
@@ -74,13 +66,14 @@ loop-less c = search needs
 
 loop-again : tie.Need-loop-again Inv-loop μ-loop
 loop-again c =
-    let start = c .before .before .before .before .before .before .before in
+    let turn = c .before .before .before .before in
+    let start = turn .before .before .before .before in
     let a = start .args in
-    let turn = c .before .before .before .before .loop in
-    let word = getD-any (now (a .words)) (turn .at) 0 none (omega arith) in
-    run-more (a .i) (turn .at) (turn .found) (c .owned .result) (length (now (a .words))) _ _ (turn .inv) (omega arith)
-    (ap is-none (sym word) ∙ place-some (a .first) (a .n) (getD (now (a .words)) (turn .at) 0) (start .pre .1 .1 .1) (omega arith))
-    (c .owned .ensures ∙ ap (λ (x : ℕ). cond (owns (a .first) (a .n) (now (a .spare)) (a .from + turn .at) x) 1 0) word)
+    let inside = c .before .before .before .loop-test .taken in
+    run-more (a .i) (turn .loop .at) (turn .loop .found) (c .good-at .result) (length (now (a .words))) _ _ (turn .loop .inv) inside
+    (place-some (a .first) (a .n) (getD (now (a .words)) (turn .loop .at) none) (start .pre .1 .2)
+    (omega (arith, getD-any (now (a .words)) (turn .loop .at) 0 none inside, c .before .if1 .left)))
+    (c .good-at .ensures)
 
 returns-2 : tie.Need-returns-2 Inv-loop μ-loop
 returns-2 c = (c .before .loop .inv, λ inside. absurd (omega arith))
@@ -91,15 +84,14 @@ run-of-places-spec =
     (tie.spec
     Inv-loop
     μ-loop
+    run-of-fours-requires
     loop-holds
-    mul-x
-    shared-slice-read-x
-    cast-x
     add-if1
+    mul-if1
+    shared-slice-read-if1
+    cast-if1
     returns
-    add-owned
-    cast-owned
-    owned-requires
+    good-at-requires
     add-found
     add-at
     loop-less

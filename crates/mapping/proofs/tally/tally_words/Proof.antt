@@ -62,7 +62,7 @@ to-rest c =
     let run = c .before .before .before .before .run-of-places in
     let rest = c .before .run-of-nones in
     tallied-run _ _ _ (run .result .at) (rest .result .at) _ (rest .result .found) 0 _ _ (to-run (c .before .before .before))
-    (nones-counted (now (a .words)) (run .result .at) (rest .result) (a .from) (now (a .spare)) (a .first) (a .n) (s .pre .1 .1 .1)
+    (nones-counted (now (a .words)) (run .result .at) (rest .result) (a .from) (now (a .spare)) (a .first) (a .n) (s .pre .1 .2)
     (run .ensures .1 (omega arith)) (rest .ensures))
     refl (omega arith)
 
