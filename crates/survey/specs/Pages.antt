@@ -16,7 +16,7 @@ use Rattle.scope.specs.Geometry.{Geometry}
 use Rattle.scope.specs.Regions.{Region, owners, first-page, region-pages}
 use Rattle.scope.specs.Lent.{none, erased, valid, invalid, spare-words, state-of, owner-of, is-erased, is-valid}
 use Rattle.scope.specs.Decisions.{page-fits, pages-fit}
-use Rattle.flash.specs.Cases.{on, and-true, or-cases}
+use Rattle.flash.specs.Cases.{on, and-true, or-cases, is-false}
 use Rattle.flash.specs.Counting.{all-each, each-all, each-counted, count-none, count-each}
 use Rattle.flash.specs.Tests.{all-same}
 use Rattle.geometry.specs.Sizes.{piece-inside}
@@ -134,6 +134,16 @@ module _ (W limit b n : ℕ) (chip spare : List ℕ) (no-marks : blank (n * spar
 
   pub all-erased : n ≡ count n (λ i. is-erased (b * n + i) spare)
   all-erased = sym (count-each n (λ i. is-erased (b * n + i) spare) told-erased)
+
+  pub none-valid : 0 ≡ count n (λ i. is-valid (b * n + i) spare)
+  none-valid =
+      sym (count-none n (λ i. is-valid (b * n + i) spare) (λ i h.
+      ne-eqb (state-of (b * n + i) spare) valid (λ e. omega (arith, eqb-true (state-of (b * n + i) spare) erased (told-erased i h)))))
+
+-- So a block whose first page is not erased is not.
+pub first-marked : (b n : ℕ) (spare : List ℕ) → 1 ≤ n → state-of (b * n) spare ≢ erased → blank (n * spare-words) spare b ≡ false
+first-marked b n spare some marked =
+    is-false (blank (n * spare-words) spare b) (λ h. marked (rw add-zero at (word-at spare-words b n spare h 0 (omega arith))))
 
 -- What is found of the n pages from `first` on.
 pub record Looked (W limit : ℕ) (chip spare : List ℕ) (first n : ℕ) (b : Block) : Type 0 where

@@ -5,6 +5,7 @@ use lent::INVALID;
 use lent::SPARE_WORDS;
 use lent::VALID;
 use words::erased::only_erased;
+use words::spare::state_at;
 use words::states::count_state;
 ghost use mathlib.Core.Path.{_≡_};
 ghost use mathlib.Core.Bool.{cond, _&&_};
@@ -116,25 +117,35 @@ pub struct Block {
     pub valid: usize,
 }
 
-// Block b of p pages is wholly erased, in the spare and on the chip.
+// Block b of p pages is wholly erased, in the spare and on the chip. Of a block whose first page is not, no more is read.
 fn wholly_erased(chip: &[u32], spare: &[u32], w: usize, b: usize, p: usize) -> bool
     requires { ⌜ (b * p + p) * w ≤ length (now chip) ⌝ }
-    requires { ⌜ (b * p + p) * spare-words ≤ length (now spare) ⌝ }
+    requires { ⌜ ((b * p + p) * spare-words ≤ length (now spare)) × (1 ≤ p) ⌝ }
     ensures { λ r. ⌜ r ≡ (blank (p * spare-words) (now (spare .entry)) b && blank (p * w) (now (chip .entry)) b) ⌝ }
 {
+    if state_at(spare, b * p) != ERASED {
+        return false;
+    }
     if !is_blank(spare, p * SPARE_WORDS, b) {
         return false;
     }
     is_blank(chip, p * w, b)
 }
 
-// Block b of p pages. Most blocks have no erased page, and the counts tell, or are wholly erased, and one sweep tells; only where they
+// Block b of p pages. Most blocks are wholly erased, and one sweep tells, or have no erased page, and the counts tell; only where they
 // are neither, as the open block, each page is looked at.
 pub fn look(chip: &[u32], spare: &[u32], w: usize, limit: u32, b: usize, p: usize) -> Block
     requires { ⌜ (b * p + p) * w ≤ length (now chip) ⌝ }
-    requires { ⌜ ((b * p + p) * spare-words ≤ length (now spare)) × (p < 4294967296) ⌝ }
+    requires { ⌜ ((b * p + p) * spare-words ≤ length (now spare)) × (1 ≤ p) × (p < 4294967296) ⌝ }
     ensures { λ r. ⌜ Looked w limit (now (chip .entry)) (now (spare .entry)) (b * p) p r ⌝ }
 {
+    if wholly_erased(chip, spare, w, b, p) {
+        return Block {
+            fits: true,
+            erased: p,
+            valid: 0,
+        };
+    }
     let first = b * p;
     let counts = count_programmed(spare, first, p, limit);
     let valid = counts.valid as usize;
@@ -142,13 +153,6 @@ pub fn look(chip: &[u32], spare: &[u32], w: usize, limit: u32, b: usize, p: usiz
         return Block {
             fits: true,
             erased: 0,
-            valid,
-        };
-    }
-    if wholly_erased(chip, spare, w, b, p) {
-        return Block {
-            fits: true,
-            erased: p,
             valid,
         };
     }

@@ -80,7 +80,7 @@ look-requires c κs =
     let b = a .first + c .before .loop .i in
     let inside : b * a .p + a .p ≤ (a .first + a .n) * a .p = piece-inside (a .p) (a .first + a .n) b (omega arith) in (
       omega (arith, mul-le-mul-right (a .w) inside, s .pre .1 .0),
-      (omega (arith, inside, s .pre .1 .1 .0), omega (arith, s .pre .0 .1)),
+      (omega (arith, inside, s .pre .1 .1 .0), s .pre .0 .0, omega (arith, s .pre .0 .1)),
     )
 
 broken-requires : tie.Need-broken-requires Inv-loop μ-loop
