@@ -8,7 +8,7 @@
  *                 dump of its instructions for each side, labelled CHIP, CASE, side and calls
  *
  * In each round both sides start from the same state and make the same calls in
- * turn, call by call.  What a call costs is its least processor time in any round,
+ * turn, call by call.  What a call costs is its least time in any round,
  * since whatever else the machine does can only add to it.  After each round both must
  * have left the same memory, the same answers and the same counts.
  */
@@ -43,11 +43,14 @@ struct match {
     double best_sweep;
 };
 
-/* The processor's time spent here, in nanoseconds: what other programs take of it isn't counted. */
+/*
+ * The time by the clock, in nanoseconds.  Not the processor's time spent here, which on a
+ * shared machine was told a quarter too short for some calls: the least must not be one of these.
+ */
 static double now(void)
 {
     struct timespec t;
-    clock_gettime(CLOCK_THREAD_CPUTIME_ID, &t);
+    clock_gettime(CLOCK_MONOTONIC, &t);
     return (double)t.tv_sec * 1e9 + (double)t.tv_nsec;
 }
 
