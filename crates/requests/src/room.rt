@@ -18,7 +18,7 @@ ghost use Rattle.scope.specs.Steps.{cache-follows};
 ghost use Rattle.words.specs.Census.{Census};
 ghost use Rattle.words.specs.Filter.{Filter};
 ghost use Rattle.copying.specs.Choice.{To-collect};
-ghost use Rattle.requests.specs.Ready.{lent, Does-all};
+ghost use Rattle.lent.specs.Ready.{lent, Does-all};
 ghost use Rattle.requests.specs.Collecting.{Room-ready};
 
 // Block v is emptied into the one erased block, and erased.

@@ -23,7 +23,7 @@ ghost use Rattle.promises.specs.Update.{update-bound};
 ghost use Rattle.promises.specs.Translate.{translate-bound};
 ghost use Rattle.words.specs.Census.{Census};
 ghost use Rattle.words.specs.Filter.{Filter};
-ghost use Rattle.requests.specs.Ready.{lent, Does-all, Ready, Ready-for};
+ghost use Rattle.lent.specs.Ready.{lent, Does-all, Ready, Ready-for};
 ghost use Rattle.requests.specs.Filtered.{Keeps-filters};
 ghost use Rattle.requests.specs.Translating.{Fetches, Does-fetch};
 

@@ -3,7 +3,7 @@ use borrow.Author.Needs.{needs}
 use borrow.Author.Tests.{eq-eqb, ne-eqb}
 use Rattle.lent.specs.DoesLaws.{does-cond-true, does-cond-false}
 use Rattle.scope.specs.Calls.{serve}
-use Rattle.requests.specs.Ready.{ready-less}
+use Rattle.lent.specs.Ready.{ready-less}
 use Rattle.admission.specs.Room.{read-few, write-few}
 use Rattle.serving.proofs.serve_request.Statement.{statement}
 use Rattle.serving.proofs.serve_request.Tie as tie

@@ -4,7 +4,7 @@ use native.Mathlib.Omega.{arith}
 use borrow.Author.Needs.{needs}
 use Rattle.scope.specs.Lent.{decode}
 use Rattle.lent.specs.Model.{geometry}
-use Rattle.requests.specs.Ready.{left-by}
+use Rattle.lent.specs.Ready.{left-by}
 use Rattle.requests.specs.Answering.{read-begins, translated-lies, place-ready, read-does}
 use Rattle.requests.specs.Filtered.{filter-still, read-place-keeps-used}
 use Rattle.requests.proofs.answers.read.Statement.{statement}

@@ -2,7 +2,7 @@
 use native.Mathlib.Omega.{arith}
 use borrow.Author.Needs.{needs}
 use Rattle.lent.specs.Model.{geometry}
-use Rattle.requests.specs.Ready.{left-by}
+use Rattle.lent.specs.Ready.{left-by}
 use Rattle.requests.specs.Answering.{write-begins, room-ready, writing-ready, write-does}
 use Rattle.requests.proofs.answers.write.Statement.{statement}
 use Rattle.requests.proofs.answers.write.Tie as tie

@@ -3,7 +3,7 @@ use native.Mathlib.Omega.{arith}
 use borrow.Author.Needs.{needs}
 use Rattle.lent.specs.Shapes.{less-room}
 use Rattle.lent.specs.Model.{geometry}
-use Rattle.requests.specs.Ready.{ready-state, left-by}
+use Rattle.lent.specs.Ready.{ready-state, left-by}
 use Rattle.requests.specs.Translating.{hit-does, miss-does, fetch-ready}
 use Rattle.requests.specs.Filtered.{found-in-use, touched-filter}
 use Rattle.requests.proofs.translation.translate.Statement.{statement}
