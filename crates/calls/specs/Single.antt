@@ -18,8 +18,7 @@ use Rattle.scope.specs.Requests.{Replied, replied}
 use Rattle.scope.specs.Calls.{state-sizes, state-tests, request-tests, single-tests}
 use Rattle.scope.specs.Boundary.{put-counts}
 use Rattle.scope.specs.Contracts.{Answers}
-use Rattle.words.specs.Census.{Census}
-use Rattle.words.specs.Filter.{Filter}
+use Rattle.words.specs.Noted.{Noted}
 use Rattle.lent.specs.Ready.{Ready-for}
 use Rattle.replies.specs.Answers.{does-answers, refuses, admits}
 use Rattle.replies.specs.Sizes.{buffer-right, with-buffer}
@@ -40,13 +39,12 @@ module _ {g : Geometry} {others : Bool} {q : Request} (buffer : List ℕ) {s : S
   -- What the steps begin with.
   pub single-ready : (bound : ℕ) → (Accepted g → bound ≤ most-cost) → n ≡ DONE
       → (Ready-for (q .page) g s bound (record { reads = 0; programs = 0; erases = 0 }) × (length buffer ≡ g .W))
-      × (Census g (s .spare) census × Filter (s .cache) (s .small .used) filter)
+      × Noted g s census filter
   single-ready bound few e =
       let right = buffer-right g (length buffer) others in
       let pass = single-passes g s right q (sym e ∙ t .tested) in
       let sizes = pass .state-passed .sizes-passed in
-      let room : bound ≤ most-cost = few (geometry-passes g s right sizes) in
-      let noted = t .noted e in (
+      let room : bound ≤ most-cost = few (geometry-passes g s right sizes) in (
         (
           record {
             ready = state-ready g s right (pass .state-passed) (room-at-first (omega arith) refl);
@@ -54,7 +52,7 @@ module _ {g : Geometry} {others : Bool} {q : Request} (buffer : List ℕ) {s : S
           },
           eqb-true (length buffer) (g .W) (and-true (eqb (length buffer) (g .W)) others (and-true (right-sizes (state-sizes g s)) right (sizes .sized) .1) .0),
         ),
-        (noted .counted, noted .filtered),
+        t .noted e,
       )
 
   module _ (steps : Step Replied) {counts counts′ : List ℕ} where

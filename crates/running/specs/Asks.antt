@@ -13,7 +13,7 @@ use Rattle.lent.specs.declared.Counts.{Counts as Counted}
 use Rattle.lent.specs.Model.{counts}
 use Rattle.lent.specs.Does.{Does}
 use Rattle.lent.specs.Ready.{Ready, fewer-begin, countable-after}
-use Rattle.admission.specs.Noted.{Noted}
+use Rattle.words.specs.Noted.{Noted}
 
 -- There is room for n operations.
 pub record Asks (g : Geometry) (n : ℕ) (s : State) (c : Counted) (census filter : List ℕ) : Type 0 where
