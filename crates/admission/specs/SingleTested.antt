@@ -8,7 +8,7 @@ use Rattle.scope.specs.Lent.{State, Request}
 use Rattle.scope.specs.Replies.{DONE, first-applying, right-sizes}
 use Rattle.scope.specs.Calls.{state-sizes, state-tests, request-tests}
 use Rattle.replies.specs.Sizes.{buffer-right}
-use Rattle.admission.specs.Noted.{Noted}
+use Rattle.words.specs.Noted.{Noted}
 
 -- n is the answer of the tests, where the page buffer has `buffer` words; the notes are taken where none applies.
 pub record Single-tested (g : Geometry) (others : Bool) (q : Request) (buffer : ℕ) (s : State) (n : ℕ) (census filter : List ℕ) :

@@ -1,5 +1,5 @@
--- What the tests' answer tells: 0 only where the geometry is accepted, the lengths are right, the state is sound and the request passes.
--- And that a test that applies answers for all that follow it.
+-- What the tests' answer tells: 0 only where the geometry is accepted, the lengths are right, the state is sound and the request passes, so
+-- that the steps of a request may begin. And that a test that applies answers for all that follow it.
 use Prim.Native.Nat.{ℕ, _<_}
 use mathlib.Core.Path.{_≡_, refl, sym, _∙_}
 use mathlib.Core.Logic.{_≢_}
@@ -17,6 +17,9 @@ use Rattle.scope.specs.Replies.{DONE, DAMAGED, Test, first-applying, right-size
 use Rattle.scope.specs.Calls.{state-sizes, size-tests, state-tests, request-tests}
 use Rattle.scope.specs.Laws.Decided.{accepted-decided, sound-decided}
 use Rattle.promises.specs.GroundsDecided.{tests-passed, page-passed}
+use Rattle.lent.specs.declared.Counts.{Counts as Counted}
+use Rattle.lent.specs.Shapes.{Room-to-count}
+use Rattle.lent.specs.Ready.{Ready}
 use Rattle.geometry.specs.Sizes.{sizes-fit}
 
 -- The first of more tests.
@@ -89,6 +92,16 @@ module _ (g : Geometry) (s : State) (others : Bool) where
 
   pub soundness-passes : State-passes → Sound g s
   soundness-passes p = sound-decided g s .holds (p .is-sound)
+
+  -- Then steps may begin, of as many operations as there is room to count.
+  pub state-ready : {n : ℕ} {c : Counted} → State-passes → Room-to-count n c → Ready g s n c
+  state-ready p room =
+      record {
+        accepted = geometry-passes (p .sizes-passed);
+        lengths = lengths-pass (p .sizes-passed);
+        sound = soundness-passes p;
+        countable = room;
+      }
 
   -- A request's tests come after the state's.
   module _ (q : Request) where

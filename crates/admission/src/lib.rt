@@ -22,7 +22,7 @@ ghost use Rattle.scope.specs.Boundary.{counts-words};
 ghost use Rattle.scope.specs.Replies.{DONE};
 ghost use Rattle.replies.specs.Model.{request};
 ghost use Rattle.admission.specs.Tested.{State-tested};
-ghost use Rattle.admission.specs.Noted.{Noted};
+ghost use Rattle.words.specs.Noted.{Noted};
 ghost use Rattle.admission.specs.SingleTested.{Single-tested};
 
 const DAMAGED: u32 = 4;

@@ -1,6 +1,6 @@
 -- A single request, be it a read or a write, refused and served.
 use Prim.Native.Nat.{ℕ, _≤_}
-use mathlib.Core.Path.{_≡_, ap, sym, _∙_}
+use mathlib.Core.Path.{_≡_, refl, ap, sym, _∙_}
 use mathlib.Core.Logic.{_≢_}
 use mathlib.Core.Bool.{Bool}
 use mathlib.Core.List.{List, _++_}
@@ -18,13 +18,12 @@ use Rattle.scope.specs.Requests.{Replied, replied}
 use Rattle.scope.specs.Calls.{state-sizes, state-tests, request-tests, single-tests}
 use Rattle.scope.specs.Boundary.{put-counts}
 use Rattle.scope.specs.Contracts.{Answers}
-use Rattle.words.specs.Census.{Census}
-use Rattle.words.specs.Filter.{Filter}
-use Rattle.requests.specs.Ready.{Ready-for}
+use Rattle.words.specs.Noted.{Noted}
+use Rattle.lent.specs.Ready.{Ready-for}
 use Rattle.replies.specs.Answers.{does-answers, refuses, admits}
 use Rattle.replies.specs.Sizes.{buffer-right, with-buffer}
-use Rattle.admission.specs.Tested.{request-below, single-passes, geometry-passes, lengths-pass, soundness-passes}
-use Rattle.admission.specs.Room.{most-cost}
+use Rattle.admission.specs.Tested.{request-below, single-passes, geometry-passes, state-ready}
+use Rattle.admission.specs.Room.{most-cost, room-at-first}
 use Rattle.admission.specs.SingleTested.{Single-tested}
 
 -- The definition of either, by its steps.
@@ -40,27 +39,20 @@ module _ {g : Geometry} {others : Bool} {q : Request} (buffer : List ℕ) {s : S
   -- What the steps begin with.
   pub single-ready : (bound : ℕ) → (Accepted g → bound ≤ most-cost) → n ≡ DONE
       → (Ready-for (q .page) g s bound (record { reads = 0; programs = 0; erases = 0 }) × (length buffer ≡ g .W))
-      × (Census g (s .spare) census × Filter (s .cache) (s .small .used) filter)
+      × Noted g s census filter
   single-ready bound few e =
       let right = buffer-right g (length buffer) others in
       let pass = single-passes g s right q (sym e ∙ t .tested) in
       let sizes = pass .state-passed .sizes-passed in
-      let ok = geometry-passes g s right sizes in
-      let room : bound ≤ most-cost = few ok in
-      let noted = t .noted e in (
+      let room : bound ≤ most-cost = few (geometry-passes g s right sizes) in (
         (
           record {
-            ready = record {
-              accepted = ok;
-              lengths = lengths-pass g s right sizes;
-              sound = soundness-passes g s right (pass .state-passed);
-              countable = record { reads = omega arith; programs = omega arith; erases = omega arith };
-            };
+            ready = state-ready g s right (pass .state-passed) (room-at-first (omega arith) refl);
             below = request-below g (s .small) q (pass .request-passed);
           },
           eqb-true (length buffer) (g .W) (and-true (eqb (length buffer) (g .W)) others (and-true (right-sizes (state-sizes g s)) right (sizes .sized) .1) .0),
         ),
-        (noted .counted, noted .filtered),
+        t .noted e,
       )
 
   module _ (steps : Step Replied) {counts counts′ : List ℕ} where

@@ -6,7 +6,7 @@ use mathlib.Core.List.{List, [], _∷_, _++_}
 use native.Mathlib.Numerals.{add-one}
 use native.Mathlib.Omega.{arith}
 use lib.Dec.{eqb, ltb}
-use lib.ListN.{length, getD}
+use lib.ListN.{length}
 use lib.Seq.{sets}
 use borrow.Author.Tests.{eqb-true, ltb-true}
 use Rattle.scope.specs.Geometry.{Geometry}
@@ -14,7 +14,7 @@ use Rattle.scope.specs.SmallRecord.{with-used}
 use Rattle.scope.specs.Lent.{none, entry-words, cache-size, logical-at}
 use Rattle.scope.specs.Sound.{rank-of}
 use Rattle.scope.specs.Cache.{entry-at, without, touch, enter, forget, set-entry}
-use Rattle.flash.specs.Cases.{same?, and-true, is-false}
+use Rattle.flash.specs.Cases.{and-true, is-false}
 use Rattle.flash.specs.Stores.{getD-sets-outside}
 use Rattle.cache.specs.Entries.{placed}
 use Rattle.cache.specs.Ranks.{Not-cached, cached?}
@@ -22,7 +22,6 @@ use Rattle.lent.specs.declared.Work.{Work}
 use Rattle.lent.specs.Model.{small, counts}
 use Rattle.lent.specs.DoesLaws.{does-ends, cache-same, does-give, does-bind, does-set-cache, does-set-small}
 use Rattle.lent.specs.Shapes.{Does-cache}
-use Rattle.words.specs.Runs.{getD-any}
 use Rattle.words.specs.Searches.{lowest-fails}
 
 -- A cache of the right size, with no more entries in use than it has.
@@ -37,18 +36,6 @@ Different cache used = (i j : ℕ) → i < used → j < used → logical-at i ca
 -- No entry from rank i on, and before n, has logical page l.
 abbrev pub None-has : ℕ → ℕ → ℕ → List ℕ → Type 0
 None-has l i n cache = (k : ℕ) → i ≤ k → k < n → logical-at k cache ≢ l
-
--- What is read of four entries is their logical pages.
-pub none-of-four : (l i : ℕ) (cache : List ℕ) → let at = i * entry-words in (i + 4) * entry-words ≤ length cache
-    → getD cache at 0 ≢ l → getD cache (at + entry-words) 0 ≢ l
-    → getD cache (at + 2 * entry-words) 0 ≢ l → getD cache (at + 3 * entry-words) 0 ≢ l → None-has l i (i + 4) cache
-none-of-four l i cache fits first second third fourth k from upto e =
-    same? k i (λ q. first (read _ (omega arith)))
-    (λ n₁. same? k (i + 1) (λ q. second (read _ (omega arith)))
-    (λ n₂. same? k (i + 2) (λ q. third (read _ (omega arith))) (λ n₃. fourth (read _ (omega arith)))))
-  where
-    read : (at : ℕ) → k * entry-words ≡ at → getD cache at 0 ≡ l
-    read at is = ap (λ (j : ℕ). getD cache j 0) (sym is) ∙ getD-any cache (k * entry-words) 0 none (omega arith) ∙ e
 
 -- Another place for the entry at rank i leaves them.
 pub different-placed : (cache : List ℕ) {used : ℕ} → Different cache used → (i place : ℕ) → Different (placed i place cache) used

@@ -7,12 +7,12 @@ use lent::NONE;
 use lent::Record;
 use lent::Work;
 use words::bitmap;
+use words::entries::among_four;
 use words::entries::put_front;
 use words::entries::to_front;
 use words::runs::store_three;
 use words::runs::store_two;
 ghost use mathlib.Core.Path.{_≡_};
-ghost use mathlib.Core.Bool.{false};
 ghost use Prim.Native.Nat.{_+_, _*_, _≤_, _<_};
 ghost use lib.ListN.{length};
 ghost use Rattle.scope.specs.Sound.{rank-of};
@@ -21,7 +21,7 @@ ghost use Rattle.scope.specs.Lent.{entry-words, logical-at, physical-at};
 ghost use Rattle.lent.specs.declared.Work.{Work};
 ghost use Rattle.lent.specs.Model.{geometry};
 ghost use Rattle.lent.specs.Shapes.{Does-cache};
-ghost use Rattle.entries.specs.Entries.{Cache-lent, Different, None-has};
+ghost use Rattle.entries.specs.Entries.{Cache-lent, Different};
 ghost use Rattle.words.specs.Filter.{Filter, bit-of};
 
 // The bit of a logical page in the filter.
@@ -123,40 +123,8 @@ pub fn set_entry(i: usize, place: u32, cache: &mut [u32])
     store_two(cache, i * ENTRY_WORDS + 1, place, 1);
 }
 
-// Whether one of the four entries from rank i on has logical page l.
-fn one_of_four(i: usize, l: u32, cache: &[u32]) -> bool
-    requires { ⌜ (i + 4) * entry-words ≤ length (now cache) ⌝ }
-    ensures { λ r. ⌜ (r ≡ false → None-has l i (i + 4) (now (cache .entry))) ⌝ }
-{
-    let at = i * ENTRY_WORDS;
-    if cache[at] == l {
-        return true;
-    }
-    if cache[at + ENTRY_WORDS] == l {
-        return true;
-    }
-    if cache[at + 2 * ENTRY_WORDS] == l {
-        return true;
-    }
-    cache[at + 3 * ENTRY_WORDS] == l
-}
-
-// From the last of n entries on, those that are passed without logical page l: all from the rank handed back on. Four a turn.
-fn passed_from_last(n: usize, l: u32, cache: &[u32]) -> usize
-    requires { ⌜ n * entry-words ≤ length (now cache) ⌝ }
-    ensures { λ i. ⌜ (i ≤ n) × None-has l i n (now (cache .entry)) ⌝ }
-{
-    let mut i = n;
-    while 4 <= i {
-        if one_of_four(i - 4, l, cache) {
-            return i;
-        }
-        i -= 4;
-    }
-    i
-}
-
-// The rank of logical page l, sought from the last entry on: an entry that a collection follows has mostly not been used for long.
+// The rank of logical page l, sought from the last entries on, four a turn: an entry that a collection follows has mostly not been used for
+// long.
 pub fn rank_from_last(
     rec: Record,
     g: Geometry,
@@ -173,7 +141,14 @@ pub fn rank_from_last(
     if !bitmap::has(filter, bit_of(l)) {
         return n;
     }
-    let mut i = passed_from_last(rec.used as usize, l, cache);
+    let mut i = rec.used as usize;
+    while 4 <= i {
+        i -= 4;
+        let k = among_four(cache, i, l);
+        if k < 4 {
+            return i + k;
+        }
+    }
     while 0 < i {
         i -= 1;
         if cache[i * ENTRY_WORDS] == l {

@@ -35,7 +35,7 @@ use Rattle.lent.specs.DoesLaws.{does-give, does-look-at, does-bind}
 use Rattle.lent.specs.Shapes.{Does-flash, Does-by-chip, Does-cache, Room-to-count, less-room}
 use Rattle.steps.specs.Chip.{marked, mark-old-does}
 use Rattle.steps.specs.Lies.{Chip-lent, Spare-lent, Has-next}
-use Rattle.requests.specs.Ready.{Does-all, Ready-for, ready-less, countable-after}
+use Rattle.lent.specs.Ready.{Does-all, Ready-for, ready-less, countable-after}
 use Rattle.requests.specs.Collecting.{room-bound, Room-ready}
 
 -- The page at a place may be read into a buffer.

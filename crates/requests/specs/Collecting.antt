@@ -31,7 +31,7 @@ use Rattle.steps.specs.Lies.{Chip-lent, Spare-lent}
 use Rattle.copying.specs.Choice.{To-collect, Makes-room, start-collect, start-follows-does, collect-does}
 use Rattle.copying.specs.Starting.{Collect-ready}
 use Rattle.index.specs.Index.{Index, lists, with-index, Does-index, chip-of, spare-of, lengths-lent, Index-ready}
-use Rattle.requests.specs.Ready.{Does-all, Ready, countable-after}
+use Rattle.lent.specs.Ready.{Does-all, Ready, countable-after}
 
 -- The most that room in the data region costs.
 abbrev pub room-bound : Geometry → ℕ

@@ -1,5 +1,4 @@
 -- The modules of this crate.
-pub mod Ready
 pub mod Translating
 pub mod Filtered
 pub mod Following

@@ -26,7 +26,7 @@ use Rattle.lent.specs.declared.Work.{Work}
 use Rattle.lent.specs.Model.{state, with-rec, counts}
 use Rattle.lent.specs.Does.{Does}
 use Rattle.lent.specs.DoesLaws.{does-give, does-look, does-look-at, does-bind, does-cond-true, does-cond-false}
-use Rattle.requests.specs.Ready.{Ready, Ready-for, countable-after}
+use Rattle.lent.specs.Ready.{Ready, Ready-for, countable-after}
 use Rattle.index.specs.Index.{lists, with-index, lengths-lent, Index-ready}
 use Rattle.lent.specs.Shapes.{Does-by-chip, Room-to-count, less-room}
 

@@ -24,7 +24,8 @@ ghost use Rattle.promises.specs.Demands.{read-bound, write-bound};
 ghost use Rattle.promises.specs.Write.{placing};
 ghost use Rattle.words.specs.Census.{Census};
 ghost use Rattle.words.specs.Filter.{Filter};
-ghost use Rattle.requests.specs.Ready.{lent, Does-all, Ready-for};
+ghost use Rattle.words.specs.Noted.{Noted};
+ghost use Rattle.lent.specs.Ready.{lent, Does-all, Ready-for};
 ghost use Rattle.requests.specs.Answering.{Place-ready, Writing-ready, Does-placing};
 
 const DONE: u32 = 0;
@@ -65,14 +66,13 @@ pub fn read(
 ) -> Handed
     requires { ⌜ Ready-for l (geometry g) (lent chip spare directory cache work) (read-bound (geometry g)) (work .counts)
         × (length (now buffer) ≡ g .w) ⌝ }
-    requires { ⌜ Census (geometry g) (now spare) (now census) ⌝ }
-    requires { ⌜ Filter (now cache) (work .rec .used) (now filter) ⌝ }
+    requires { ⌜ Noted (geometry g) (lent chip spare directory cache work) (now census) (now filter) ⌝ }
     ensures { λ r. ⌜ Does-all (read-steps (geometry g) l (now (buffer .entry)))
         (lent (chip .entry) (spare .entry) (directory .entry) (cache .entry) work) work
         (replied (now (buffer .exit)) (r .value))
         (lent (chip .exit) (spare .exit) (directory .exit) (cache .exit) (r .work)) (r .work) ⌝ }
-    ensures { λ _. ⌜ Census (geometry g) (now (spare .exit)) (now (census .exit)) ⌝ }
-    ensures { λ r. ⌜ Filter (now (cache .exit)) (r .work .rec .used) (now (filter .exit)) ⌝ }
+    ensures { λ r. ⌜ Noted (geometry g) (lent (chip .exit) (spare .exit) (directory .exit) (cache .exit) (r .work))
+        (now (census .exit)) (now (filter .exit)) ⌝ }
 {
     let at = translate(work, g, l, chip, spare, census, directory, cache, filter);
     let translated = at.work;
@@ -124,14 +124,13 @@ pub fn write(
 ) -> Handed
     requires { ⌜ Ready-for l (geometry g) (lent chip spare directory cache work) (write-bound (geometry g)) (work .counts)
         × (length (now buffer) ≡ g .w) ⌝ }
-    requires { ⌜ Census (geometry g) (now spare) (now census) ⌝ }
-    requires { ⌜ Filter (now cache) (work .rec .used) (now filter) ⌝ }
+    requires { ⌜ Noted (geometry g) (lent chip spare directory cache work) (now census) (now filter) ⌝ }
     ensures { λ r. ⌜ Does-all (write-steps (geometry g) l (now (buffer .entry)))
         (lent (chip .entry) (spare .entry) (directory .entry) (cache .entry) work) work
         (replied (now (buffer .entry)) (r .value))
         (lent (chip .exit) (spare .exit) (directory .exit) (cache .exit) (r .work)) (r .work) ⌝ }
-    ensures { λ _. ⌜ Census (geometry g) (now (spare .exit)) (now (census .exit)) ⌝ }
-    ensures { λ r. ⌜ Filter (now (cache .exit)) (r .work .rec .used) (now (filter .exit)) ⌝ }
+    ensures { λ r. ⌜ Noted (geometry g) (lent (chip .exit) (spare .exit) (directory .exit) (cache .exit) (r .work))
+        (now (census .exit)) (now (filter .exit)) ⌝ }
 {
     let at = translate(work, g, l, chip, spare, census, directory, cache, filter);
     let translated = at.work;

@@ -15,10 +15,9 @@ ghost use Rattle.lent.specs.Model.{geometry};
 ghost use Rattle.scope.specs.Regions.{Data};
 ghost use Rattle.scope.specs.Room.{make-room};
 ghost use Rattle.scope.specs.Steps.{cache-follows};
-ghost use Rattle.words.specs.Census.{Census};
-ghost use Rattle.words.specs.Filter.{Filter};
+ghost use Rattle.words.specs.Noted.{Noted};
 ghost use Rattle.copying.specs.Choice.{To-collect};
-ghost use Rattle.requests.specs.Ready.{lent, Does-all};
+ghost use Rattle.lent.specs.Ready.{lent, Does-all};
 ghost use Rattle.requests.specs.Collecting.{Room-ready};
 
 // Block v is emptied into the one erased block, and erased.
@@ -34,13 +33,12 @@ fn collect(
     filter: &[u64; FILTER_WORDS],
 ) -> Work
     requires { ⌜ Room-ready (geometry g) (lent chip spare directory cache work) (work .counts) × To-collect (geometry g) Data (now spare) work v ⌝ }
-    requires { ⌜ Census (geometry g) (now spare) (now census) ⌝ }
-    requires { ⌜ Filter (now cache) (work .rec .used) (now filter) ⌝ }
+    requires { ⌜ Noted (geometry g) (lent chip spare directory cache work) (now census) (now filter) ⌝ }
     ensures { λ r. ⌜ Does-all (make-room (geometry g) Data (cache-follows (geometry g)))
         (lent (chip .entry) (spare .entry) (directory .entry) (cache .entry) work) work tt
         (lent (chip .exit) (spare .exit) (directory .exit) (cache .exit) r) r ⌝ }
-    ensures { λ _. ⌜ Census (geometry g) (now (spare .exit)) (now (census .exit)) ⌝ }
-    ensures { λ r. ⌜ Filter (now (cache .exit)) (r .rec .used) (now (filter .entry)) ⌝ }
+    ensures { λ r. ⌜ Noted (geometry g) (lent (chip .exit) (spare .exit) (directory .exit) (cache .exit) r)
+        (now (census .exit)) (now (filter .entry)) ⌝ }
 {
     let mut moves = [0u32; MOVES_WORDS];
     let copied = start(work, g, Region::Data, v, chip, spare, census, &mut moves);
@@ -72,13 +70,12 @@ pub fn make_room(
     filter: &[u64; FILTER_WORDS],
 ) -> Work
     requires { ⌜ Room-ready (geometry g) (lent chip spare directory cache work) (work .counts) ⌝ }
-    requires { ⌜ Census (geometry g) (now spare) (now census) ⌝ }
-    requires { ⌜ Filter (now cache) (work .rec .used) (now filter) ⌝ }
+    requires { ⌜ Noted (geometry g) (lent chip spare directory cache work) (now census) (now filter) ⌝ }
     ensures { λ r. ⌜ Does-all (make-room (geometry g) Data (cache-follows (geometry g)))
         (lent (chip .entry) (spare .entry) (directory .entry) (cache .entry) work) work tt
         (lent (chip .exit) (spare .exit) (directory .exit) (cache .exit) r) r ⌝ }
-    ensures { λ _. ⌜ Census (geometry g) (now (spare .exit)) (now (census .exit)) ⌝ }
-    ensures { λ r. ⌜ Filter (now (cache .exit)) (r .rec .used) (now (filter .entry)) ⌝ }
+    ensures { λ r. ⌜ Noted (geometry g) (lent (chip .exit) (spare .exit) (directory .exit) (cache .exit) r)
+        (now (census .exit)) (now (filter .entry)) ⌝ }
 {
     let choice = choose(work, g, Region::Data, spare, census);
     match choice {

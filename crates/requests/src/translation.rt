@@ -23,7 +23,8 @@ ghost use Rattle.promises.specs.Update.{update-bound};
 ghost use Rattle.promises.specs.Translate.{translate-bound};
 ghost use Rattle.words.specs.Census.{Census};
 ghost use Rattle.words.specs.Filter.{Filter};
-ghost use Rattle.requests.specs.Ready.{lent, Does-all, Ready, Ready-for};
+ghost use Rattle.words.specs.Noted.{Noted};
+ghost use Rattle.lent.specs.Ready.{lent, Does-all, Ready, Ready-for};
 ghost use Rattle.requests.specs.Filtered.{Keeps-filters};
 ghost use Rattle.requests.specs.Translating.{Fetches, Does-fetch};
 
@@ -137,13 +138,12 @@ pub fn translate(
     filter: &mut [u64; FILTER_WORDS],
 ) -> Handed
     requires { ⌜ Ready-for l (geometry g) (lent chip spare directory cache work) (translate-bound (geometry g)) (work .counts) ⌝ }
-    requires { ⌜ Census (geometry g) (now spare) (now census) ⌝ }
-    requires { ⌜ Filter (now cache) (work .rec .used) (now filter) ⌝ }
+    requires { ⌜ Noted (geometry g) (lent chip spare directory cache work) (now census) (now filter) ⌝ }
     ensures { λ r. ⌜ Does-all (translate (geometry g) l)
         (lent (chip .entry) (spare .entry) (directory .entry) (cache .entry) work) work (r .value)
         (lent (chip .exit) (spare .exit) (directory .exit) (cache .exit) (r .work)) (r .work) ⌝ }
-    ensures { λ _. ⌜ Census (geometry g) (now (spare .exit)) (now (census .exit)) ⌝ }
-    ensures { λ r. ⌜ Filter (now (cache .exit)) (r .work .rec .used) (now (filter .exit)) ⌝ }
+    ensures { λ r. ⌜ Noted (geometry g) (lent (chip .exit) (spare .exit) (directory .exit) (cache .exit) (r .work))
+        (now (census .exit)) (now (filter .exit)) ⌝ }
 {
     let rec = work.rec;
     let i = rank_of(rec, g, l, cache, filter);

@@ -3,7 +3,6 @@
 use Prim.Native.Nat.{ℕ, _+_, _≤_}
 use mathlib.Core.Path.{subst}
 use mathlib.Core.List.{List}
-use native.Mathlib.Omega.{arith}
 use Rattle.flash.specs.Listed.{cost}
 use Rattle.flash.specs.Words.{Lengths}
 use Rattle.scope.specs.Geometry.{Geometry}
@@ -13,8 +12,8 @@ use Rattle.scope.specs.Operations.{Step}
 use Rattle.lent.specs.declared.Counts.{Counts as Counted}
 use Rattle.lent.specs.Model.{counts}
 use Rattle.lent.specs.Does.{Does}
-use Rattle.requests.specs.Ready.{Ready, countable-after}
-use Rattle.admission.specs.Noted.{Noted}
+use Rattle.lent.specs.Ready.{Ready, fewer-begin, countable-after}
+use Rattle.words.specs.Noted.{Noted}
 
 -- There is room for n operations.
 pub record Asks (g : Geometry) (n : ℕ) (s : State) (c : Counted) (census filter : List ℕ) : Type 0 where
@@ -24,21 +23,7 @@ pub record Asks (g : Geometry) (n : ℕ) (s : State) (c : Counted) (census filte
 module _ {g : Geometry} {s : State} {c : Counted} {census filter : List ℕ} where
   -- Fewer may be asked for.
   pub asks-less : {n m : ℕ} → n ≤ m → Asks g m s c census filter → Asks g n s c census filter
-  asks-less h asks =
-      let room = asks .ready .countable in
-      record {
-        ready = record {
-          accepted = asks .ready .accepted;
-          lengths = asks .ready .lengths;
-          sound = asks .ready .sound;
-          countable = record {
-            reads = omega (arith, room .reads);
-            programs = omega (arith, room .programs);
-            erases = omega (arith, room .erases);
-          };
-        };
-        noted = asks .noted;
-      }
+  asks-less h asks = record { ready = fewer-begin h (asks .ready); noted = asks .noted }
 
   -- After steps of at most k operations that keep a sound state, its lengths and true notes, n more may be asked for.
   pub asks-again : {A : Type 0} {m : Step A} {x : A} {s′ : State} {c′ : Counted} {census′ filter′ : List ℕ} (n k : ℕ)

@@ -13,7 +13,7 @@ use Rattle.scope.specs.Replies.{DONE, Test, first-applying, right-sizes}
 use Rattle.scope.specs.Boundary.{counts-words, put-counts}
 use Rattle.scope.specs.Calls.{state-sizes, state-tests}
 use Rattle.running.specs.declared.Running.{Running}
-use Rattle.admission.specs.Noted.{Noted}
+use Rattle.words.specs.Noted.{Noted}
 use Rattle.replies.specs.Sizes.{sizes-of-run, run-right, with-run}
 use Rattle.admission.specs.Tested.{State-tested}
 

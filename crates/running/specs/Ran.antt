@@ -32,7 +32,7 @@ use Rattle.replies.specs.Sizes.{run-right, with-run}
 use Rattle.admission.specs.Tested.{state-passes, geometry-passes, lengths-pass, soundness-passes}
 use Rattle.admission.specs.Room.{most-cost}
 use Rattle.running.specs.Ends.{Begun, Finished}
-use Rattle.admission.specs.Noted.{Noted}
+use Rattle.words.specs.Noted.{Noted}
 use Rattle.running.specs.Asks.{Asks, asks-less, asks-again}
 use Rattle.running.specs.Serve.{Serving, Runs, Served}
 use Rattle.running.specs.Records.{records-keep}

@@ -22,7 +22,7 @@ use Rattle.running.specs.declared.Running.{Running}
 use Rattle.words.specs.Runs.{length-part, sets-own}
 use Rattle.replies.specs.Answers.{refuses, admits}
 use Rattle.admission.specs.Room.{most-cost}
-use Rattle.admission.specs.Noted.{Noted}
+use Rattle.words.specs.Noted.{Noted}
 use Rattle.running.specs.Asks.{Asks}
 
 -- Request i can be served.

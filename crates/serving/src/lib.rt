@@ -26,9 +26,9 @@ ghost use Rattle.lent.specs.Model.{geometry, state};
 ghost use Rattle.scope.specs.Calls.{serve};
 ghost use Rattle.scope.specs.Replies.{DONE};
 ghost use Rattle.admission.specs.Room.{most-cost};
-ghost use Rattle.admission.specs.Noted.{Noted};
+ghost use Rattle.words.specs.Noted.{Noted};
 ghost use Rattle.running.specs.Serve.{Serving, Served};
-ghost use Rattle.requests.specs.Ready.{Does-all, Ready-for};
+ghost use Rattle.lent.specs.Ready.{Does-all, Ready-for};
 ghost use Rattle.replies.specs.Model.{request};
 ghost use Rattle.running.specs.Ends.{Begun, Finished};
 

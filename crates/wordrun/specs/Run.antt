@@ -17,7 +17,7 @@ use Rattle.scope.specs.Boundary.{counts-words, requests-of}
 use Rattle.scope.specs.Contracts.{right-lengths, Answers}
 use Rattle.running.specs.declared.Running.{Running}
 use Rattle.running.specs.Ends.{Begun, Finished}
-use Rattle.admission.specs.Noted.{Noted}
+use Rattle.words.specs.Noted.{Noted}
 use Rattle.running.specs.Serve.{Serving, Runs, Served}
 use Rattle.running.specs.Ran.{Tested, runs-none, runs-more, runs-ready, run-answers}
 use Rattle.wording.specs.Asked.{half-as-many, words-at, request-at}

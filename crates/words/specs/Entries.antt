@@ -1,6 +1,6 @@
 -- Entries of three words: the first n words moved back by three, from the last one down, and what stands in front of them then.
 use Prim.Native.Nat.{ℕ, suc, _+_, _-_, _*_, _≤_, _<_}
-use mathlib.Core.Path.{_≡_, refl, sym, ap, subst, _∙_}
+use mathlib.Core.Path.{_≡_, refl, sym, ap, _∙_}
 use mathlib.Core.Bool.{Bool, true, false, _&&_, and-false}
 use mathlib.Core.List.{List, [], _∷_, _++_, append-assoc}
 use native.Mathlib.Nat.{sub-zero}
@@ -13,10 +13,10 @@ use borrow.Author.Tests.{lt-ltb, le-ltb, eq-eqb, ne-eqb}
 use Rattle.scope.specs.Counting.{lowest}
 use Rattle.scope.specs.Lent.{none, entry-words, logical-at}
 use Rattle.flash.specs.Cases.{below?, true-and}
-use Rattle.flash.specs.Searching.{Is-lowest, lowest-is, lowest-none, lowest-unique}
+use Rattle.flash.specs.Searching.{lowest-is, lowest-unique}
 use Rattle.flash.specs.Stores.{getD-sets-outside}
 use Rattle.words.specs.Runs.{set-before, getD-any}
-use Rattle.words.specs.Searches.{lowest-fails}
+use Rattle.words.specs.Searches.{lowest-fails, lowest-before}
 
 -- Words i to n - 1 of l₀ have moved three words back.
 pub record Shifted (l₀ : List ℕ) (n : ℕ) (l : List ℕ) (i : ℕ) : Type 0 where
@@ -106,27 +106,33 @@ module _ (cache : List ℕ) (used l i : ℕ) where
   first-match n h most has before =
       sym (lowest-unique n (matches cache used l) i (record { below = omega arith; passes = true-and (lt-ltb i used h) has; least = before }))
 
--- None matches below rank i, and k is what a search of the r entries from there on found.
-module _ (cache : List ℕ) (used l i : ℕ) (before : (k : ℕ) → k < i → matches cache used l k ≡ false)
-    (r k : ℕ) (is : k ≡ lowest r (λ j. eqb (logical-at (i + j) cache) l)) where
+-- k is what a search of the r entries from rank i on found.
+module _ (cache : List ℕ) (l i r k : ℕ) (is : k ≡ lowest r (λ j. eqb (logical-at (i + j) cache) l)) where
   abbrev has : ℕ → Bool
   has j = eqb (logical-at (i + j) cache) l
 
-  none-before : ((j : ℕ) → j < k → has j ≡ false) → (j : ℕ) → j < i + k → matches cache used l j ≡ false
-  none-before here j h =
-      below? j i (before j) (λ m.
+  -- All before it differ.
+  passed : (j : ℕ) → i ≤ j → j < i + k → eqb (logical-at j cache) l ≡ false
+  passed j from upto =
       let e : i + (j - i) ≡ j = omega arith in
-      match-missed cache used l j (rw e at (here (j - i) (omega arith))))
+      rw e at (lowest-before r has (j - i) (omega arith))
 
-  pub match-further : (n : ℕ) → k < r → i + r ≤ used → used ≤ n → i + k ≡ lowest n (matches cache used l)
-  match-further n h most fits =
-      let found : Is-lowest r has k = subst (Is-lowest r has) (sym is) (lowest-is r has (omega arith)) in
-      first-match cache used l (i + k) n (omega arith) fits (found .passes) (none-before (found .least))
+  pub found-among : k < r → eqb (logical-at (i + k) cache) l ≡ true
+  found-among h = rw (← is) at (lowest-is r has (omega arith) .passes)
 
-  pub none-further : r ≤ k → (j : ℕ) → j < i + r → matches cache used l j ≡ false
-  none-further h j m =
-      let none = lowest-none r has (omega arith) in
-      none-before (λ q o. none .fails q (omega (arith, none .is-n))) j (omega arith)
+  pub none-among : r ≤ k → (j : ℕ) → i ≤ j → j < i + r → eqb (logical-at j cache) l ≡ false
+  none-among h j from upto = passed j from (omega arith)
+
+  -- Where none matches below rank i.
+  module _ (used : ℕ) (before : (j : ℕ) → j < i → matches cache used l j ≡ false) where
+    none-before : (j : ℕ) → j < i + k → matches cache used l j ≡ false
+    none-before j h = below? j i (before j) (λ from. match-missed cache used l j (passed j from h))
+
+    pub match-further : (n : ℕ) → k < r → i + r ≤ used → used ≤ n → i + k ≡ lowest n (matches cache used l)
+    match-further n h most fits = first-match cache used l (i + k) n (omega arith) fits (found-among h) none-before
+
+    pub none-further : r ≤ k → (j : ℕ) → j < i + r → matches cache used l j ≡ false
+    none-further h j m = none-before j (omega arith)
 
 -- None matches below n where none does among those in use.
 pub no-match : (cache : List ℕ) (used l n : ℕ) → ((i : ℕ) → i < used → matches cache used l i ≡ false)

@@ -7,3 +7,4 @@ pub mod Searches
 pub mod Bitmap
 pub mod Census
 pub mod Filter
+pub mod Noted

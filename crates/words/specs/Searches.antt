@@ -17,6 +17,10 @@ use Rattle.flash.specs.Searching.{lowest-cases, Is-fewest, fewest-cases}
 pub lowest-fails : (n : ℕ) (f : ℕ → Bool) → ((i : ℕ) → i < n → f i ≡ false) → lowest n f ≡ n
 lowest-fails n f h = ⊎-elim (λ x. clash (x .passes) (h (lowest n f) (x .below))) (λ x. x .is-n) (lowest-cases n f)
 
+-- None passes before it.
+pub lowest-before : (n : ℕ) (f : ℕ → Bool) (i : ℕ) → i < lowest n f → f i ≡ false
+lowest-before n f i h = ⊎-elim (λ x. x .least i h) (λ x. x .fails i (omega (arith, x .is-n))) (lowest-cases n f)
+
 -- ---- the fewest
 
 pub fewest-le : (n : ℕ) (f : ℕ → Bool) (size : ℕ → ℕ) → fewest n f size ≤ n

@@ -45,7 +45,7 @@ pub fn to_front(cache: &mut [u32], i: usize)
 }
 
 // Which of the four entries from rank i on is the first with logical page l; 4 where none has it.
-fn among_four(cache: &[u32], i: usize, l: u32) -> usize
+pub fn among_four(cache: &[u32], i: usize, l: u32) -> usize
     requires { ⌜ (i + 4) * entry-words ≤ length (now cache) ⌝ }
     ensures { λ r. ⌜ r ≡ lowest 4 (λ k. eqb (logical-at (i + k) (now (cache .entry))) l) ⌝ }
 {

@@ -3,7 +3,7 @@ use borrow.Author.Needs.{needs}
 use borrow.Author.Tests.{eq-eqb, ne-eqb}
 use Rattle.lent.specs.DoesLaws.{does-cond-true, does-cond-false}
 use Rattle.scope.specs.Calls.{serve}
-use Rattle.requests.specs.Ready.{ready-less}
+use Rattle.lent.specs.Ready.{ready-less}
 use Rattle.admission.specs.Room.{read-few, write-few}
 use Rattle.serving.proofs.serve_request.Statement.{statement}
 use Rattle.serving.proofs.serve_request.Tie as tie
@@ -11,7 +11,7 @@ use Rattle.serving.proofs.serve_request.Tie as tie
 read-requires : tie.Need-read-requires
 read-requires c κs =
     let ((ready, long), noted) = c .before .before .before .before .before .before .before .before .before .before .before .before .before .before .pre in
-    ((ready-less (read-few (ready .ready .accepted)) ready, long), (noted .counted, noted .filtered))
+    ((ready-less (read-few (ready .ready .accepted)) ready, long), noted)
 
 same-length : tie.Need-same-length
 same-length c = search needs
@@ -33,13 +33,13 @@ unfolding serve
 returns c =
     let done = c .before .before .before .before .before .before .before .before .before .before in (
       does-cond-true _ _ _ (eq-eqb _ _ (done .before .before .before .before .before .before .before .before .if1 .taken)) (done .read .ensures .0),
-      record { counted = done .read .ensures .1 .0; filtered = done .read .ensures .1 .1 },
+      done .read .ensures .1,
     )
 
 write-requires : tie.Need-write-requires
 write-requires c κs =
     let ((ready, long), noted) = c .before .before .before .before .before .before .before .before .before .before .before .before .before .before .pre in
-    ((ready-less (write-few (ready .ready .accepted)) ready, long), (noted .counted, noted .filtered))
+    ((ready-less (write-few (ready .ready .accepted)) ready, long), noted)
 
 same-length-6 : tie.Need-same-length-6
 same-length-6 c = search needs
@@ -61,7 +61,7 @@ unfolding serve
 returns-2 c =
     let done = c .before .before .before .before .before .before .before .before in (
       does-cond-false _ _ _ (ne-eqb _ _ (done .before .before .before .before .before .before .before .before .if1 .left)) (done .write .ensures .0),
-      record { counted = done .write .ensures .1 .0; filtered = done .write .ensures .1 .1 },
+      done .write .ensures .1,
     )
 
 pub serve-request-spec : {M : Type 1} → statement M

@@ -4,7 +4,7 @@ use native.Mathlib.Omega.{arith}
 use borrow.Author.Needs.{needs}
 use Rattle.scope.specs.Lent.{decode}
 use Rattle.lent.specs.Model.{geometry}
-use Rattle.requests.specs.Ready.{left-by}
+use Rattle.lent.specs.Ready.{left-by}
 use Rattle.requests.specs.Answering.{read-begins, translated-lies, place-ready, read-does}
 use Rattle.requests.specs.Filtered.{filter-still, read-place-keeps-used}
 use Rattle.requests.proofs.answers.read.Statement.{statement}
@@ -69,10 +69,10 @@ returns c =
     let is-place = ap decode (sym (seen c .physical .ensures)) ∙ sym (read c .before .before .before .decode .ensures) in
     let reads = read c .read-place .ensures in (
       read-does (geometry (a .g)) (a .l) (a .buffer .now) (translated c .translate .ensures .0) is-place (reads (left-by (translated c .translate .ensures .0))),
-      (
-        translated c .translate .ensures .1 .0,
-        filter-still (read-place-keeps-used (geometry (a .g)) (a .buffer .now) _ reads) (translated c .translate .ensures .1 .1),
-      ),
+      record {
+        counted = translated c .translate .ensures .1 .counted;
+        filtered = filter-still (read-place-keeps-used (geometry (a .g)) (a .buffer .now) _ reads) (translated c .translate .ensures .1 .filtered);
+      },
     )
 
 pub read-spec : {M : Type 1} → statement M

@@ -2,7 +2,7 @@
 use native.Mathlib.Omega.{arith}
 use borrow.Author.Needs.{needs}
 use Rattle.lent.specs.Model.{geometry}
-use Rattle.requests.specs.Ready.{left-by}
+use Rattle.lent.specs.Ready.{left-by}
 use Rattle.requests.specs.Answering.{write-begins, room-ready, writing-ready, write-does}
 use Rattle.requests.proofs.answers.write.Statement.{statement}
 use Rattle.requests.proofs.answers.write.Tie as tie
@@ -27,7 +27,7 @@ place-requires c κs =
     let translated = made .before .before .before .before .before .before .before .before .before .before .before .before .before .before .before .before .before .before .before in
     let start = translated .before .before .before .before .before .before .before .before .before .before .before .before .before in (
       writing-ready (start .pre .0 .0) (translated .translate .ensures .0) (made .make-room .ensures .0) (start .pre .0 .1),
-      made .make-room .ensures .1 .0,
+      made .make-room .ensures .1 .counted,
     )
 
 -- What has been done at the return, in order.
@@ -60,7 +60,10 @@ returns c =
     let a = translated c .before .before .before .before .before .before .before .before .before .before .before .before .before .args in (
       write-does (geometry (a .g)) (a .l) (a .buffer .now) (translated c .translate .ensures .0) (made c .make-room .ensures .0)
           (placed c .place .ensures .0 (left-by (made c .make-room .ensures .0))),
-      (placed c .place .ensures .1 .0, placed c .place .ensures .1 .1 _ (made c .make-room .ensures .1 .1)),
+      record {
+        counted = placed c .place .ensures .1 .0;
+        filtered = placed c .place .ensures .1 .1 _ (made c .make-room .ensures .1 .filtered);
+      },
     )
 
 pub write-spec : {M : Type 1} → statement M

@@ -27,7 +27,7 @@ settled c = c .before .before .before .before .before .before .before .before .b
 start-requires : tie.Need-start-requires
 start-requires c κs =
     let pre = c .before .before .before .before .before .before .before .before .before .pre in
-    (start-ready (pre .0 .0) (pre .0 .1), (pre .1 .0, refl))
+    (start-ready (pre .0 .0) (pre .0 .1), (pre .1 .counted, refl))
 
 follow-moves-requires : tie.Need-follow-moves-requires
 follow-moves-requires c κs =
@@ -41,7 +41,7 @@ follow-moves-requires c κs =
         omega (arith, done .start .ensures .1 .0 .few, ready .accepted .P-to),
       ),
       (
-        filter-still used (pre .1 .1),
+        filter-still used (pre .1 .filtered),
         (different-still (begun done .args .cache .now) used (ready .sound .rule-5 .different), done .start .ensures .1 .1 .1),
       ),
     )
@@ -99,11 +99,11 @@ returns c =
     let a = begun done .args in
     let pre = begun done .pre .0 in (
       collected-does (pre .0) (pre .1) starts follows settles (erases .0),
-      (
-        erases .1,
-        filter-still (erase-keeps-used (geometry (a .g)) (a .v) (erases .0) ∙ settled-keeps-used (pre .0) (pre .1) starts follows settles)
-            (moved .follow-moves .ensures .1 .0),
-      ),
+      record {
+        counted = erases .1;
+        filtered = filter-still (erase-keeps-used (geometry (a .g)) (a .v) (erases .0) ∙ settled-keeps-used (pre .0) (pre .1) starts follows settles)
+            (moved .follow-moves .ensures .1 .0);
+      },
     )
 
 pub collect-spec : {M : Type 1} → statement M

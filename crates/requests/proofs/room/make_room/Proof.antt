@@ -17,7 +17,7 @@ start c = c .before .before .before .before .before .before .before .before
 choose-requires : tie.Need-choose-requires
 choose-requires c κs =
     let begun = c .before .before .before .before .before .before .before in
-    (accepted-bounded (begun .pre .0 .ready .accepted), begun .pre .1 .0)
+    (accepted-bounded (begun .pre .0 .ready .accepted), begun .pre .1 .counted)
 
 enum-told : tie.Need-enum-told
 enum-told c = search needs
@@ -66,7 +66,7 @@ returns-2 c =
     let a = begun .args in
     let opens = subst (Chosen (geometry (a .g)) Data (a .spare .now) (a .work)) (known .choice .given .1) (chosen .choose .ensures) in (
       chosen-does (begun .pre .0 .ready) opens,
-      (begun .pre .1 .0, filter-still (opens .keeps-used) (begun .pre .1 .1)),
+      record { counted = begun .pre .1 .counted; filtered = filter-still (opens .keeps-used) (begun .pre .1 .filtered) },
     )
 
 same-length-5 : tie.Need-same-length-5

@@ -4,7 +4,7 @@ use mathlib.Core.Path.{refl}
 use native.Mathlib.Omega.{arith}
 use borrow.Author.Needs.{needs}
 use Rattle.lent.specs.Model.{geometry}
-use Rattle.requests.specs.Ready.{left-by}
+use Rattle.lent.specs.Ready.{left-by}
 use Rattle.requests.specs.Translating.{written-keeps-used, drop-entry-does}
 use Rattle.requests.specs.Filtered.{filter-still, forgotten-filter}
 use Rattle.requests.proofs.translation.drop_entry.Statement.{statement}

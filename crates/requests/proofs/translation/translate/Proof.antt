@@ -1,9 +1,8 @@
 -- `requests::translation::translate` meets its contract: l's entry is found, or fetched once one is free.
 use native.Mathlib.Omega.{arith}
 use borrow.Author.Needs.{needs}
-use Rattle.lent.specs.Shapes.{less-room}
 use Rattle.lent.specs.Model.{geometry}
-use Rattle.requests.specs.Ready.{ready-state, left-by}
+use Rattle.lent.specs.Ready.{ready-state, left-by, fewer-begin}
 use Rattle.requests.specs.Translating.{hit-does, miss-does, fetch-ready}
 use Rattle.requests.specs.Filtered.{found-in-use, touched-filter}
 use Rattle.requests.proofs.translation.translate.Statement.{statement}
@@ -13,7 +12,7 @@ rank-of-requires : tie.Need-rank-of-requires
 rank-of-requires c κs =
     let start = c .before .before .before .before .before .before .before .before in
     let ready = start .pre .0 .ready in
-    (record { cache-fits = ready .lengths .cache-fits; used-to = ready .sound .rule-5 .at-most }, start .pre .1 .1)
+    (record { cache-fits = ready .lengths .cache-fits; used-to = ready .sound .rule-5 .at-most }, start .pre .1 .filtered)
 
 cast-if1 : tie.Need-cast-if1
 cast-if1 c = search needs
@@ -33,33 +32,25 @@ returns c =
     let start = found .before .before .before .before .before .before .before .before .before in
     let a = start .args in (
       hit-does (geometry (a .g)) (a .l) (found .rank-of .ensures .1) (tested .if1 .taken) (c .before .before .touch .ensures (a .work) (ready-state (start .pre .0 .ready))),
-      (
-        start .pre .1 .0,
-        touched-filter (start .pre .1 .1)
+      record {
+        counted = start .pre .1 .counted;
+        filtered = touched-filter (start .pre .1 .filtered)
             (found-in-use (geometry (a .g)) (a .cache .now) (a .work .rec .used) (a .l) (found .rank-of .ensures .1) (tested .if1 .taken))
-            (c .before .before .touch .ensures (a .work)),
-      ),
+            (c .before .before .touch .ensures (a .work));
+      },
     )
 
 drop-if-full-requires : tie.Need-drop-if-full-requires
 drop-if-full-requires c κs =
     let start = c .before .before .before .before .before .before .before .before .before .before .before .before .before .before .before .before in
-    let ready = start .pre .0 .ready in (
-      record {
-        accepted = ready .accepted;
-        lengths = ready .lengths;
-        sound = ready .sound;
-        countable = less-room (omega arith) (ready .countable);
-      },
-      start .pre .1 .0,
-    )
+    (fewer-begin (omega arith) (start .pre .0 .ready), start .pre .1 .counted)
 
 fetch-requires : tie.Need-fetch-requires
 fetch-requires c κs =
     let freed = c .before .before .before .before .before .before .before .before .before .before .before .before .before .before in
     let found = freed .before .before .before .before .before .before .before .before in
     let start = found .before .before .before .before .before .before .before .before .before in
-    (fetch-ready (start .args .l) (start .pre .0) (freed .drop-if-full .ensures .0), freed .drop-if-full .ensures .1 .1 _ (start .pre .1 .1))
+    (fetch-ready (start .args .l) (start .pre .0) (freed .drop-if-full .ensures .0), freed .drop-if-full .ensures .1 .1 _ (start .pre .1 .filtered))
 
 same-length-2 : tie.Need-same-length-2
 same-length-2 c = search needs
@@ -84,7 +75,7 @@ returns-2 c =
     let a = missed .before .before .before .before .before .before .before .before .before .args in (
       miss-does (geometry (a .g)) (a .l) (missed .rank-of .ensures .1) (tested .if1 .left) (freed .drop-if-full .ensures .0)
           (c .before .before .fetch .ensures .0 (left-by (freed .drop-if-full .ensures .0))),
-      (freed .drop-if-full .ensures .1 .0, c .before .before .fetch .ensures .1),
+      record { counted = freed .drop-if-full .ensures .1 .0; filtered = c .before .before .fetch .ensures .1 },
     )
 
 pub translate-spec : {M : Type 1} → statement M

@@ -6,7 +6,7 @@ use lib.ListN.{length}
 use borrow.Author.Needs.{needs}
 use Rattle.lent.specs.Model.{geometry}
 use Rattle.lent.specs.DoesLaws.{does-give, does-cond-true, does-cond-false}
-use Rattle.requests.specs.Ready.{ready-state}
+use Rattle.lent.specs.Ready.{ready-state}
 use Rattle.requests.specs.Translating.{write-back-does, write-back-ready}
 use Rattle.requests.proofs.translation.write_back_if_changed.Statement.{statement}
 use Rattle.requests.proofs.translation.write_back_if_changed.Tie as tie

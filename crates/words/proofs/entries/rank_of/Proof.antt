@@ -39,8 +39,8 @@ returns c =
     let at-loop = c .before .before .before in
     let a = at-loop .before .before .args in (
       omega arith,
-      match-further (a .cache .now) (a .used) (a .l) (at-loop .loop .i) (at-loop .loop .inv .1) 4
-          (c .before .among-four .result) (c .before .among-four .ensures) (a .n) (c .if1 .taken) (omega arith) (omega arith),
+      match-further (a .cache .now) (a .l) (at-loop .loop .i) 4 (c .before .among-four .result) (c .before .among-four .ensures)
+          (a .used) (at-loop .loop .inv .1) (a .n) (c .if1 .taken) (omega arith) (omega arith),
     )
 
 add-i : tie.Need-add-i Inv-loop μ-loop Inv-loop2 μ-loop2
@@ -54,8 +54,8 @@ loop-again c =
     let at-loop = c .before .before .before in
     let a = at-loop .before .before .args in (
       omega arith,
-      none-further (a .cache .now) (a .used) (a .l) (at-loop .loop .i) (at-loop .loop .inv .1) 4
-          (c .before .among-four .result) (c .before .among-four .ensures) (c .if1 .left),
+      none-further (a .cache .now) (a .l) (at-loop .loop .i) 4 (c .before .among-four .result) (c .before .among-four .ensures)
+          (a .used) (at-loop .loop .inv .1) (c .if1 .left),
     )
 
 loop2-holds : tie.Need-loop2-holds Inv-loop μ-loop Inv-loop2 μ-loop2

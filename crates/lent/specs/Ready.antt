@@ -42,18 +42,18 @@ pub record Ready-for (l : ℕ) (g : Geometry) (s : State) (n : ℕ) (c : Counted
   pub below : l < g .L
 
 -- Fewer operations may begin too.
-pub ready-less : {l : ℕ} {g : Geometry} {s : State} {n m : ℕ} {c : Counted} → n ≤ m → Ready-for l g s m c → Ready-for l g s n c
-ready-less h a =
-    let ready = a .ready in
-    record {
-      ready = record {
+module _ {g : Geometry} {s : State} {n m : ℕ} {c : Counted} (h : n ≤ m) where
+  pub fewer-begin : Ready g s m c → Ready g s n c
+  fewer-begin ready =
+      record {
         accepted = ready .accepted;
         lengths = ready .lengths;
         sound = ready .sound;
         countable = less-room h (ready .countable);
-      };
-      below = a .below;
-    }
+      }
+
+  pub ready-less : {l : ℕ} → Ready-for l g s m c → Ready-for l g s n c
+  ready-less a = record { ready = fewer-begin (a .ready); below = a .below }
 
 -- Room for n more is left after a step of at most k, where there was room for both.
 pub countable-after : {A : Type 0} {m : Step A} {s s′ : State} {x : A} {c c′ : Counted} (n k : ℕ)
