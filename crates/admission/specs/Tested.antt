@@ -60,7 +60,7 @@ module _ (g : Geometry) (s : State) (others : Bool) where
   geometry-passes p = accepted-decided g .holds (p .accepts)
 
   pub lengths-pass : Sizes-pass → Lengths g s
-  lengths-pass p = sizes-fit g (s .chip) (s .spare) (s .directory) (s .cache) (and-true (right-sizes (state-sizes g s)) others (p .sized) .0)
+  lengths-pass p = sizes-fit g s (and-true (right-sizes (state-sizes g s)) others (p .sized) .0)
 
   -- The next test's answer, and that of one before it.
   pub size-applies : {n : ℕ} → n ≡ first-applying (size-tests g sizes) → n ≢ DONE → n ≡ first-applying (state-tests g sizes s)

@@ -11,7 +11,7 @@ use Rattle.scope.specs.Operations.{Counts, no-counts}
 use Rattle.scope.specs.Replies.{DONE, first-applying, right-sizes}
 use Rattle.scope.specs.Requests.{format-steps}
 use Rattle.scope.specs.Calls.{state-sizes, size-tests, format}
-use Rattle.formatting.specs.Fresh.{Sized}
+use Rattle.formatting.specs.Fresh.{Sized-state}
 use Rattle.scope.specs.Boundary.{put-counts}
 use Rattle.scope.specs.Contracts.{Answers}
 use Rattle.replies.specs.Answers.{does-answers, refuses, admits}
@@ -23,7 +23,7 @@ module _ (g : Geometry) (s : State) {right others : Bool} {n : ℕ} (named : rig
   answered : n ≡ first-applying (size-tests g (right-sizes (state-sizes g s) && others))
   answered = rw named at tested
 
-  pub format-sized : n ≡ DONE → Sized g (s .chip) (s .spare) (s .directory) (s .cache)
+  pub format-sized : n ≡ DONE → Sized-state g s
   format-sized e =
       let pass = sizes-pass g s right (sym e ∙ tested) in
       record { accepted = geometry-passes g s right pass; lengths = lengths-pass g s right pass }

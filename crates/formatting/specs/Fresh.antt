@@ -17,12 +17,16 @@ use Rattle.scope.specs.SmallRecord.{fresh}
 use Rattle.scope.specs.Operations.{Counts, no-counts, Erase, apply, perform, for}
 use Rattle.scope.specs.Replies.{DONE}
 use Rattle.scope.specs.Requests.{format-steps}
-use Rattle.flash.specs.Words.{Lengths-fit}
+use Rattle.flash.specs.Words.{Lengths-fit, Lengths}
 
 -- What format asks: an accepted geometry, and lists of its lengths.
 pub record Sized (g : Geometry) (chip spare directory cache : List ℕ) : Type 0 where
   pub accepted : Accepted g
   pub lengths : Lengths-fit g chip spare directory cache
+
+-- The same of a state's lists.
+abbrev pub Sized-state : Geometry → State → Type 0
+Sized-state g s = Sized g (s .chip) (s .spare) (s .directory) (s .cache)
 
 -- The first n words are erased.
 unfoldable filled : ℕ → List ℕ → List ℕ
@@ -68,7 +72,7 @@ abbrev erases : ℕ → Counts
 erases n = record { reads = 0; programs = 0; erases = n }
 
 -- One block after the other.
-module _ (g : Geometry) (s : State) (lengths : Lengths-fit g (s .chip) (s .spare) (s .directory) (s .cache)) where
+module _ (g : Geometry) (s : State) (lengths : Lengths g s) where
   erases-do : (n : ℕ) → n ≤ blocks g
       → Does (for n (λ b. perform g (Erase b))) s no-counts tt (erased-first g n s) (erases n)
   unfolding apply

@@ -9,10 +9,11 @@ use lib.Dec.{eqb}
 use lib.ListN.{length}
 use borrow.Author.Tests.{eqb-true}
 use Rattle.scope.specs.Geometry.{Geometry}
-use Rattle.scope.specs.Lent.{chip-size, spare-size, directory-size, cache-size}
+use Rattle.scope.specs.Lent.{State, chip-size, spare-size, directory-size, cache-size}
 use Rattle.scope.specs.Replies.{Size, right-sizes}
+use Rattle.scope.specs.Calls.{state-sizes}
 use Rattle.flash.specs.Cases.{and-true}
-use Rattle.flash.specs.Words.{Lengths-fit}
+use Rattle.flash.specs.Words.{Lengths}
 
 -- Four lengths and the sizes that they should be: scope's `state-sizes` of any state with lists of these lengths.
 abbrev pub sizes : Geometry → ℕ → ℕ → ℕ → ℕ → List Size
@@ -23,20 +24,19 @@ sizes g chip spare directory cache =
     ∷ record { has = cache; should = cache-size g }
     ∷ []
 
--- Where they are right, the lists have 01's sizes.
-pub sizes-fit : (g : Geometry) (chip spare directory cache : List ℕ)
-    → right-sizes (sizes g (length chip) (length spare) (length directory) (length cache)) ≡ true → Lengths-fit g chip spare directory cache
+-- Where a state's are right, its lists have 01's sizes.
+pub sizes-fit : (g : Geometry) (s : State) → right-sizes (state-sizes g s) ≡ true → Lengths g s
 unfolding right-sizes
-sizes-fit g chip spare directory cache h =
-    let c = and-true (eqb (length chip) (chip-size g)) _ h in
-    let s = and-true (eqb (length spare) (spare-size g)) _ (c .1) in
-    let d = and-true (eqb (length directory) (directory-size g)) _ (s .1) in
-    let e = and-true (eqb (length cache) (cache-size g)) _ (d .1) in
+sizes-fit g s h =
+    let c = and-true (eqb (length (s .chip)) (chip-size g)) _ h in
+    let p = and-true (eqb (length (s .spare)) (spare-size g)) _ (c .1) in
+    let d = and-true (eqb (length (s .directory)) (directory-size g)) _ (p .1) in
+    let e = and-true (eqb (length (s .cache)) (cache-size g)) _ (d .1) in
     record {
-      chip-fits = eqb-true (length chip) (chip-size g) (c .0);
-      spare-fits = eqb-true (length spare) (spare-size g) (s .0);
-      directory-fits = eqb-true (length directory) (directory-size g) (d .0);
-      cache-fits = eqb-true (length cache) (cache-size g) (e .0);
+      chip-fits = eqb-true (length (s .chip)) (chip-size g) (c .0);
+      spare-fits = eqb-true (length (s .spare)) (spare-size g) (p .0);
+      directory-fits = eqb-true (length (s .directory)) (directory-size g) (d .0);
+      cache-fits = eqb-true (length (s .cache)) (cache-size g) (e .0);
     }
 
 -- Of m pieces of w words one after the other, piece p lies within.

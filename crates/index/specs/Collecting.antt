@@ -7,7 +7,7 @@ use native.Mathlib.Omega.{arith}
 use lib.ListN.{length, getD}
 use Rattle.scope.specs.Geometry.{Geometry}
 use Rattle.scope.specs.Regions.{Translation}
-use Rattle.scope.specs.Lent.{Mapping, with-flash, with-directory}
+use Rattle.scope.specs.Lent.{Mapping}
 use Rattle.scope.specs.Operations.{Erase, perform}
 use Rattle.scope.specs.Room.{make-room}
 use Rattle.scope.specs.Steps.{directory-names-it, directory-follows}
@@ -20,7 +20,7 @@ use Rattle.lent.specs.Shapes.{Does-flash, Does-directory, less-room}
 use Rattle.copying.specs.Moves.{move-at, first-moves, no-moves, one-more, move-words}
 use Rattle.copying.specs.Choice.{To-collect, Makes-room, start-collect, follow-none-does, follow-more-does, start-follows-does, collect-does}
 use Rattle.copying.specs.Starting.{Collect-ready}
-use Rattle.index.specs.Index.{Index, lists, with-index, Does-index, Room-ready}
+use Rattle.index.specs.Index.{Index, with-pages, with-names, with-index, Does-index, Room-ready}
 
 -- ---- the directory follows
 
@@ -67,16 +67,16 @@ module _ {g : Geometry} {x : Index} {w : Work} {v : ℕ} (ready : Room-ready g x
         countable = less-room (omega arith) (ready .counting);
       }
 
-  pub collected-does : {moves : List Mapping} {chip₁ spare₁ directory₁ chip₂ spare₂ : List ℕ} {w₁ w₂ : Work}
+  pub collected-does : {moves : List Mapping} {chip₁ spare₁ directory₁ : List ℕ} {x₂ : Index} {w₁ w₂ : Work}
       → Does-flash (start-collect g Translation waits-all v) (x .chip) (x .spare) w moves chip₁ spare₁ w₁
       → ((w : Work) → Does-directory (follow-each directory-follows moves) (x .directory) w [] directory₁ w)
-      → Does-flash (perform g (Erase v)) chip₁ spare₁ w₁ tt chip₂ spare₂ w₂
-      → Does-index (make-room g Translation directory-follows) x w tt (lists chip₂ spare₂ directory₁) w₂
-  collected-does {chip₁ = chip₁} {spare₁} {directory₁} {w₁ = w₁} starts names erases s =
-      collect-does directory-follows (with-directory (x .directory) s) chosen
-      (start-follows-does directory-apart g Translation v (starts (with-directory (x .directory) s))
-      (names w₁ (with-flash chip₁ spare₁ s)))
-      (does-give tt) (erases (with-directory directory₁ s))
+      → Does-index (perform g (Erase v)) (with-names directory₁ (with-pages chip₁ spare₁ x)) w₁ tt x₂ w₂
+      → Does-index (make-room g Translation directory-follows) x w tt x₂ w₂
+  collected-does {chip₁ = chip₁} {spare₁} {w₁ = w₁} starts names erases s =
+      collect-does directory-follows (with-index x w s) chosen
+      (start-follows-does directory-apart g Translation v (starts (with-index x w s))
+      (names w₁ (with-index (with-pages chip₁ spare₁ x) w₁ s)))
+      (does-give tt) (erases s)
 
 -- ---- the choice
 

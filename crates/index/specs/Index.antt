@@ -17,9 +17,9 @@ use Rattle.cache.specs.Waiting.{Waits}
 use Rattle.promises.specs.Parts.{Index-holds}
 use Rattle.promises.specs.Update.{update-bound}
 use Rattle.lent.specs.declared.Work.{Work}
-use Rattle.lent.specs.Model.{with-rec, counts}
+use Rattle.lent.specs.Model.{Lists, with-rec, counts}
 use Rattle.lent.specs.Does.{Does}
-use Rattle.lent.specs.Shapes.{Room-to-count}
+use Rattle.lent.specs.Shapes.{Does-flash, Room-to-count}
 use Rattle.steps.specs.Lies.{Chip-lent, Spare-lent}
 
 -- The three lists.
@@ -35,9 +35,19 @@ lists chip spare directory = record { chip = chip; spare = spare; directory = di
 abbrev pub index : RefT (List ℕ) → RefT (List ℕ) → RefT (List ℕ) → Index
 index chip spare directory = lists (now chip) (now spare) (now directory)
 
--- Another chip; the index in the place of a state's own.
+-- Those among all that is lent.
+abbrev pub index-in : Lists → Index
+index-in x = lists (x .chip) (x .spare) (x .directory)
+
+-- Another chip and spare, another directory; the index in the place of a state's own.
+abbrev pub with-pages : List ℕ → List ℕ → Index → Index
+with-pages chip spare x = record { chip = chip; spare = spare; directory = x .directory }
+
 abbrev pub with-chip : List ℕ → Index → Index
-with-chip chip x = lists chip (x .spare) (x .directory)
+with-chip chip x = with-pages chip (x .spare) x
+
+abbrev pub with-names : List ℕ → Index → Index
+with-names directory x = record { chip = x .chip; spare = x .spare; directory = directory }
 
 abbrev pub with-index : Index → Work → State → State
 with-index x w s = with-directory (x .directory) (with-flash (x .chip) (x .spare) (with-rec (w .rec) s))
@@ -45,6 +55,11 @@ with-index x w s = with-directory (x .directory) (with-flash (x .chip) (x .spare
 -- The index, and what travels by value.
 abbrev pub Does-index : {A : Type 0} → Step A → Index → Work → A → Index → Work → Type 0
 Does-index m x w y x′ w′ = (s : State) → Does m (with-index x w s) (counts (w .counts)) y (with-index x′ w′ s) (counts (w′ .counts))
+
+-- What is done to chip and spare, whatever else the state holds, is done to the index.
+pub flash-does : {A : Type 0} {m : Step A} (x : Index) {chip spare : List ℕ} {w w′ : Work} {y : A}
+    → Does-flash m (x .chip) (x .spare) w y chip spare w′ → Does-index m x w y (with-pages chip spare x) w′
+flash-does x {w = w} does s = does (with-index x w s)
 
 -- The state that the laws are asked of.
 abbrev pub index-state : Geometry → Index → Work → State
@@ -69,6 +84,15 @@ pub index-lengths : {g : Geometry} {x : Index} (w : Work) → Index-lent g x →
 index-lengths {g} {x} w lent =
     lengths-with-directory (with-flash (x .chip) (x .spare) (blank g))
     (lengths-with-flash (blank g) (blank-lengths g) (lent .chip-fits) (lent .spare-fits)) (lent .directory-fits)
+
+pub lent-with-chip : {g : Geometry} {x : Index} (chip : List ℕ) → Index-lent g x → length chip ≡ chip-size g → Index-lent g (with-chip chip x)
+lent-with-chip chip lent fits =
+    record {
+      accepted = lent .accepted;
+      chip-fits = fits;
+      spare-fits = lent .spare-fits;
+      directory-fits = lent .directory-fits;
+    }
 
 -- So have those of a state.
 pub lengths-lent : {g : Geometry} (x : Index) (w : Work) (s : State) → Accepted g → Lengths g (with-index x w s) → Index-lent g x

@@ -21,7 +21,7 @@ use Rattle.promises.specs.Index.{page-below}
 use Rattle.promises.specs.Stored.{length-set-words}
 use Rattle.promises.specs.Update.{writing, update-bound}
 use Rattle.lent.specs.declared.Work.{Work}
-use Rattle.lent.specs.Model.{small, counts}
+use Rattle.lent.specs.Model.{small, with-rec, counts}
 use Rattle.lent.specs.Does.{Does}
 use Rattle.lent.specs.DoesLaws.{does-ends, does-look, does-bind}
 use Rattle.lent.specs.Shapes.{Does-directory, Room-to-count, room-after, less-room}
@@ -29,8 +29,8 @@ use Rattle.words.specs.Runs.{set-before}
 use Rattle.steps.specs.Lies.{Spare-lent, words-lie, next-page, Has-next, next-same, next-on-chip}
 use Rattle.steps.specs.Chip.{marked, Claimed, program-does, mark-old-does}
 use Rattle.steps.specs.Chip.{begun-words, Begun, begun-does, length-begun, room-after-begun, no-word-set, one-word-set}
-use Rattle.index.specs.Index.{Index, lists, with-chip, with-index, Does-index, index-state}
-use Rattle.index.specs.Index.{Index-lent, chip-of, spare-of, index-lengths, lengths-lent, Index-ready, Room-ready}
+use Rattle.index.specs.Index.{Index, with-pages, with-chip, with-names, with-index, Does-index, index-state}
+use Rattle.index.specs.Index.{Index-lent, lent-with-chip, chip-of, spare-of, index-lengths, lengths-lent, Index-ready, Room-ready}
 
 -- What an update of translation page t asks for.
 pub record Page-ready (g : Geometry) (x : Index) (w : Work) (t : ℕ) : Type 0 where
@@ -111,14 +111,10 @@ module _ {g : Geometry} {x x′ : Index} {w w′ : Work} {t : ℕ} (ready : Page
   pub still-roomy : Roomy g x′ w′ t 1
   still-roomy =
       record {
-        lent = record {
-          accepted = before .lent .accepted;
-          chip-fits = ap length (b .begins .stored)
-              ∙ length-sets (b .chip₁) (next-page g Translation (small (b .w₁ .rec)) * g .W) (begun-words g (named t (x′ .directory)) (b .chip₁))
-              ∙ before .lent .chip-fits;
-          spare-fits = before .lent .spare-fits;
-          directory-fits = before .lent .directory-fits;
-        };
+        lent = lent-with-chip (x′ .chip) (before .lent)
+            (ap length (b .begins .stored)
+            ∙ length-sets (b .chip₁) (next-page g Translation (small (b .w₁ .rec)) * g .W) (begun-words g (named t (x′ .directory)) (b .chip₁))
+            ∙ before .lent .chip-fits);
         next = next-same (b .begins .kept) (before .next);
         listed = before .listed;
         former = before .former;
@@ -207,8 +203,10 @@ finish-ready h =
 abbrev pub Written : Geometry → ℕ → List ℕ → List ℕ → Work → List ℕ → List ℕ → Work → Type 0
 Written g t spare directory w spare′ directory′ w′ =
     (s : State) (words : List ℕ)
-    → Does (writing g t (named t directory) words) (with-index (lists (s .chip) spare directory) w s) (counts (w .counts)) tt
-    (with-index (lists (sets (s .chip) (next-page g Translation (small (w .rec)) * g .W) words) spare′ directory′) w′ s) (counts (w′ .counts))
+    → Does (writing g t (named t directory) words)
+    (with-directory directory (with-flash (s .chip) spare (with-rec (w .rec) s))) (counts (w .counts)) tt
+    (with-directory directory′ (with-flash (sets (s .chip) (next-page g Translation (small (w .rec)) * g .W) words) spare′
+    (with-rec (w′ .rec) s))) (counts (w′ .counts))
 
 pub write-does : (g : Geometry) (t : ℕ) {former : Entry} {q : ℕ} {spare spare₁ spare₂ directory directory′ : List ℕ} {w w′ : Work}
     → former ≡ named t directory → Claimed g Translation t spare w q spare₁ w′ → spare₂ ≡ marked former spare₁
@@ -222,16 +220,17 @@ write-does g t {former} {spare₁ = spare₁} {spare₂} {directory} {w = w} {w�
 
 -- All parts together, where the words of the mappings have been set in the page.
 pub update-does : {g : Geometry} {t : ℕ} (ms : List Mapping)
-    {x x₁ x₂ : Index} {w w₁ w₂ : Work} → (b : Begins g t x w x₁ w₁)
-    → x₂ .chip ≡ sets (b .chip₁) (next-page g Translation (small (w₁ .rec)) * g .W)
+    {x x₁ : Index} {chip₂ spare₂ directory₂ : List ℕ} {w w₁ w₂ : Work} → (b : Begins g t x w x₁ w₁)
+    → chip₂ ≡ sets (b .chip₁) (next-page g Translation (small (w₁ .rec)) * g .W)
     (set-words g ms (begun-words g (named t (x₁ .directory)) (b .chip₁)))
-    → Written g t (x₁ .spare) (x₁ .directory) w₁ (x₂ .spare) (x₂ .directory) w₂ → Does-index (update g t ms) x w tt x₂ w₂
+    → Written g t (x₁ .spare) (x₁ .directory) w₁ spare₂ directory₂ w₂
+    → Does-index (update g t ms) x w tt (with-names directory₂ (with-pages chip₂ spare₂ x₁)) w₂
 unfolding update writing
-update-does {g} {t} ms {x₁ = x₁} {x₂} {w₂ = w₂} b is-set written s =
+update-does {g} {t} ms {x₁ = x₁} {spare₂ = spare₂} {directory₂} {w₂ = w₂} b is-set written s =
     let made : State = with-index (with-chip (b .chip₁) x₁) (b .w₁) s in
     does-ends
     (does-bind _ (b .made s)
     (does-bind _ (does-look _)
     (does-bind _ (begun-does (b .begins) made)
     (written made (set-words g ms (begun-words g (named t (x₁ .directory)) (b .chip₁)))))))
-    (ap (λ (chip : List ℕ). with-index (with-chip chip x₂) w₂ s) (sym is-set)) refl
+    (ap (λ (chip : List ℕ). with-index (with-names directory₂ (with-pages chip spare₂ x₁)) w₂ s) (sym is-set)) refl

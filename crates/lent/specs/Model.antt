@@ -13,6 +13,7 @@ use Rattle.scope.specs.Regions.{Region, Data, Translation}
 use Rattle.scope.specs.SmallRecord.{SmallRecord}
 use Rattle.scope.specs.Lent.{State, with-small, Entry, Place, Nowhere}
 use Rattle.scope.specs.Operations.{Counts}
+use Rattle.scope.specs.Boundary.{Words}
 
 abbrev pub geometry : Numbers → Geometry
 geometry g = record { P = g .p; W = g .w; D = g .d; T = g .t; L = g .l; C = g .c }
@@ -53,7 +54,27 @@ entry NowhereOf = Nowhere
 abbrev pub with-rec : Record → State → State
 with-rec r s = with-small (small r) s
 
--- The lent lists and the record as one state.
+-- The lent lists, for laws that do not tell one from another.
+pub record Lists : Type 0 where
+  pub chip : List ℕ
+  pub spare : List ℕ
+  pub directory : List ℕ
+  pub cache : List ℕ
+
+-- They and the record as one state; list by list, as contracts write it.
+abbrev pub together : Lists → Record → State
+together x r = record { chip = x .chip; spare = x .spare; directory = x .directory; cache = x .cache; small = small r }
+
 abbrev pub state : List ℕ → List ℕ → List ℕ → List ℕ → Record → State
-state chip spare directory cache r =
-    record { chip = chip; spare = spare; directory = directory; cache = cache; small = small r }
+state chip spare directory cache = together (record { chip = chip; spare = spare; directory = directory; cache = cache })
+
+-- They, the record's words and the counts as C lends them; a state's; and list by list.
+abbrev pub lend : Lists → List ℕ → List ℕ → Words
+lend x numbers counted =
+    record { chip = x .chip; spare = x .spare; directory = x .directory; cache = x .cache; small = numbers; counts = counted }
+
+abbrev pub lists-of : State → Lists
+lists-of s = record { chip = s .chip; spare = s .spare; directory = s .directory; cache = s .cache }
+
+abbrev pub words : List ℕ → List ℕ → List ℕ → List ℕ → List ℕ → List ℕ → Words
+words chip spare directory cache = lend (record { chip = chip; spare = spare; directory = directory; cache = cache })

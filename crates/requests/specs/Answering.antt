@@ -29,7 +29,7 @@ use Rattle.promises.specs.Read.{entry-place}
 use Rattle.promises.specs.Write.{placing, write-costs}
 use Rattle.lent.specs.declared.Counts.{Counts as Counted}
 use Rattle.lent.specs.declared.Work.{Work}
-use Rattle.lent.specs.Model.{small, state, with-rec, counts}
+use Rattle.lent.specs.Model.{small, Lists, together, with-rec, counts}
 use Rattle.lent.specs.Does.{Does}
 use Rattle.lent.specs.DoesLaws.{does-give, does-look-at, does-bind}
 use Rattle.lent.specs.Shapes.{Does-flash, Does-by-chip, Does-cache, Room-to-count, less-room}
@@ -101,11 +101,10 @@ pub read-begins : {l : ℕ} {g : Geometry} {s : State} {c : Counted} → Ready-f
     → Ready-for l g s (translate-bound g) c
 read-begins a = ready-less (omega arith) a
 
-pub place-ready : {l : ℕ} {g : Geometry} {s : State} {c : Counted} {chip spare directory cache buffer : List ℕ} {w : Work} {x : ℕ}
-    {place : Entry}
+pub place-ready : {l : ℕ} {g : Geometry} {s : State} {c : Counted} {left : Lists} {buffer : List ℕ} {w : Work} {x : ℕ} {place : Entry}
     → Ready-for l g s (read-bound g) c
-    → Does (translate g l) s (counts c) x (state chip spare directory cache (w .rec)) (counts (w .counts))
-    → place ≡ decode (physical-at x cache) → length buffer ≡ g .W → Place-ready g place chip buffer (w .counts)
+    → Does (translate g l) s (counts c) x (together left (w .rec)) (counts (w .counts))
+    → place ≡ decode (physical-at x (left .cache)) → length buffer ≡ g .W → Place-ready g place (left .chip) buffer (w .counts)
 place-ready a translates e long =
     let at = translated a translates in
     record {
@@ -161,10 +160,10 @@ module _ {l : ℕ} {g : Geometry} {s s₁ : State} {x : ℕ} {c c₁ : Counted} 
   made = make-room-law (cache-follower ok l x) (accepted-region ok Data) s₁ (at .lengths) (data-of (at .sound))
       (record { index = index-of (at .sound); cache = cache-of (at .sound); waiting = none-waits; rank = at .rank })
 
-  pub writing-ready : {chip spare directory cache buffer : List ℕ} {w : Work}
-      → Does (make-room g Data (cache-follows g)) s₁ (counts c₁) tt (state chip spare directory cache (w .rec)) (counts (w .counts))
-      → length buffer ≡ g .W → Writing-ready g x chip spare cache buffer w
-  writing-ready {chip} {spare} {directory} {cache} {w = w} makes long =
+  pub writing-ready : {left : Lists} {buffer : List ℕ} {w : Work}
+      → Does (make-room g Data (cache-follows g)) s₁ (counts c₁) tt (together left (w .rec)) (counts (w .counts))
+      → length buffer ≡ g .W → Writing-ready g x (left .chip) (left .spare) (left .cache) buffer w
+  writing-ready {left} {w = w} makes long =
       record {
         chip-lent = record { bounded = accepted-bounded ok; chip-fits = then .lengths .chip-fits };
         spare-lent = record { bounded = accepted-bounded ok; spare-fits = then .lengths .spare-fits };
@@ -179,7 +178,7 @@ module _ {l : ℕ} {g : Geometry} {s s₁ : State} {x : ℕ} {c c₁ : Counted} 
             (countable-then a translates (1 + room-bound g) (omega (arith, write-costs (g .P) (ok .P-from)))) (made .costs) makes;
       }
     where
-      then : At-rank g l x (state chip spare directory cache (w .rec))
+      then : At-rank g l x (together left (w .rec))
       then = subst (At-rank g l x) (makes .after)
           (record {
             lengths = made .lengths;

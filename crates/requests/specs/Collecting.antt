@@ -5,7 +5,7 @@ use mathlib.Core.List.{List, []}
 use native.Mathlib.Nat.{mul-le-mul-left}
 use native.Mathlib.Omega.{arith}
 use lib.ListN.{length}
-use Rattle.scope.specs.Geometry.{Geometry, blocks}
+use Rattle.scope.specs.Geometry.{Geometry}
 use Rattle.scope.specs.Regions.{Data}
 use Rattle.scope.specs.Lent.{State, Mapping, with-flash, with-cache, logical-at}
 use Rattle.scope.specs.Sound.{Sound, current}
@@ -25,12 +25,11 @@ use Rattle.promises.specs.Settle.{Index-settled, settle-law}
 use Rattle.promises.specs.Update.{update-bound}
 use Rattle.lent.specs.declared.Counts.{Counts as Counted}
 use Rattle.lent.specs.declared.Work.{Work}
-use Rattle.lent.specs.Model.{state, with-rec}
+use Rattle.lent.specs.Model.{Lists, together, with-rec}
 use Rattle.lent.specs.Shapes.{Does-flash, Does-cache, Room-to-count, less-room}
-use Rattle.steps.specs.Lies.{Chip-lent, Spare-lent}
 use Rattle.copying.specs.Choice.{To-collect, Makes-room, start-collect, start-follows-does, collect-does}
 use Rattle.copying.specs.Starting.{Collect-ready}
-use Rattle.index.specs.Index.{Index, lists, with-index, Does-index, chip-of, spare-of, lengths-lent, Index-ready}
+use Rattle.index.specs.Index.{Index, index-in, with-pages, with-index, Does-index, Index-lent, lengths-lent, Index-ready}
 use Rattle.lent.specs.Ready.{Does-all, Ready, countable-after}
 
 -- The most that room in the data region costs.
@@ -55,15 +54,15 @@ record After-copying (g : Geometry) (waiting : List Mapping) (s : State) : Type 
   few : length waiting < g .P
 
 -- The parts one after the other.
-module _ {g : Geometry} {chip spare directory cache : List ℕ} {w : Work}
-    (room-ready : Room-ready g (state chip spare directory cache (w .rec)) (w .counts)) {v : ℕ} (chosen : To-collect g Data spare w v) where
+module _ {g : Geometry} {x : Lists} {w : Work}
+    (room-ready : Room-ready g (together x (w .rec)) (w .counts)) {v : ℕ} (chosen : To-collect g Data (x .spare) w v) where
   abbrev s : State
-  s = state chip spare directory cache (w .rec)
+  s = together x (w .rec)
 
   ready : Ready g s (room-bound g) (w .counts)
   ready = room-ready .ready
 
-  pub start-ready : Collect-ready g Data v chip spare w
+  pub start-ready : Collect-ready g Data v (x .chip) (x .spare) w
   start-ready =
       record {
         bounds = accepted-region (ready .accepted) Data;
@@ -76,10 +75,10 @@ module _ {g : Geometry} {chip spare directory cache : List ℕ} {w : Work}
       }
 
   abbrev l : ℕ
-  l = logical-at 0 cache
+  l = logical-at 0 (x .cache)
 
   begins : Starts g Data (place-while g) (Follows g l 0) v (opened-lowest g Data s)
-  begins = subst (λ (x : ℕ). Starts g Data (place-while g) (Follows g l 0) x (opened-lowest g Data s)) (chosen .found s refl)
+  begins = subst (λ (b : ℕ). Starts g Data (place-while g) (Follows g l 0) b (opened-lowest g Data s)) (chosen .found s refl)
       (collection-starts (cache-follower (ready .accepted) l 0 .mover) s (accepted-region (ready .accepted) Data) (ready .lengths)
       (data-of (ready .sound)) (follows-first (ready .sound) (room-ready .some-used)) (chosen .full) (chosen .few s refl) .0)
 
@@ -103,8 +102,8 @@ module _ {g : Geometry} {chip spare directory cache : List ℕ} {w : Work}
 
   -- The pages are copied, and their moves followed.
   module _ {chip₁ spare₁ cache₁ : List ℕ} {moves waiting : List Mapping} {w₁ : Work}
-      (starts : Does-flash (start-collect g Data waits-all v) chip spare w moves chip₁ spare₁ w₁)
-      (follows : Does-cache (follow-each (cache-follows g) moves) cache w₁ waiting cache₁ w₁) where
+      (starts : Does-flash (start-collect g Data waits-all v) (x .chip) (x .spare) w moves chip₁ spare₁ w₁)
+      (follows : Does-cache (follow-each (cache-follows g) moves) (x .cache) w₁ waiting cache₁ w₁) where
     abbrev s₁ : State
     s₁ = with-cache cache₁ (with-flash chip₁ spare₁ (with-rec (w₁ .rec) s))
 
@@ -117,16 +116,19 @@ module _ {g : Geometry} {chip spare directory cache : List ℕ} {w : Work}
     waited : update-bound g * length waiting ≤ update-bound g * (g .P - 1)
     waited = mul-le-mul-left (update-bound g) (omega (arith, after .few))
 
-    pub settle-ready : Index-ready g (lists chip₁ spare₁ directory) w₁ waiting
+    abbrev x₁ : Index
+    x₁ = with-pages chip₁ spare₁ (index-in x)
+
+    pub settle-ready : Index-ready g x₁ w₁ waiting
     settle-ready =
         record {
-          lent = lengths-lent (lists chip₁ spare₁ directory) w₁ s₁ (ready .accepted) (after .lengths);
+          lent = lengths-lent x₁ w₁ s₁ (ready .accepted) (after .lengths);
           index = after .index;
           below-L = after .below-L;
           counting = countable-after _ (2 * (g .P - 1)) (less-room (omega (arith, waited)) (ready .countable)) copying-costs copies;
         }
 
-    module _ {x₂ : Index} {w₂ : Work} (settles : Does-index (update-all g waiting) (lists chip₁ spare₁ directory) w₁ tt x₂ w₂) where
+    module _ {x₂ : Index} {w₂ : Work} (settles : Does-index (update-all g waiting) x₁ w₁ tt x₂ w₂) where
       settled : Index-settled g waiting s₁ (update-all g waiting s₁)
       settled = settle-law (ready .accepted) waiting (after .below-L) _ (after .lengths) (after .index)
 
@@ -134,22 +136,20 @@ module _ {g : Geometry} {chip spare directory cache : List ℕ} {w : Work}
       settled-keeps-used =
           sym (ap (λ (s : State). s .small .used) (settles s₁ .after)) ∙ settled .only .rest .used
 
-      pub erase-ready : v < blocks g → Chip-lent g (x₂ .chip) × Spare-lent g (x₂ .spare) × (v < blocks g) × Room-to-count 1 (w₂ .counts)
-      erase-ready on-chip =
-          let lent = lengths-lent x₂ w₂ s₁ (ready .accepted) (subst (Lengths g) (settles s₁ .after) (settled .lengths)) in (
-            chip-of lent,
-            spare-of lent,
-            on-chip,
-            countable-after 1 (update-bound g * (g .P - 1))
-                (countable-after (1 + update-bound g * (g .P - 1)) (2 * (g .P - 1)) (less-room (omega arith) (ready .countable))
-                copying-costs copies)
-                (omega (arith, settled .costs, waited)) (settles s₁),
-          )
+      -- The erase that is left has its lists, and room in the counts.
+      pub erase-ready : Index-lent g x₂ × Room-to-count 1 (w₂ .counts)
+      erase-ready = (
+        lengths-lent x₂ w₂ s₁ (ready .accepted) (subst (Lengths g) (settles s₁ .after) (settled .lengths)),
+        countable-after 1 (update-bound g * (g .P - 1))
+            (countable-after (1 + update-bound g * (g .P - 1)) (2 * (g .P - 1)) (less-room (omega arith) (ready .countable))
+            copying-costs copies)
+            (omega (arith, settled .costs, waited)) (settles s₁),
+      )
 
       -- Together they make room.
-      pub collected-does : {chip₃ spare₃ : List ℕ} {w₃ : Work} → Does-flash (perform g (Erase v)) (x₂ .chip) (x₂ .spare) w₂ tt chip₃ spare₃ w₃
-          → Does-all (make-room g Data (cache-follows g)) s w tt (with-index (lists chip₃ spare₃ (x₂ .directory)) w₃ s₁) w₃
-      collected-does erases = collect-does (cache-follows g) s chosen copies (settles s₁) (erases (with-index x₂ w₂ s₁))
+      pub collected-does : {x₃ : Index} {w₃ : Work} → Does-index (perform g (Erase v)) x₂ w₂ tt x₃ w₃
+          → Does-all (make-room g Data (cache-follows g)) s w tt (with-index x₃ w₃ s₁) w₃
+      collected-does erases = collect-does (cache-follows g) s chosen copies (settles s₁) (erases s₁)
 
 -- ---- the choice
 

@@ -8,13 +8,14 @@ use Rattle.scope.specs.Geometry.{Geometry}
 use Rattle.scope.specs.Regions.{Data}
 use Rattle.scope.specs.Lent.{Entry, Place, Nowhere, State}
 use Rattle.scope.specs.Sound.{rank-of}
-use Rattle.scope.specs.Operations.{Erase, apply, give, look, perform, set-cache, set-small, _>>=_}
+use Rattle.scope.specs.Operations.{Counts, Erase, apply, give, look, perform, set-cache, set-small, _>>=_}
 use Rattle.scope.specs.Room.{read-page, program-next}
 use Rattle.scope.specs.Cache.{touch, forget, set-entry}
 use Rattle.scope.specs.Requests.{Replied, read-place}
 use Rattle.flash.specs.Words.{some-state}
 use Rattle.cache.specs.Ranks.{rank-found}
 use Rattle.lent.specs.declared.Work.{Work}
+use Rattle.lent.specs.Does.{Does}
 use Rattle.lent.specs.Shapes.{Does-flash, Does-by-chip, Does-cache}
 use Rattle.words.specs.Filter.{Filter}
 use Rattle.entries.specs.Entries.{Different, different-placed}
@@ -65,15 +66,15 @@ placed-different {cache} {w = w} different i place does =
     (different-placed cache different i place)
 
 -- Flash's steps leave the number of entries in use.
-module _ (g : Geometry) {chip spare chip′ spare′ : List ℕ} {w w′ : Work} where
-  pub program-keeps-used : (l : ℕ) (words : List ℕ) {q : ℕ} → Does-flash (program-next g Data l words) chip spare w q chip′ spare′ w′
-      → w′ .rec .used ≡ w .rec .used
-  unfolding program-next look perform apply set-small give _>>=_
-  program-keeps-used l words does = sym (ap (λ (s : State). s .small .used) (does some-state .after))
+pub program-keeps-used : (g : Geometry) (l : ℕ) (words : List ℕ) {chip spare chip′ spare′ : List ℕ} {w w′ : Work} {q : ℕ}
+    → Does-flash (program-next g Data l words) chip spare w q chip′ spare′ w′ → w′ .rec .used ≡ w .rec .used
+unfolding program-next look perform apply set-small give _>>=_
+program-keeps-used g l words does = sym (ap (λ (s : State). s .small .used) (does some-state .after))
 
-  pub erase-keeps-used : (b : ℕ) → Does-flash (perform g (Erase b)) chip spare w tt chip′ spare′ w′ → w′ .rec .used ≡ w .rec .used
-  unfolding perform apply
-  erase-keeps-used b does = sym (ap (λ (s : State). s .small .used) (does some-state .after))
+pub erase-keeps-used : (g : Geometry) (b : ℕ) {s s′ : State} {c c′ : Counts} → Does (perform g (Erase b)) s c tt s′ c′
+    → s′ .small .used ≡ s .small .used
+unfolding perform apply
+erase-keeps-used g b does = sym (ap (λ (s : State). s .small .used) (does .after))
 
 -- So does a read.
 pub read-place-keeps-used : (g : Geometry) (buffer : List ℕ) (place : Entry) {chip : List ℕ} {w w′ : Work} {r : Replied}

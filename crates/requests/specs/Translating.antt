@@ -9,7 +9,7 @@ use lib.ListN.{length}
 use borrow.Author.Tests.{lt-ltb, le-ltb}
 use Rattle.scope.specs.Geometry.{Geometry, Accepted, pages}
 use Rattle.scope.specs.Regions.{Translation}
-use Rattle.scope.specs.Lent.{Entry, Place, Nowhere, State, with-flash, with-cache, chip-size, directory-size, cache-size, named, logical-at, physical-at, translation-page}
+use Rattle.scope.specs.Lent.{Entry, Place, Nowhere, State, with-flash, with-directory, with-cache, chip-size, directory-size, cache-size, named, logical-at, physical-at, translation-page}
 use Rattle.scope.specs.Sound.{rank-of, Names}
 use Rattle.scope.specs.Operations.{Counts, Step, apply, give, look, nothing, perform, _>>=_}
 use Rattle.scope.specs.Room.{read-page}
@@ -23,11 +23,11 @@ use Rattle.promises.specs.Update.{update-bound}
 use Rattle.promises.specs.Translate.{translate-bound, can-go, dropped-law}
 use Rattle.lent.specs.declared.Counts.{Counts as Counted}
 use Rattle.lent.specs.declared.Work.{Work}
-use Rattle.lent.specs.Model.{state, with-rec, counts}
+use Rattle.lent.specs.Model.{Lists, together, with-rec, counts}
 use Rattle.lent.specs.Does.{Does}
 use Rattle.lent.specs.DoesLaws.{does-give, does-look, does-look-at, does-bind, does-cond-true, does-cond-false}
-use Rattle.lent.specs.Ready.{Ready, Ready-for, countable-after}
-use Rattle.index.specs.Index.{lists, with-index, lengths-lent, Index-ready}
+use Rattle.lent.specs.Ready.{Does-all, Ready, Ready-for, countable-after}
+use Rattle.index.specs.Index.{index-in, lengths-lent, Index-ready}
 use Rattle.lent.specs.Shapes.{Does-by-chip, Room-to-count, less-room}
 
 -- An entry for l may be fetched: there is room for it, and the translation page that is to be read lies on the chip.
@@ -45,8 +45,8 @@ pub record Fetches (g : Geometry) (l : ℕ) (chip directory cache : List ℕ) (w
 abbrev pub Does-fetch : {A : Type 0} → Step A → List ℕ → List ℕ → List ℕ → Work → A → List ℕ → Work → Type 0
 Does-fetch m chip directory cache w x cache′ w′ =
     (s : State)
-    → Does m (with-cache cache (with-index (lists chip (s .spare) directory) w s)) (counts (w .counts)) x
-    (with-cache cache′ (with-index (lists chip (s .spare) directory) w′ s)) (counts (w′ .counts))
+    → Does-all m (with-cache cache (with-directory directory (with-flash chip (s .spare) (with-rec (w .rec) s)))) w x
+    (with-cache cache′ (with-directory directory (with-flash chip (s .spare) (with-rec (w′ .rec) s)))) w′
 
 -- The index names pages on the chip.
 named-on-chip : {g : Geometry} → Accepted g → (s : State) → Index-fits g s → (l : ℕ) → l < g .L → (q : ℕ)
@@ -112,42 +112,40 @@ read-keeps-used g l page {chip} {w} does =
 -- ---- what is asked for at each place
 
 -- One mapping may be written back.
-pub write-back-ready : {g : Geometry} {chip spare directory cache : List ℕ} {w : Work} (l place : ℕ)
-    → Ready g (state chip spare directory cache (w .rec)) (update-bound g) (w .counts) → l < g .L
-    → Index-ready g (lists chip spare directory) w (record { logical = l; physical = place } ∷ [])
-write-back-ready {g} {chip} {spare} {directory} {cache} {w} l place ready below =
+pub write-back-ready : {g : Geometry} {x : Lists} {w : Work} (l place : ℕ)
+    → Ready g (together x (w .rec)) (update-bound g) (w .counts) → l < g .L
+    → Index-ready g (index-in x) w (record { logical = l; physical = place } ∷ [])
+write-back-ready {g} {x} {w} l place ready below =
     record {
-      lent = lengths-lent (lists chip spare directory) w (state chip spare directory cache (w .rec)) (ready .accepted) (ready .lengths);
+      lent = lengths-lent (index-in x) w (together x (w .rec)) (ready .accepted) (ready .lengths);
       index = index-of (ready .sound);
       below-L = λ k. ⊎-elim (λ e. rw (← e) below) (λ z. absurd z);
       counting = less-room (omega arith) (ready .countable);
     }
 
 -- A write-back leaves the number of used entries.
-pub written-keeps-used : {g : Geometry} {s : State} {n : ℕ} {c : Counted} {chip spare directory cache : List ℕ} {w : Work}
-    → Ready g s n c → (i : ℕ) → i < s .small .used
-    → Does (cond (is-changed i (s .cache)) (write-back g i) nothing) s (counts c) tt
-    (state chip spare directory cache (w .rec)) (counts (w .counts))
+pub written-keeps-used : {g : Geometry} {s : State} {n : ℕ} {c : Counted} {left : Lists} {w : Work} → Ready g s n c
+    → (i : ℕ) → i < s .small .used
+    → Does (cond (is-changed i (s .cache)) (write-back g i) nothing) s (counts c) tt (together left (w .rec)) (counts (w .counts))
     → w .rec .used ≡ s .small .used
 written-keeps-used {s = s} ready i in-use does =
     sym (ap (λ (z : State). z .small .used) (does .after))
     ∙ can-go s (ready .lengths) (ready .sound) i in-use (ready .accepted) .back .used
 
 -- An entry may be fetched once one is free.
-pub fetch-ready : {g : Geometry} (l : ℕ) {s : State} {c : Counted} {chip spare directory cache : List ℕ} {w : Work}
-    → Ready-for l g s (translate-bound g) c
-    → Does (drop-if-full g) s (counts c) tt (state chip spare directory cache (w .rec)) (counts (w .counts))
-    → Fetches g l chip directory cache w
-fetch-ready {g} l {s} {c} {chip} {spare} {directory} {cache} {w} ready does =
+pub fetch-ready : {g : Geometry} (l : ℕ) {s : State} {c : Counted} {left : Lists} {w : Work} → Ready-for l g s (translate-bound g) c
+    → Does (drop-if-full g) s (counts c) tt (together left (w .rec)) (counts (w .counts))
+    → Fetches g l (left .chip) (left .directory) (left .cache) w
+fetch-ready {g} l {s} {c} {left} {w} ready does =
     let freed = dropped-law (ready .ready .accepted) s (ready .ready .lengths) (ready .ready .sound) in
-    let lengths : Lengths g (state chip spare directory cache (w .rec)) = subst (Lengths g) (does .after) (freed .kept .lengths) in
+    let lengths : Lengths g (together left (w .rec)) = subst (Lengths g) (does .after) (freed .kept .lengths) in
     record {
       accepted = ready .ready .accepted;
       chip-fits = lengths .chip-fits;
       directory-fits = lengths .directory-fits;
       cache-fits = lengths .cache-fits;
       below = ready .below;
-      on-chip = named-on-chip (ready .ready .accepted) (state chip spare directory cache (w .rec))
+      on-chip = named-on-chip (ready .ready .accepted) (together left (w .rec))
           (subst (Index-fits g) (does .after) (index-of (freed .kept .sound))) l (ready .below);
       room = subst (λ (x : State). x .small .used < g .C) (does .after) (freed .room);
       countable = countable-after 1 (update-bound g) (less-room (omega arith) (ready .ready .countable)) (freed .kept .costs) does;

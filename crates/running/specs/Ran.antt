@@ -12,7 +12,7 @@ use borrow.Author.Tests.{eqb-true, eq-eqb, ne-eqb, leb-true}
 use Rattle.flash.specs.Cases.{same?, and-true}
 use Rattle.flash.specs.Words.{Lengths}
 use Rattle.lent.specs.declared.Record.{Record}
-use Rattle.lent.specs.Model.{counts, state}
+use Rattle.lent.specs.Model.{counts, Lists, together}
 use Rattle.lent.specs.Does.{Does}
 use Rattle.lent.specs.DoesLaws.{does-give, does-bind, does-ends, does-value}
 use Rattle.scope.specs.Geometry.{Geometry}
@@ -178,19 +178,19 @@ gives {x = x} {s = s} {c = c} d = (d .value, d .after, sym (does-give {s = s} {c
 
 -- Begun, served to the last request and finished, with the record that is handed on, is the call: the requests' answers, the state and the
 -- counts after are its own.
-pub run-answers : (g : Geometry) (requests : List Request) {boundary : Bool} {a b : Running} {s s₁ : State}
-    {chip spare directory cache words answers census filter words′ answers′ given given′ : List ℕ} {answer : ℕ} {rec : Record}
+pub run-answers : (g : Geometry) (requests : List Request) {boundary : Bool} {a b : Running} {s s₁ : State} {x : Lists}
+    {words answers census filter words′ answers′ given given′ : List ℕ} {answer : ℕ} {rec : Record}
     → Begun g boundary (length requests) (length words) (length answers) (length given) s a s₁ census filter
-    → Runs (serve-records g requests (length requests)) a s₁ words answers b (state chip spare directory cache (b .rec)) words′ answers′
+    → Runs (serve-records g requests (length requests)) a s₁ words answers b (together x (b .rec)) words′ answers′
     → Finished b given answer rec given′
     → Answers (run g (right-lengths boundary given) requests words answers s) given
-    (run-replied words′ answers′ answer) (state chip spare directory cache rec) given′
+    (run-replied words′ answers′ answer) (together x rec) given′
 unfolding run
-run-answers g requests {boundary} {a} {b} {s} {chip = chip} {spare} {directory} {cache} {words} {answers} {words′ = words′} {answers′} {given} {given′}
+run-answers g requests {boundary} {a} {b} {s} {x = x} {words} {answers} {words′ = words′} {answers′} {given} {given′}
     {answer} begun ran finished =
     subst
     (λ (r : Record). Answers (run g (right-lengths boundary given) requests words answers s) given
-    (run-replied words′ answers′ answer) (state chip spare directory cache r) given′)
+    (run-replied words′ answers′ answer) (together x r) given′)
     (sym (finished .recorded))
     (does-answers {m = run g (right-lengths boundary given) requests words answers} {s = s} (counts (b .counts))
     (same? (a .answer) DONE
@@ -209,13 +209,13 @@ run-answers g requests {boundary} {a} {b} {s} {chip = chip} {spare} {directory} 
     (finished .handed))
 
 -- The same with lent requests.
-pub ran-answers : {g : Geometry} {asked : List Asked} {boundary : Bool} {a b : Running} {s s₁ : State}
-    {chip spare directory cache words answers census filter words′ answers′ census′ filter′ given given′ : List ℕ} {answer : ℕ} {rec : Record}
+pub ran-answers : {g : Geometry} {asked : List Asked} {boundary : Bool} {a b : Running} {s s₁ : State} {x : Lists}
+    {words answers census filter words′ answers′ census′ filter′ given given′ : List ℕ} {answer : ℕ} {rec : Record}
     → Begun g boundary (length asked) (length words) (length answers) (length given) s a s₁ census filter
-    → Ran g asked (length asked) a s₁ words answers census filter b (state chip spare directory cache (b .rec)) words′ answers′ census′ filter′
+    → Ran g asked (length asked) a s₁ words answers census filter b (together x (b .rec)) words′ answers′ census′ filter′
     → Finished b given answer rec given′
     → Answers (run g (right-lengths boundary given) (map request asked) words answers s) given (run-replied words′ answers′ answer)
-    (state chip spare directory cache rec) given′
+    (together x rec) given′
 ran-answers {g} {asked} begun ran finished =
     let n : length (map request asked) ≡ length asked = length-map asked request in
     run-answers g (map request asked) (rw (← n) at begun) (rw (← n) at (ran .runs)) finished

@@ -6,7 +6,7 @@ ghost use Rattle.scope.specs.Requests.{replied};
 ghost use Rattle.scope.specs.Calls.{run-replied};
 ghost use Rattle.scope.specs.Boundary.{tf-format, tf-check, tf-read, tf-write, tf-run};
 ghost use Rattle.scope.specs.Contracts.{Gives};
-ghost use Rattle.wording.specs.Words.{words};
+ghost use Rattle.lent.specs.Model.{words};
 ghost use Rattle.trianglefire.specs.Numbers.{geometry-of};
 
 // Words of the spare that a page has, of the cache that an entry has, and of the small record: for those who lend arrays.

@@ -4,10 +4,9 @@ use lent::Geometry;
 use wording::record::load;
 use wording::record::store;
 use wording::record::whole_record;
-ghost use Rattle.lent.specs.Model.{geometry};
+ghost use Rattle.lent.specs.Model.{geometry, words};
 ghost use Rattle.scope.specs.Boundary.{tf-format, tf-check};
 ghost use Rattle.scope.specs.Contracts.{Gives};
-ghost use Rattle.wording.specs.Words.{words};
 
 // The old state isn't tested.
 pub fn format(

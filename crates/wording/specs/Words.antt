@@ -7,21 +7,13 @@ use mathlib.Core.List.{List}
 use lib.Dec.{eqb}
 use lib.ListN.{length}
 use lib.Seq.{sets}
+use Rattle.lent.specs.Model.{lend, lists-of}
 use Rattle.scope.specs.Lent.{State, with-small}
 use Rattle.scope.specs.SmallRecord.{SmallRecord, record-words, record-of, words-from}
 use Rattle.scope.specs.Operations.{Step}
 use Rattle.scope.specs.Boundary.{Words, from-words, to-words, right-words, in-words}
 use Rattle.scope.specs.Contracts.{Answers, Gives, right-lengths}
 use Rattle.scope.specs.Laws.SmallRecord.{record-words-kept}
-
--- The lent words of a call.
-abbrev pub words : List ℕ → List ℕ → List ℕ → List ℕ → List ℕ → List ℕ → Words
-words chip spare directory cache record′ counts =
-    record { chip = chip; spare = spare; directory = directory; cache = cache; small = record′; counts = counts }
-
--- The words of a state, with these for its record, and counts.
-abbrev words-of-state : State → List ℕ → List ℕ → Words
-words-of-state s = words (s .chip) (s .spare) (s .directory) (s .cache)
 
 -- Numbers that come back as they were loaded change no word.
 pub stored-back : (l : List ℕ) {r : SmallRecord} → r ≡ record-of l → l ≡ sets l 0 (words-from r)
@@ -39,8 +31,8 @@ module _ {A : Type 0} (w : Words) {w′ : Words} {r r′ : SmallRecord} {x : A} 
         answer = ap (λ (t : State). m t .value) same ∙ a .value;
         lent =
             ap (λ (t : State). to-words w (m t)) same
-            ∙ ap₂ (λ (t : State) (k : List ℕ). words-of-state t (sets (w .small) 0 (words-from (t .small))) k) (a .after) (sym (a .counted))
-            ∙ ap (λ (l : List ℕ). words-of-state (from-words w′) l (w′ .counts)) (sym stored);
+            ∙ ap₂ (λ (t : State) (k : List ℕ). lend (lists-of t) (sets (w .small) 0 (words-from (t .small))) k) (a .after) (sym (a .counted))
+            ∙ ap (λ (l : List ℕ). lend (lists-of (from-words w′)) l (w′ .counts)) (sym stored);
       }
 
   -- The same with the length of the record's words tested.

@@ -3,11 +3,10 @@ use lent::Geometry;
 use wording::record::load;
 use wording::record::store;
 use wording::record::whole_record;
-ghost use Rattle.lent.specs.Model.{geometry};
+ghost use Rattle.lent.specs.Model.{geometry, words};
 ghost use Rattle.scope.specs.Requests.{replied};
 ghost use Rattle.scope.specs.Boundary.{tf-read, tf-write};
 ghost use Rattle.scope.specs.Contracts.{Gives};
-ghost use Rattle.wording.specs.Words.{words};
 
 // Fills the page buffer where the page was written.
 pub fn read(

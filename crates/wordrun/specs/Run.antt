@@ -8,7 +8,7 @@ use native.Mathlib.Omega.{arith}
 use lib.Dec.{eqb}
 use lib.ListN.{length}
 use Rattle.lent.specs.declared.Record.{Record}
-use Rattle.lent.specs.Model.{state}
+use Rattle.lent.specs.Model.{Lists, together}
 use Rattle.scope.specs.Geometry.{Geometry}
 use Rattle.scope.specs.Lent.{State, Request}
 use Rattle.scope.specs.Replies.{DONE}
@@ -80,19 +80,19 @@ last-first true false false = refl
 last-first false whole three = refl
 
 -- Begun, served to the last request and finished, with the record that is handed on, is the call.
-pub run-words-answers : (g : Geometry) (ws : List ℕ) (boundary : Bool) {whole : Bool} {n : ℕ} {a b : Running} {s s₁ : State}
-    {chip spare directory cache words answers census filter words′ answers′ given given′ : List ℕ} {answer : ℕ} {rec : Record}
+pub run-words-answers : (g : Geometry) (ws : List ℕ) (boundary : Bool) {whole : Bool} {n : ℕ} {a b : Running} {s s₁ : State} {x : Lists}
+    {words answers census filter words′ answers′ given given′ : List ℕ} {answer : ℕ} {rec : Record}
     → whole ≡ (boundary && eqb (length ws % 2) 0) → n ≡ length ws / 2
     → Begun g whole n (length words) (length answers) (length given) s a s₁ census filter
-    → Runs (serve-records g (requests-of ws) (length ws / 2)) a s₁ words answers b (state chip spare directory cache (b .rec)) words′ answers′
+    → Runs (serve-records g (requests-of ws) (length ws / 2)) a s₁ words answers b (together x (b .rec)) words′ answers′
     → Finished b given answer rec given′
     → Answers (run g (right-lengths boundary given && eqb (length ws % 2) 0) (requests-of ws) words answers s) given
-    (run-replied words′ answers′ answer) (state chip spare directory cache rec) given′
-run-words-answers g ws boundary {s = s} {chip = chip} {spare} {directory} {cache} {words} {answers} {words′ = words′} {answers′} {given} {given′} {answer} {rec}
+    (run-replied words′ answers′ answer) (together x rec) given′
+run-words-answers g ws boundary {s = s} {x = x} {words} {answers} {words′ = words′} {answers′} {given} {given′} {answer} {rec}
     tested half begun ran finished =
     let many = half-as-many ws in
     subst
     (λ (right : Bool). Answers (run g right (requests-of ws) words answers s) given
-    (run-replied words′ answers′ answer) (state chip spare directory cache rec) given′)
+    (run-replied words′ answers′ answer) (together x rec) given′)
     (ap (λ (b : Bool). b && eqb (length given) counts-words) tested ∙ last-first boundary (eqb (length ws % 2) 0) (eqb (length given) counts-words))
     (run-answers g (requests-of ws) (rw (half ∙ sym many) at begun) (rw (sym many) at ran) finished)

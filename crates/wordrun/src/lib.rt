@@ -20,12 +20,11 @@ ghost use mathlib.Core.Path.{_≡_};
 ghost use mathlib.Core.Bool.{_&&_};
 ghost use lib.Dec.{eqb};
 ghost use lib.ListN.{length};
-ghost use Rattle.lent.specs.Model.{geometry, state};
+ghost use Rattle.lent.specs.Model.{geometry, state, words as lent-words};
 ghost use Rattle.scope.specs.Calls.{run-replied, serve-records, run};
 ghost use Rattle.scope.specs.Boundary.{requests-of, tf-run};
 ghost use Rattle.scope.specs.Contracts.{right-lengths, Answers, Gives};
 ghost use Rattle.running.specs.Serve.{Runs};
-ghost use Rattle.wording.specs.Words.{words as lent-words};
 ghost use Rattle.running.specs.Ran.{Tested};
 
 // The requests one after the other, where the run was admitted.

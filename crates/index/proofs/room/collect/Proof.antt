@@ -3,6 +3,7 @@ use mathlib.Core.Path.{refl}
 use native.Mathlib.Omega.{arith}
 use borrow.Author.Needs.{needs}
 use Rattle.lent.specs.Shapes.{less-room}
+use Rattle.index.specs.Index.{flash-does}
 use Rattle.index.specs.Collecting.{start-ready, collected-does}
 use Rattle.index.proofs.room.collect.Statement.{statement}
 use Rattle.index.proofs.room.collect.Tie as tie
@@ -55,7 +56,8 @@ returns c =
     let named = erased .before .before .before .before .before .before in
     let done = copied named in
     let pre = begun done .pre .0 in (
-      collected-does (pre .0) (pre .1) (done .start .ensures .0) (named .names-moved .ensures) (erased .erase .ensures .0),
+      collected-does (pre .0) (pre .1) (done .start .ensures .0) (named .names-moved .ensures)
+          (flash-does _ (erased .erase .ensures .0)),
       erased .erase .ensures .1,
     )
 

@@ -1,8 +1,10 @@
 -- `requests::room::collect` meets its contract: each part asks for what the law of the parts before it gives.
 use mathlib.Core.Path.{refl, _∙_}
 use native.Mathlib.Omega.{arith}
+use Rattle.flash.specs.Words.{some-state}
 use Rattle.lent.specs.Model.{geometry}
 use Rattle.copying.specs.Choice.{start-keeps-used}
+use Rattle.index.specs.Index.{flash-does, chip-of, spare-of}
 use Rattle.requests.specs.Collecting.{start-ready, settle-ready, settled-keeps-used, erase-ready, collected-does}
 use Rattle.requests.specs.Filtered.{filter-still, different-still, erase-keeps-used}
 use Rattle.requests.proofs.room.collect.Statement.{statement}
@@ -60,11 +62,9 @@ erase-requires c κs =
     let last = c .before .before .before .before .before .before .before .before .before .before .before in
     let moved = followed last in
     let done = copied moved in
-    let pre = begun done .pre .0 in (
-      erase-ready (pre .0) (pre .1) (done .start .ensures .0) (moved .follow-moves .ensures .0) (last .settle .ensures .0)
-          (done .start .ensures .1 .0 .on-chip),
-      last .settle .ensures .1,
-    )
+    let pre = begun done .pre .0 in
+    let (lent, room) = erase-ready (pre .0) (pre .1) (done .start .ensures .0) (moved .follow-moves .ensures .0) (last .settle .ensures .0) in
+    ((chip-of lent, spare-of lent, done .start .ensures .1 .0 .on-chip, room), last .settle .ensures .1)
 
 same-length : tie.Need-same-length
 same-length c =
@@ -98,10 +98,10 @@ returns c =
     let starts = done .start .ensures .0 in
     let a = begun done .args in
     let pre = begun done .pre .0 in (
-      collected-does (pre .0) (pre .1) starts follows settles (erases .0),
+      collected-does (pre .0) (pre .1) starts follows settles (flash-does _ (erases .0)),
       record {
         counted = erases .1;
-        filtered = filter-still (erase-keeps-used (geometry (a .g)) (a .v) (erases .0) ∙ settled-keeps-used (pre .0) (pre .1) starts follows settles)
+        filtered = filter-still (erase-keeps-used (geometry (a .g)) (a .v) (erases .0 some-state) ∙ settled-keeps-used (pre .0) (pre .1) starts follows settles)
             (moved .follow-moves .ensures .1 .0);
       },
     )
