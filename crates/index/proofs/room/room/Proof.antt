@@ -1,9 +1,10 @@
 -- `index::room::room` meets its contract: room is there or was made by the choice, or is by a collection.
-use mathlib.Core.Path.{subst}
+use mathlib.Core.Path.{_≡_, subst}
 use borrow.Author.Needs.{needs}
 use Rattle.flash.specs.Bounded.{accepted-bounded}
 use Rattle.scope.specs.Regions.{Translation}
 use Rattle.lent.specs.Model.{geometry}
+use Rattle.copying.specs.declared.choice.Choice.{Choice}
 use Rattle.copying.specs.Choice.{Chosen}
 use Rattle.index.specs.Collecting.{chosen-does}
 use Rattle.index.proofs.room.room.Statement.{statement}
@@ -12,6 +13,11 @@ use Rattle.index.proofs.room.room.Tie as tie
 -- Where all begins.
 abbrev start : tie.After-choose → tie.Start
 start c = c .before .before .before .before .before .before .before
+
+-- What the choice tells, once it is known.
+told : (c : tie.After-choose) {x : Choice} → c .choose .result ≡ x
+    → let a = start c .args in Chosen (geometry (a .g)) Translation (a .spare .now) (a .work) x
+told c e = let a = start c .args in subst (Chosen (geometry (a .g)) Translation (a .spare .now) (a .work)) e (c .choose .ensures)
 
 choose-requires : tie.Need-choose-requires
 choose-requires c κs =
@@ -32,10 +38,7 @@ collect-requires c κs =
     let known = c .before .before .before .before .before in
     let chosen = known .before .before in
     let begun = start chosen in
-    let a = begun .args in (
-      (begun .pre .0, subst (Chosen (geometry (a .g)) Translation (a .spare .now) (a .work)) (known .choice2 .given .1) (chosen .choose .ensures)),
-      begun .pre .1,
-    )
+    ((begun .pre .0, told chosen (known .choice2 .given .1)), begun .pre .1)
 
 same-length : tie.Need-same-length
 same-length c = search needs
@@ -46,10 +49,7 @@ same-length-2 c = search needs
 returns : tie.Need-returns
 returns c =
     let chosen = c .before .before in
-    let begun = start chosen in
-    let a = begun .args in
-    let room = subst (Chosen (geometry (a .g)) Translation (a .spare .now) (a .work)) (c .enum-told .given .1) (chosen .choose .ensures) in
-    (chosen-does room, begun .pre .1)
+    (chosen-does (told chosen (c .enum-told .given .1)), start chosen .pre .1)
 
 same-length-3 : tie.Need-same-length-3
 same-length-3 c = search needs
@@ -61,10 +61,7 @@ returns-2 : tie.Need-returns-2
 returns-2 c =
     let known = c .before in
     let chosen = known .before .before in
-    let begun = start chosen in
-    let a = begun .args in
-    let opens = subst (Chosen (geometry (a .g)) Translation (a .spare .now) (a .work)) (known .choice .given .1) (chosen .choose .ensures) in
-    (chosen-does opens, begun .pre .1)
+    (chosen-does (told chosen (known .choice .given .1)), start chosen .pre .1)
 
 same-length-5 : tie.Need-same-length-5
 same-length-5 c = search needs

@@ -1,9 +1,10 @@
 -- `requests::room::make_room` meets its contract: room is there or was made by the choice, or is by a collection.
-use mathlib.Core.Path.{subst}
+use mathlib.Core.Path.{_≡_, subst}
 use borrow.Author.Needs.{needs}
 use Rattle.flash.specs.Bounded.{accepted-bounded}
 use Rattle.scope.specs.Regions.{Data}
 use Rattle.lent.specs.Model.{geometry}
+use Rattle.copying.specs.declared.choice.Choice.{Choice}
 use Rattle.copying.specs.Choice.{Chosen}
 use Rattle.requests.specs.Collecting.{chosen-does}
 use Rattle.requests.specs.Filtered.{filter-still}
@@ -13,6 +14,11 @@ use Rattle.requests.proofs.room.make_room.Tie as tie
 -- Where all begins.
 abbrev start : tie.After-choose → tie.Start
 start c = c .before .before .before .before .before .before .before .before
+
+-- What the choice tells, once it is known.
+told : (c : tie.After-choose) {x : Choice} → c .choose .result ≡ x
+    → let a = start c .args in Chosen (geometry (a .g)) Data (a .spare .now) (a .work) x
+told c e = let a = start c .args in subst (Chosen (geometry (a .g)) Data (a .spare .now) (a .work)) e (c .choose .ensures)
 
 choose-requires : tie.Need-choose-requires
 choose-requires c κs =
@@ -33,10 +39,7 @@ collect-requires c κs =
     let known = c .before .before .before .before .before .before in
     let chosen = known .before .before in
     let begun = start chosen in
-    let a = begun .args in (
-      (begun .pre .0, subst (Chosen (geometry (a .g)) Data (a .spare .now) (a .work)) (known .choice2 .given .1) (chosen .choose .ensures)),
-      begun .pre .1,
-    )
+    ((begun .pre .0, told chosen (known .choice2 .given .1)), begun .pre .1)
 
 same-length : tie.Need-same-length
 same-length c = search needs
@@ -48,9 +51,7 @@ returns : tie.Need-returns
 returns c =
     let chosen = c .before .before in
     let begun = start chosen in
-    let a = begun .args in
-    let room = subst (Chosen (geometry (a .g)) Data (a .spare .now) (a .work)) (c .enum-told .given .1) (chosen .choose .ensures) in
-    (chosen-does (begun .pre .0 .ready) room, begun .pre .1)
+    (chosen-does (begun .pre .0 .ready) (told chosen (c .enum-told .given .1)), begun .pre .1)
 
 same-length-3 : tie.Need-same-length-3
 same-length-3 c = search needs
@@ -63,8 +64,7 @@ returns-2 c =
     let known = c .before in
     let chosen = known .before .before in
     let begun = start chosen in
-    let a = begun .args in
-    let opens = subst (Chosen (geometry (a .g)) Data (a .spare .now) (a .work)) (known .choice .given .1) (chosen .choose .ensures) in (
+    let opens = told chosen (known .choice .given .1) in (
       chosen-does (begun .pre .0 .ready) opens,
       record { counted = begun .pre .1 .counted; filtered = filter-still (opens .keeps-used) (begun .pre .1 .filtered) },
     )
