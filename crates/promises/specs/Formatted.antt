@@ -6,11 +6,11 @@ use mathlib.Core.Bool.{Bool, _&&_}
 use mathlib.Core.List.{[], _∷_, append-nil}
 use native.Mathlib.Omega.{arith}
 use lib.Dec.{eqb, ltb}
-use lib.ListN.{getD, length-replicate, getD-replicate}
+use lib.ListN.{getD, replicate, length-replicate, getD-replicate}
 use borrow.Author.Tests.{ltb-true, le-ltb}
 use Rattle.scope.specs.Counting.{lowest}
 use Rattle.scope.specs.Geometry.{Geometry, Accepted, M, blocks, pages}
-use Rattle.scope.specs.Lent.{none, valid, Place, Nowhere, State, entry-words, directory-size, cache-size, state-of, named, logical-at, translation-page}
+use Rattle.scope.specs.Lent.{none, valid, Place, Nowhere, State, with-directory, entry-words, directory-size, cache-size, state-of, named, logical-at, translation-page}
 use Rattle.scope.specs.Regions.{Region, Data, Translation, first-block, region-blocks, page-in, Has-block, Has-page}
 use Rattle.scope.specs.SmallRecord.{SmallRecord, fresh, open-block, next-offset}
 use Rattle.scope.specs.Sound.{Page-fits, Blocks-fit, Entries-fit, rank-of, stored, current, Sound}
@@ -20,7 +20,7 @@ use Rattle.scope.specs.Requests.{format-steps}
 use Rattle.flash.specs.Cases.{last, and-true}
 use Rattle.promises.specs.Index.{page-below}
 use Rattle.flash.specs.Searching.{Is-lowest, lowest-cases}
-use Rattle.flash.specs.Words.{Lengths}
+use Rattle.flash.specs.Words.{Lengths, lengths-with-directory, lengths-with-cache}
 use Rattle.flash.specs.Kept.{apply-keeps-lengths}
 use Rattle.flash.specs.Pages.{Page-erased, erased-same, erase-block}
 use Rattle.flash.specs.Places.{in-block, block-on-chip, page-in-region, outside-block}
@@ -96,13 +96,11 @@ module _ (g : Geometry) (ok : Accepted g) (s : State) (len : Lengths g s) where
   pub format-lengths : Lengths g (formatted g s)
   unfolding format-steps erasing set-directory set-cache set-small give _>>=_
   format-lengths =
-      let e = erased-lengths g (blocks g) s len in
-      record {
-        chip-fits = e .chip-fits;
-        spare-fits = e .spare-fits;
-        directory-fits = length-replicate (directory-size g) none;
-        cache-fits = length-replicate (cache-size g) none;
-      }
+      let erased = erasing g (blocks g) s .after in
+      let directory = replicate (directory-size g) none in
+      lengths-with-cache (with-directory directory erased)
+      (lengths-with-directory erased (erased-lengths g (blocks g) s len) (length-replicate (directory-size g) none))
+      (length-replicate (cache-size g) none)
 
   none-valid : (r : Region) (p : ℕ) → Has-page g r p → state-of p (formatted g s .spare) ≢ valid
   none-valid r p h v = omega (arith, every-page r p h .state)

@@ -6,13 +6,13 @@ ghost use Prim.Native.Nat.{_≤_};
 ghost use lib.ListN.{length};
 ghost use Rattle.scope.specs.Decisions.{sound};
 ghost use Rattle.scope.specs.Geometry.{Accepted, blocks};
-ghost use Rattle.scope.specs.Lent.{chip-size, spare-size, directory-size};
+ghost use Rattle.scope.specs.Lent.{chip-size, spare-size, directory-size, State, with-flash, with-directory, with-cache};
 ghost use Rattle.scope.specs.Laws.Decides.{Decides};
 ghost use Rattle.scope.specs.Regions.{Data};
 ghost use Rattle.scope.specs.Sound.{Directory-names};
 ghost use Rattle.flash.specs.Words.{Lengths-fit};
 ghost use Rattle.flash.specs.Owners.{Owners-fit, valid-in};
-ghost use Rattle.lent.specs.Model.{geometry, state, small};
+ghost use Rattle.lent.specs.Model.{geometry, with-rec, small};
 ghost use Rattle.words.specs.Census.{Census};
 ghost use Rattle.words.specs.Filter.{Filter};
 ghost use Rattle.survey.specs.Survey.{Surveyed};
@@ -90,8 +90,8 @@ fn cache_sound(
     unchanged_agree(g, chip, directory, cache, used)
 }
 
-// Whether the state is sound, for any words in the slices and any numbers in the record. Where it is, the census is taken
-// and the filter has the cached pages.
+// Whether a state is sound, for any words in the slices, any numbers in the record and whatever else it holds. Where it is, the census
+// is taken and the filter has the cached pages.
 pub fn is_sound(
     g: Geometry,
     chip: &[u32],
@@ -105,8 +105,8 @@ pub fn is_sound(
     requires { ⌜ Accepted (geometry g) ⌝ }
     requires { ⌜ Lengths-fit (geometry g) (now chip) (now spare) (now directory) (now cache) ⌝ }
     requires { ⌜ blocks (geometry g) ≤ length (now census) ⌝ }
-    ensures { λ r. ⌜ r ≡ sound (geometry g)
-        (state (now (chip .entry)) (now (spare .entry)) (now (directory .entry)) (now (cache .entry)) rec) ⌝ }
+    ensures { λ r. ⌜ ((s : State) → r ≡ sound (geometry g) (with-flash (now (chip .entry)) (now (spare .entry))
+        (with-directory (now (directory .entry)) (with-cache (now (cache .entry)) (with-rec rec s))))) ⌝ }
     ensures { λ r. ⌜ (r ≡ true → Census (geometry g) (now (spare .entry)) (now (census .exit))) ⌝ }
     ensures { λ r. ⌜ (r ≡ true → Filter (now (cache .entry)) (rec .used) (now (filter .exit))) ⌝ }
 {

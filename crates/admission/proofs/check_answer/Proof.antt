@@ -41,13 +41,13 @@ returns-2 : tie.Need-returns-2
 returns-2 c =
     let start = c .before .before .before .before .before .before .before .before .before .before .before in
     damaged (geometry (start .args .g)) (s start) (start .args .others) (passes (c .before .before .before .before .before))
-    (refused (c .before .before .is-sound .ensures .0) (c .if2 .taken))
+    (refused (c .before .before .is-sound .ensures .0 (s start)) (c .if2 .taken))
 
 returns-3 : tie.Need-returns-3
 returns-3 c =
     let start = c .before .before .before .before .before .before .before .before .before .before .before in
     undamaged (geometry (start .args .g)) (s start) (start .args .others) (passes (c .before .before .before .before .before))
-    (passed (c .before .before .is-sound .ensures .0) (c .if2 .left))
+    (passed (c .before .before .is-sound .ensures .0 (s start)) (c .if2 .left))
 
 pub check-answer-spec : {M : Type 1} → statement M
 check-answer-spec = tie.close (tie.spec size-answer-requires returns slice-aggregate-is-sound is-sound-requires returns-2 returns-3)

@@ -43,7 +43,7 @@ returns-2 : tie.Need-returns-2
 returns-2 c =
     let start = c .before .before .before .before .before .before .before .before .before .before .before .before .before in (
       damaged (geometry (start .args .g)) (s start) (start .args .others) (passes (c .before .before .before .before .before .before))
-          (refused (c .before .before .before .is-sound .ensures .0) (c .if2 .taken)),
+          (refused (c .before .before .before .is-sound .ensures .0 (s start)) (c .if2 .taken)),
       λ e. absurd (omega arith),
     )
 
@@ -56,7 +56,7 @@ returns-3 c =
     let checked = c .before .before .before .is-sound in
     let is = not-false _ (c .if2 .left) in (
       undamaged (geometry (start .args .g)) (s start) (start .args .others) (passes (c .before .before .before .before .before .before))
-          (passed (checked .ensures .0) (c .if2 .left)),
+          (passed (checked .ensures .0 (s start)) (c .if2 .left)),
       λ _. record { counted = checked .ensures .1 .0 is; filtered = checked .ensures .1 .1 is },
     )
 

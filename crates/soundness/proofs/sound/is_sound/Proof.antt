@@ -24,7 +24,7 @@ returns : tie.Need-returns
 returns c =
     let a = c .before .before .before .before .before .before .before .before .before .before .before .args in
     let g = geometry (a .g) in (
-      decided-same
+      λ s. decided-same
           (part-refused (c .before .before .before .before .flash-sound .ensures .tells) (c .if1 .taken) (flash-of-sound g _))
           (sound-decided g _),
       (λ p. clash p refl, λ p. clash p refl),
@@ -55,7 +55,7 @@ returns-2 c =
     let g = geometry (a .g) in
     let flash = c .before .before .before .before .before .before .flash-sound .ensures in
     let flash-left = c .before .before .if1 .left in (
-      decided-same
+      λ s. decided-same
           (by-same (sound-of-both g _ (part-passed (flash .tells) flash-left)) (cache-of-sound g _) (c .cache-sound .ensures .0))
           (sound-decided g _),
       (λ p. flash .numbers (not-false _ flash-left), c .cache-sound .ensures .1),
