@@ -10,14 +10,13 @@ use lib.Dec.{eqb, leb}
 use lib.ListN.{length, getD, length-map}
 use borrow.Author.Tests.{eqb-true, eq-eqb, ne-eqb, leb-true}
 use Rattle.flash.specs.Cases.{same?, and-true}
-use Rattle.flash.specs.Words.{Lengths}
 use Rattle.lent.specs.declared.Record.{Record}
 use Rattle.lent.specs.Model.{counts, Lists, together}
 use Rattle.lent.specs.Does.{Does}
+use Rattle.lent.specs.Ready.{Ready}
 use Rattle.lent.specs.DoesLaws.{does-give, does-bind, does-ends, does-value}
 use Rattle.scope.specs.Geometry.{Geometry}
 use Rattle.scope.specs.Lent.{State, Request, most-requests}
-use Rattle.scope.specs.Sound.{Sound}
 use Rattle.scope.specs.Operations.{Counts, no-counts, give, _>>=_}
 use Rattle.scope.specs.Replies.{DONE, first-applying, right-sizes}
 use Rattle.scope.specs.Boundary.{counts-words}
@@ -29,8 +28,8 @@ use Rattle.running.specs.declared.Running.{Running}
 use Rattle.scope.specs.Contracts.{right-lengths, Answers}
 use Rattle.replies.specs.Answers.{does-answers, refuses, admits}
 use Rattle.replies.specs.Sizes.{run-right, with-run}
-use Rattle.admission.specs.Tested.{state-passes, geometry-passes, lengths-pass, soundness-passes}
-use Rattle.admission.specs.Room.{most-cost}
+use Rattle.admission.specs.Tested.{state-passes, state-ready}
+use Rattle.admission.specs.Room.{most-cost, room-at-first}
 use Rattle.running.specs.Ends.{Begun, Finished}
 use Rattle.words.specs.Noted.{Noted}
 use Rattle.running.specs.Asks.{Asks, asks-less, asks-again}
@@ -91,22 +90,13 @@ begun-admits {g} {boundary} {n} {counted} {s} {s′} {words} {answers} {census} 
     let right = run-right g n (length words) (length answers) others in
     let pass = state-passes g s right
     (sym e ∙ begun .tested ∙ ap (λ (b : Bool). first-applying (state-tests g b s)) (with-run g s n (length words) (length answers) others)) in
-    let sizes = pass .sizes-passed in
-    let few = and-true (leb n most-requests) _ (and-true (right-sizes (state-sizes g s)) right (sizes .sized) .1) in
+    let few = and-true (leb n most-requests) _ (and-true (right-sizes (state-sizes g s)) right (pass .sizes-passed .sized) .1) in
     let long = and-true (eqb (length words) (n * g .W)) _ (few .1) in
     let at-most = leb-true n most-requests (few .0) in
     record {
       asks = record {
-        ready = record {
-          accepted = geometry-passes g s right sizes;
-          lengths = subst (Lengths g) (sym (begun .kept)) (lengths-pass g s right sizes);
-          sound = subst (Sound g) (sym (begun .kept)) (soundness-passes g s right pass);
-          countable = record {
-            reads = omega (arith, at-most, ap (λ (c : Counts). c .reads) (begun .uncounted));
-            programs = omega (arith, at-most, ap (λ (c : Counts). c .programs) (begun .uncounted));
-            erases = omega (arith, at-most, ap (λ (c : Counts). c .erases) (begun .uncounted));
-          };
-        };
+        ready = subst (λ (x : State). Ready g x (n * most-cost) (a .counts)) (sym (begun .kept))
+            (state-ready g s right pass (room-at-first (omega (arith, at-most)) (begun .uncounted)));
         noted = begun .noted e;
       };
       words-long = eqb-true (length words) (n * g .W) (long .0);
