@@ -1,6 +1,6 @@
 -- The parts of a run put together: the requests one after the other, that each can be served where the run was admitted, and that begin,
 -- the requests and finish are the call of the definitions. For whoever goes through the requests.
-use Prim.Native.Nat.{ℕ, zero, suc, _+_, _*_, _≤_, _<_}
+use Prim.Native.Nat.{ℕ, zero, suc, _+_, _*_, _<_}
 use mathlib.Core.Path.{_≡_, refl, sym, ap, subst, _∙_}
 use mathlib.Core.Bool.{Bool, true, false, cond, _&&_}
 use mathlib.Core.List.{List, [], _∷_, map}
@@ -17,7 +17,7 @@ use Rattle.lent.specs.Ready.{Ready}
 use Rattle.lent.specs.DoesLaws.{does-give, does-bind, does-ends, does-value}
 use Rattle.scope.specs.Geometry.{Geometry}
 use Rattle.scope.specs.Lent.{State, Request, most-requests}
-use Rattle.scope.specs.Operations.{Counts, no-counts, give, _>>=_}
+use Rattle.scope.specs.Operations.{Counts, give, _>>=_}
 use Rattle.scope.specs.Replies.{DONE, first-applying, right-sizes}
 use Rattle.scope.specs.Boundary.{counts-words}
 use Rattle.scope.specs.Calls.{state-sizes, state-tests, RunReplied, run-replied, no-request, serve-record, serve-records, run}

@@ -24,7 +24,7 @@ use types.SemTy.{cells, Arr, Body}
 use types.Tokens.{lft-new, lft-end}
 use denote.RattleType.{RattleType}
 use denote.Shadow.{shadow, pureL, pureI}
-use denote.Laws.{Rel, Is, Tells, shows}
+use denote.Laws.{Is, Tells, shows}
 use denote.Memory.{mem, cellAt, partOf}
 use denote.Plain.{UInt, uint-vals, uint-tells, uint-lawful}
 use denote.Array.{Array, each, arrayVal, array-vals, array-tells, array-lawful}

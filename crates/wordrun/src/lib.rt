@@ -16,7 +16,6 @@ use wording::requests::REQUEST_WORDS;
 use wording::requests::request_at;
 use wording::requests::whole_requests;
 ghost use Prim.Native.Nat.{_/_, _%_};
-ghost use mathlib.Core.Path.{_≡_};
 ghost use mathlib.Core.Bool.{_&&_};
 ghost use lib.Dec.{eqb};
 ghost use lib.ListN.{length};

@@ -1,6 +1,5 @@
 -- `entries::forget` meets its contract.
 use mathlib.Core.Path.{refl}
-use native.Mathlib.Omega.{arith}
 use borrow.Author.Needs.{needs}
 use Rattle.entries.specs.Entries.{forget-does}
 use Rattle.entries.proofs.forget.Statement.{statement}

@@ -7,7 +7,7 @@ use mathlib.Core.List.{List, [], _∷_}
 use lib.ListN.{set, replicate}
 use Rattle.scope.specs.Regions.{Data, Translation}
 use Rattle.scope.specs.SmallRecord.{words-from, with-open, with-used, open-block, next-offset}
-use Rattle.scope.specs.Lent.{none, valid, State, Request, with-flash, with-directory, with-cache, with-small}
+use Rattle.scope.specs.Lent.{none, valid, State, with-flash, with-directory, with-cache, with-small}
 use Rattle.scope.specs.Decisions.{pages-fit, owners-differ, blocks-fit, directory-names, entries-fit, places-hold, unchanged-agree, sound}
 use Rattle.scope.specs.Operations.{Outcome, counted}
 use Rattle.scope.specs.Replies.{DONE, UNWRITTEN, LENGTH, DAMAGED, KIND, PAGE}

@@ -1,7 +1,7 @@
 -- Sessions: lines as 01's program reads them, made as calls one after the other, and what they print. To unfold `computed` is to
 -- unfold every definition that a call computes with, so that a table names this one alone.
 use Prim.Native.Nat.{ℕ}
-use mathlib.Core.Bool.{Bool, true, cond}
+use mathlib.Core.Bool.{true, cond}
 use mathlib.Core.List.{List, [], _∷_}
 use lib.Dec.{eqb}
 use lib.ListN.{replicate, take}

@@ -1,7 +1,7 @@
 -- 01, "A session in full": its eight lines, the state afterwards and its six marked cases, as one table about the definitions.
 use Prim.Native.Nat.{ℕ}
 use mathlib.Core.Path.{_≡_, refl}
-use mathlib.Core.Bool.{Bool, true, false}
+use mathlib.Core.Bool.{true, false}
 use mathlib.Core.List.{List, [], _∷_}
 use Rattle.scope.specs.Geometry.{Geometry, accepted}
 use Rattle.scope.specs.SmallRecord.{words-from}

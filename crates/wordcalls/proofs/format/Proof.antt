@@ -1,7 +1,6 @@
 -- `wordcalls::format` meets its contract: the call by value, between the record loaded and the record stored.
 use mathlib.Core.Bool.{Bool}
 use borrow.Author.Needs.{needs}
-use denote.Ref.{now}
 use Rattle.lent.specs.Model.{geometry}
 use Rattle.scope.specs.Calls.{format}
 use Rattle.scope.specs.Boundary.{tf-format}
