@@ -107,6 +107,17 @@ static void timed_sweep(struct match *m)
     (void)all;
 }
 
+/* Where a node or an exchange lies in memory makes a few percent: each side has either in turn. */
+static void change_places(struct match *m)
+{
+    struct node node = m->node[OURS];
+    struct exchange *exchange = m->exchange[OURS];
+    m->node[OURS] = m->node[THEIRS];
+    m->exchange[OURS] = m->exchange[THEIRS];
+    m->node[THEIRS] = node;
+    m->exchange[THEIRS] = exchange;
+}
+
 /* Whoever begins changes from call to call and from round to round. */
 static void timed_round(struct match *m, size_t round)
 {
@@ -120,6 +131,8 @@ static void timed_round(struct match *m, size_t round)
     must_agree(m, reply);
     if (has_sweep(m->c))
         timed_sweep(m);
+    if (round % 2 == 1)
+        change_places(m);
 }
 
 static double nanoseconds(const struct match *m, enum side s)
