@@ -179,8 +179,8 @@ fn run_of_nones(words: &[u32], i: usize) -> Run
     }
 }
 
-// The counts with all of `words` more, whose owners are those from `from` on. The words of a full chip name pages, one after the other:
-// a run of them is counted by a loop of its own, which holds two numbers and takes one branch, and the compiler keeps all of it in registers.
+// The counts with all of `words` more, whose owners are those from `from` on. The words of a full chip name pages, one after the other: a run
+// of them is counted apart from those that name none, so that its loops hold little and the compiler keeps all of it in registers.
 pub fn tally_words(
     t: Tally,
     words: &[u32],
