@@ -2,7 +2,7 @@
 -- returned, and the counts go to a slice of three result words, written whenever it has three, tested by LENGTH". Each is the call
 -- of Calls.antt with these lengths tested too and words turned into numbers and back.
 use Prim.Native.Nat.{ℕ, _%_}
-use mathlib.Core.Bool.{Bool, cond, _&&_}
+use mathlib.Core.Bool.{cond}
 use mathlib.Core.List.{List, [], _∷_}
 use lib.Dec.{eqb}
 use lib.ListN.{length}
@@ -11,6 +11,7 @@ use Rattle.scope.specs.Geometry.{Geometry}
 use Rattle.scope.specs.SmallRecord.{record-words, record-of, words-from}
 use Rattle.scope.specs.Lent.{State, Request}
 use Rattle.scope.specs.Operations.{Step, Outcome, Counts, counted}
+use Rattle.scope.specs.Replies.{Size}
 use Rattle.scope.specs.Requests.{Replied}
 use Rattle.scope.specs.Calls.{RunReplied, format, check, read, write, run}
 
@@ -23,6 +24,10 @@ requests-of (k ∷ p ∷ words) = record { kind = k; page = p } ∷ requests-of 
 -- "A slice of three result words."
 abbrev pub counts-words : ℕ
 counts-words = 3
+
+-- The sizes of what every call lends beside the state's lists: a small record of so many words, and a counts' slice.
+abbrev pub call-sizes : ℕ → ℕ → List Size
+call-sizes small counts = record { has = small; should = record-words } ∷ record { has = counts; should = counts-words } ∷ []
 
 abbrev pub words-of-counts : Counts → List ℕ
 words-of-counts c = c .reads ∷ c .programs ∷ c .erases ∷ []
@@ -56,8 +61,9 @@ to-words w o =
       counts = put-counts (w .counts) (counted (o .did));
     }
 
-abbrev pub right-words : Words → Bool
-right-words w = eqb (length (w .small)) record-words && eqb (length (w .counts)) counts-words
+-- The sizes that every call of C tests beside the state's: "the small record is five words", the counts' slice "three".
+abbrev pub word-sizes : Words → List Size
+word-sizes w = call-sizes (length (w .small)) (length (w .counts))
 
 -- A call's answer in words, with what else it lends.
 pub record InWords (A : Type 0) : Type 0 where
@@ -68,18 +74,18 @@ unfoldable pub in-words : {A : Type 0} → Words → Step A → InWords A
 in-words w call = let o = call (from-words w) in record { answer = o .value; lent = to-words w o }
 
 unfoldable pub tf-format : Geometry → Words → InWords ℕ
-tf-format g w = in-words w (format g (right-words w))
+tf-format g w = in-words w (format g (word-sizes w))
 
 unfoldable pub tf-check : Geometry → Words → InWords ℕ
-tf-check g w = in-words w (check g (right-words w))
+tf-check g w = in-words w (check g (word-sizes w))
 
 unfoldable pub tf-read : Geometry → ℕ → Words → List ℕ → InWords Replied
-tf-read g l w buffer = in-words w (read g (right-words w) l buffer)
+tf-read g l w buffer = in-words w (read g (word-sizes w) l buffer)
 
 unfoldable pub tf-write : Geometry → ℕ → Words → List ℕ → InWords Replied
-tf-write g l w buffer = in-words w (write g (right-words w) l buffer)
+tf-write g l w buffer = in-words w (write g (word-sizes w) l buffer)
 
 -- "A request two", so an odd number of words is LENGTH.
 unfoldable pub tf-run : Geometry → Words → List ℕ → List ℕ → List ℕ → InWords RunReplied
 tf-run g w requests words answers =
-    in-words w (run g (right-words w && eqb (length requests % 2) 0) (requests-of requests) words answers)
+    in-words w (run g (record { has = length requests % 2; should = 0 } ∷ word-sizes w) (requests-of requests) words answers)

@@ -1,5 +1,6 @@
 -- The five public calls as total functions: for any geometry numbers, page number and lists, the reply, the operations, whose
--- counts are the answer's, and every lent list after. `boundary` says whether the lengths that only C lends are right (Boundary.antt).
+-- counts are the answer's, and every lent list after. `others` are the sizes of what a call lends beside the state and its buffers, which
+-- LENGTH tests with theirs: the small record's and the counts' (Boundary.antt).
 use Prim.Native.Nat.{ℕ, zero, suc, _*_}
 use mathlib.Core.Bool.{Bool, not, cond, _&&_}
 use mathlib.Core.List.{List, [], _∷_, _++_}
@@ -60,29 +61,29 @@ abbrev pub write-of : ℕ → Request
 write-of l = record { kind = 1; page = l }
 
 -- Those of a single request: the state's, and then its own.
-abbrev pub single-tests : Geometry → Bool → Request → List ℕ → State → List Test
-single-tests g boundary q buffer s =
-    state-tests g (right-sizes (state-sizes g s ++ buffer-sizes g buffer) && boundary) s ++ request-tests g (s .small) q
+abbrev pub single-tests : Geometry → List Size → Request → List ℕ → State → List Test
+single-tests g others q buffer s =
+    state-tests g (right-sizes (state-sizes g s ++ buffer-sizes g buffer ++ others)) s ++ request-tests g (s .small) q
 
-unfoldable pub format : Geometry → Bool → Step ℕ
-format g boundary = do
-  sizes ← look (λ s. right-sizes (state-sizes g s) && boundary)
+unfoldable pub format : Geometry → List Size → Step ℕ
+format g others = do
+  sizes ← look (λ s. right-sizes (state-sizes g s ++ others))
   admit (size-tests g sizes) (λ n. n) (format-steps g)
 
 -- "Check: DONE if sound, counts 0, 0, 0, nothing changed."
-unfoldable pub check : Geometry → Bool → Step ℕ
-check g boundary = do
-  tests ← look (λ s. state-tests g (right-sizes (state-sizes g s) && boundary) s)
+unfoldable pub check : Geometry → List Size → Step ℕ
+check g others = do
+  tests ← look (λ s. state-tests g (right-sizes (state-sizes g s ++ others)) s)
   admit tests (λ n. n) (give DONE)
 
-unfoldable pub read : Geometry → Bool → ℕ → List ℕ → Step Replied
-read g boundary l buffer = do
-  tests ← look (λ s. single-tests g boundary (read-of l) buffer s)
+unfoldable pub read : Geometry → List Size → ℕ → List ℕ → Step Replied
+read g others l buffer = do
+  tests ← look (λ s. single-tests g others (read-of l) buffer s)
   admit tests (replied buffer) (read-steps g l buffer)
 
-unfoldable pub write : Geometry → Bool → ℕ → List ℕ → Step Replied
-write g boundary l buffer = do
-  tests ← look (λ s. single-tests g boundary (write-of l) buffer s)
+unfoldable pub write : Geometry → List Size → ℕ → List ℕ → Step Replied
+write g others l buffer = do
+  tests ← look (λ s. single-tests g others (write-of l) buffer s)
   admit tests (replied buffer) (write-steps g l buffer)
 
 -- What a run has lent beside the state: its data buffer and its answers.
@@ -126,8 +127,8 @@ serve-records g requests (suc n) lent = do
 
 -- "A run tests 2, 3, 4 once"; LENGTH too where it "has over 1,024 records". "The run itself answers DONE with the sums of its
 -- records' counts; an empty run changes nothing."
-unfoldable pub run : Geometry → Bool → List Request → List ℕ → List ℕ → Step RunReplied
-run g boundary requests words answers = do
+unfoldable pub run : Geometry → List Size → List Request → List ℕ → List ℕ → Step RunReplied
+run g others requests words answers = do
   tests ← look (λ s. state-tests g
-      (right-sizes (state-sizes g s ++ run-sizes g requests words answers) && leb (length requests) most-requests && boundary) s)
+      (right-sizes (state-sizes g s ++ run-sizes g requests words answers ++ others) && leb (length requests) most-requests) s)
   admit tests (run-replied words answers) (serve-records g requests (length requests) (run-replied words answers DONE))

@@ -3,17 +3,10 @@
 -- lists, one for the calls in words. And "any two outcomes allowed by it are equal".
 use Prim.Native.Nat.{ℕ}
 use mathlib.Core.Path.{_≡_, sym, _∙_}
-use mathlib.Core.Bool.{Bool, _&&_}
 use mathlib.Core.List.{List}
-use lib.Dec.{eqb}
-use lib.ListN.{length}
 use Rattle.scope.specs.Lent.{State}
 use Rattle.scope.specs.Operations.{Outcome, counted}
-use Rattle.scope.specs.Boundary.{counts-words, put-counts, Words, InWords}
-
--- Whether the lengths are right that no state has: the caller's own, and that of the counts.
-abbrev pub right-lengths : Bool → List ℕ → Bool
-right-lengths boundary counts = boundary && eqb (length counts) counts-words
+use Rattle.scope.specs.Boundary.{put-counts, Words, InWords}
 
 -- A call whose definition gives the outcome o answered x and left the state s′; the slice `counts` holds counts′ after it.
 pub record Answers {A : Type 0} (o : Outcome A) (counts : List ℕ) (x : A) (s′ : State) (counts′ : List ℕ) : Type 0 where

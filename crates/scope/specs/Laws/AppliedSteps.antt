@@ -1,7 +1,6 @@
 -- Every step of 01 and every call: chip and spare after are its operations applied in their order (Applied.antt). Each law has the
 -- shape of its definition.
 use Prim.Native.Nat.{ℕ, zero, suc}
-use mathlib.Core.Bool.{Bool}
 use mathlib.Core.List.{List, [], _∷_}
 use lib.Dec.{ltb, eqb, leb}
 use Rattle.scope.specs.Geometry.{Geometry}
@@ -11,7 +10,7 @@ use Rattle.scope.specs.Operations.{Read, Program, Mark, Erase, Step}
 use Rattle.scope.specs.Room.{Following, read-page, program-next, move-page, move-if-valid, move-pages, open-lowest, collect, open-or-collect, make-room}
 use Rattle.scope.specs.Cache.{touch, enter, forget, set-entry}
 use Rattle.scope.specs.Steps.{directory-names-it, directory-follows, begun, mark-old, update, of-page, update-touched, cache-or-wait, update-all, cache-follows, write-back, drop-entry, drop-if-full, word-for, fetch, translate}
-use Rattle.scope.specs.Replies.{DONE, Test, first-applying, admit}
+use Rattle.scope.specs.Replies.{DONE, Test, Size, first-applying, admit}
 use Rattle.scope.specs.Requests.{read-place, read-steps, write-steps, format-steps}
 use Rattle.scope.specs.Calls.{RunReplied, format, check, read, write, serve, answer-record, serve-record, serve-records, run}
 use Rattle.scope.specs.Laws.Applied.{Applied, Applied-following, applied-bind, applied-give, applied-look, applied-perform, applied-set-directory, applied-set-cache, applied-set-small, applied-cond, applied-for}
@@ -199,21 +198,21 @@ module _ {g : Geometry} where
   admit-applied tests refused a =
       applied-cond (eqb (first-applying tests) DONE) a (applied-give (refused (first-applying tests)))
 
-  pub format-applied : (boundary : Bool) → Applied g (format g boundary)
+  pub format-applied : (others : List Size) → Applied g (format g others)
   unfolding format
-  format-applied boundary = applied-bind (applied-look _) (λ sizes. admit-applied _ _ format-steps-applied)
+  format-applied others = applied-bind (applied-look _) (λ sizes. admit-applied _ _ format-steps-applied)
 
-  pub check-applied : (boundary : Bool) → Applied g (check g boundary)
+  pub check-applied : (others : List Size) → Applied g (check g others)
   unfolding check
-  check-applied boundary = applied-bind (applied-look _) (λ tests. admit-applied _ _ (applied-give _))
+  check-applied others = applied-bind (applied-look _) (λ tests. admit-applied _ _ (applied-give _))
 
-  pub read-applied : (boundary : Bool) (l : ℕ) (buffer : List ℕ) → Applied g (read g boundary l buffer)
+  pub read-applied : (others : List Size) (l : ℕ) (buffer : List ℕ) → Applied g (read g others l buffer)
   unfolding read
-  read-applied boundary l buffer = applied-bind (applied-look _) (λ tests. admit-applied _ _ (read-steps-applied l buffer))
+  read-applied others l buffer = applied-bind (applied-look _) (λ tests. admit-applied _ _ (read-steps-applied l buffer))
 
-  pub write-applied : (boundary : Bool) (l : ℕ) (buffer : List ℕ) → Applied g (write g boundary l buffer)
+  pub write-applied : (others : List Size) (l : ℕ) (buffer : List ℕ) → Applied g (write g others l buffer)
   unfolding write
-  write-applied boundary l buffer = applied-bind (applied-look _) (λ tests. admit-applied _ _ (write-steps-applied l buffer))
+  write-applied others l buffer = applied-bind (applied-look _) (λ tests. admit-applied _ _ (write-steps-applied l buffer))
 
   serve-applied : (q : Request) (buffer : List ℕ) → Applied g (serve g q buffer)
   unfolding serve
@@ -230,8 +229,8 @@ module _ {g : Geometry} where
       applied-bind (serve-records-applied requests n lent) (λ lent′.
       applied-bind (answer-record-applied _ _) (λ r. applied-give _))
 
-  pub run-applied : (boundary : Bool) (requests : List Request) (words answers : List ℕ)
-      → Applied g (run g boundary requests words answers)
+  pub run-applied : (others : List Size) (requests : List Request) (words answers : List ℕ)
+      → Applied g (run g others requests words answers)
   unfolding run
-  run-applied boundary requests words answers =
+  run-applied others requests words answers =
       applied-bind (applied-look _) (λ tests. admit-applied _ _ (serve-records-applied requests _ _))

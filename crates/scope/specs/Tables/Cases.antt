@@ -61,7 +61,7 @@ pub record Broken-alone : Type 0 where
   pub rule-7 : true ∷ true ∷ true ∷ true ∷ true ∷ true ∷ false ∷ [] ≡ rules (with-cache (0 ∷ 1 ∷ 0 ∷ []) played)
   -- A used count past everything.
   pub any-used : false ≡ sound G (with-small (with-used 4294967295 (played .small)) played)
-  pub damaged : DAMAGED ≡ check G true (with-chip-word 8 5 played) .value
+  pub damaged : DAMAGED ≡ check G [] (with-chip-word 8 5 played) .value
 
 pub rules-are-told-apart : Broken-alone
 unfolding computed rules played fresh-state
@@ -125,11 +125,11 @@ pub record Runs-and-words : Type 0 where
   pub records-answer-alone :
       (DONE ∷ []) ∷ (DONE ∷ DONE ∷ KIND ∷ PAGE ∷ UNWRITTEN ∷ [])
       ∷ (5 ∷ 6 ∷ 5 ∷ 6 ∷ 9 ∷ 9 ∷ 9 ∷ 9 ∷ 9 ∷ 9 ∷ []) ∷ (1 ∷ 2 ∷ 0 ∷ []) ∷ []
-      ≡ told-of-run (run G true (requests-of requests) (5 ∷ 6 ∷ replicate 8 9) (replicate 5 7) fresh-state)
-  pub empty-run : (DONE ∷ []) ∷ [] ∷ [] ∷ (0 ∷ 0 ∷ 0 ∷ []) ∷ [] ≡ told-of-run (run G true [] [] [] fresh-state)
+      ≡ told-of-run (run G [] (requests-of requests) (5 ∷ 6 ∷ replicate 8 9) (replicate 5 7) fresh-state)
+  pub empty-run : (DONE ∷ []) ∷ [] ∷ [] ∷ (0 ∷ 0 ∷ 0 ∷ []) ∷ [] ≡ told-of-run (run G [] [] [] [] fresh-state)
   pub too-many : LENGTH
-      ≡ run G true (replicate 1025 (record { kind = 0; page = 0 })) (replicate 2050 9) (replicate 1025 7) fresh-state .value .reply
-  pub short-buffer : LENGTH ≡ read G true 0 (9 ∷ []) fresh-state .value .reply
+      ≡ run G [] (replicate 1025 (record { kind = 0; page = 0 })) (replicate 2050 9) (replicate 1025 7) fresh-state .value .reply
+  pub short-buffer : LENGTH ≡ read G [] 0 (9 ∷ []) fresh-state .value .reply
   -- In words: an odd number of request words is LENGTH, and the counts are written all the same.
   pub odd-words : (LENGTH ∷ []) ∷ (7 ∷ []) ∷ (5 ∷ 6 ∷ []) ∷ (0 ∷ 0 ∷ 3 ∷ 0 ∷ 0 ∷ []) ∷ (0 ∷ 0 ∷ 0 ∷ []) ∷ []
       ≡ told-of-run-in-words (tf-run G (in-C (8 ∷ 8 ∷ 8 ∷ [])) (1 ∷ 0 ∷ 0 ∷ []) (5 ∷ 6 ∷ []) (7 ∷ []))

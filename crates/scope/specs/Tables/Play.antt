@@ -1,7 +1,7 @@
 -- Sessions: lines as 01's program reads them, made as calls one after the other, and what they print. To unfold `computed` is to
 -- unfold every definition that a call computes with, so that a table names this one alone.
 use Prim.Native.Nat.{ℕ}
-use mathlib.Core.Bool.{true, cond}
+use mathlib.Core.Bool.{cond}
 use mathlib.Core.List.{List, [], _∷_}
 use lib.Dec.{eqb}
 use lib.ListN.{replicate, take}
@@ -35,11 +35,11 @@ unformatted g =
     }
 
 unfoldable pub formatted : Geometry → State
-formatted g = format g true (unformatted g) .after
+formatted g = format g [] (unformatted g) .after
 
 unfoldable pub made : Geometry → Line → State → Outcome Replied
-made g (W l value) = write g true l (replicate (g .W) value)
-made g (R l) = read g true l (replicate (g .W) 0)
+made g (W l value) = write g [] l (replicate (g .W) value)
+made g (R l) = read g [] l (replicate (g .W) 0)
 
 -- "Prints answer, three counts and, for a DONE read, the first word."
 unfoldable pub first-word : Line → Replied → List ℕ
