@@ -6,7 +6,7 @@ use native.Mathlib.Nat.{mul-le-mul}
 use Rattle.scope.specs.Geometry.{Geometry, Accepted}
 use Rattle.scope.specs.Lent.{most-requests}
 use Rattle.scope.specs.Operations.{no-counts}
-use Rattle.promises.specs.Demands.{read-bound, write-bound}
+use Rattle.promises.specs.Bounds.{read-bound, write-bound}
 use Rattle.lent.specs.declared.Counts.{Counts as Counted}
 use Rattle.lent.specs.Model.{counts}
 use Rattle.lent.specs.Shapes.{Room-to-count, told}

@@ -3,7 +3,7 @@
 use Prim.Native.Nat.{ℕ, _≤_, _<_}
 use mathlib.Core.Path.{_≡_}
 use mathlib.Core.Logic.{_≢_, _↔_, _⊎_}
-use mathlib.Core.Bool.{Bool, true, false, cond}
+use mathlib.Core.Bool.{cond}
 use mathlib.Core.List.{List, [], _∷_, _++_}
 use lib.Dec.{eqb}
 use lib.ListN.{length}
@@ -12,7 +12,8 @@ use Rattle.scope.specs.SmallRecord.{SmallRecord}
 use Rattle.scope.specs.Lent.{State, Request, most-requests}
 use Rattle.scope.specs.Sound.{Sound}
 use Rattle.scope.specs.Replies.{GEOMETRY, LENGTH, DAMAGED, KIND, PAGE, Size}
-use Rattle.scope.specs.Calls.{state-sizes, buffer-sizes, run-sizes, kinds}
+use Rattle.scope.specs.Calls.{state-sizes, buffer-sizes, run-sizes, kinds, read-of, write-of}
+use Rattle.promises.specs.Call.{Call, Format, Check, Read-page, Write-page, Run}
 
 -- A number that refuses: neither DONE nor UNWRITTEN.
 abbrev pub Refusal : ℕ → Type 0
@@ -34,6 +35,11 @@ Given-for (row ∷ rows) n = cond (eqb (row .number) n) (row .Holds) (row .Passe
 abbrev pub Refuses : ℕ → List Ground → Type 0
 Refuses reply rows = (n : ℕ) → Refusal n → (reply ≡ n) ↔ Given-for rows n
 
+-- Every test is passed.
+abbrev pub All-passed : List Ground → Type 0
+All-passed [] = Unit {0}
+All-passed (row ∷ rows) = row .Passes × All-passed rows
+
 -- ---- the rows
 
 -- Every size is the one that it should be; some size isn't.
@@ -41,25 +47,9 @@ abbrev pub Right : List Size → Type 0
 Right [] = Unit {0}
 Right (z ∷ zs) = (z .has ≡ z .should) × Right zs
 
--- Two lists of sizes.
-pub right-both : (zs ys : List Size) → Right zs → Right ys → Right (zs ++ ys)
-right-both [] ys a b = b
-right-both (z ∷ zs) ys a b = (a .0, right-both zs ys (a .1) b)
-
-pub right-behind : (zs ys : List Size) → Right (zs ++ ys) → Right ys
-right-behind [] ys a = a
-right-behind (z ∷ zs) ys a = right-behind zs ys (a .1)
-
 abbrev pub Wrong : List Size → Type 0
 Wrong [] = ⊥
 Wrong (z ∷ zs) = (z .has ≢ z .should) ⊎ Wrong zs
-
--- The lengths are right; some length is wrong. `boundary` stands for the lengths that only C lends.
-abbrev pub Fits : List Size → Bool → Type 0
-Fits sizes boundary = Right sizes × (boundary ≡ true)
-
-abbrev pub Misfits : List Size → Bool → Type 0
-Misfits sizes boundary = Wrong sizes ⊎ (boundary ≡ false)
 
 -- The geometry's and the lengths'; these and the state's; a request's.
 abbrev pub size-grounds : Geometry → (fits misfits : Type 0) → List Ground
@@ -82,22 +72,18 @@ request-grounds g small q =
 
 -- ---- the table of each call
 
-abbrev pub format-grounds : Geometry → Bool → State → List Ground
-format-grounds g boundary s = size-grounds g (Fits (state-sizes g s) boundary) (Misfits (state-sizes g s) boundary)
-
-abbrev pub check-grounds : Geometry → Bool → State → List Ground
-check-grounds g boundary s = state-grounds g s (Fits (state-sizes g s) boundary) (Misfits (state-sizes g s) boundary)
-
 -- A read or a write, as the request that it is.
-abbrev pub single-grounds : Geometry → Bool → Request → List ℕ → State → List Ground
-single-grounds g boundary q buffer s =
-    let sizes = state-sizes g s ++ buffer-sizes g buffer in
-    state-grounds g s (Fits sizes boundary) (Misfits sizes boundary) ++ request-grounds g (s .small) q
+abbrev pub single-grounds : Geometry → List Size → Request → List ℕ → State → List Ground
+single-grounds g others q buffer s =
+    let sizes = state-sizes g s ++ buffer-sizes g buffer ++ others in
+    state-grounds g s (Right sizes) (Wrong sizes) ++ request-grounds g (s .small) q
 
--- "LENGTH: .. or a run has over 1,024 records."
-abbrev pub run-grounds : Geometry → Bool → List Request → List ℕ → List ℕ → State → List Ground
-run-grounds g boundary requests words answers s =
-    let sizes = state-sizes g s ++ run-sizes g requests words answers in
-    state-grounds g s
-    ((Right sizes × (length requests ≤ most-requests)) × (boundary ≡ true))
-    ((Wrong sizes ⊎ (most-requests < length requests)) ⊎ (boundary ≡ false))
+-- "LENGTH: some slice differs from the sizes above, or a run has over 1,024 records."
+abbrev pub grounds : Geometry → Call → State → List Ground
+grounds g (Format others) s = size-grounds g (Right (state-sizes g s ++ others)) (Wrong (state-sizes g s ++ others))
+grounds g (Check others) s = state-grounds g s (Right (state-sizes g s ++ others)) (Wrong (state-sizes g s ++ others))
+grounds g (Read-page others l buffer) s = single-grounds g others (read-of l) buffer s
+grounds g (Write-page others l buffer) s = single-grounds g others (write-of l) buffer s
+grounds g (Run others requests words answers) s =
+    let sizes = state-sizes g s ++ run-sizes g requests words answers ++ others in
+    state-grounds g s (Right sizes × (length requests ≤ most-requests)) (Wrong sizes ⊎ (most-requests < length requests))

@@ -17,13 +17,27 @@ use Rattle.scope.specs.Sound.{Sound}
 use Rattle.scope.specs.Decisions.{sound}
 use Rattle.scope.specs.Replies.{DONE, UNWRITTEN, GEOMETRY, LENGTH, DAMAGED, KIND, PAGE, Size, first-applying, right-sizes}
 use Rattle.scope.specs.Calls.{state-sizes, buffer-sizes, run-sizes, kinds, request-tests, read-of}
-use Rattle.scope.specs.Laws.Decides.{Decides, by-equal, by-and, by-not, by-most, by-itself}
+use Rattle.scope.specs.Laws.Decides.{Decides, by-equal, by-and, by-not, by-most}
 use Rattle.scope.specs.Laws.Decided.{accepted-decided, sound-decided}
-use Rattle.promises.specs.Grounds.{Right, right-behind, Wrong, Fits, Misfits, size-grounds, state-ground, state-grounds, request-grounds, format-grounds, check-grounds, single-grounds, run-grounds}
-use Rattle.promises.specs.Tests.{Decided, All-decided, decided-then, All-passed, done-exactly}
-use Rattle.promises.specs.Demands.{Below-limit}
+use Rattle.promises.specs.Call.{Format, Check, Run}
+use Rattle.promises.specs.Grounds.{Right, Wrong, All-passed, size-grounds, state-ground, state-grounds, request-grounds, single-grounds, grounds}
+use Rattle.promises.specs.Tests.{Decided, All-decided, decided-then, done-exactly}
+use Rattle.promises.specs.Bounds.{Below-limit}
 
 -- ---- the lengths, as propositions
+
+-- Two lists of sizes.
+pub right-both : (zs ys : List Size) → Right zs → Right ys → Right (zs ++ ys)
+right-both [] ys a b = b
+right-both (z ∷ zs) ys a b = (a .0, right-both zs ys (a .1) b)
+
+pub right-behind : (zs ys : List Size) → Right (zs ++ ys) → Right ys
+right-behind [] ys a = a
+right-behind (z ∷ zs) ys a = right-behind zs ys (a .1)
+
+pub right-before : (zs ys : List Size) → Right (zs ++ ys) → Right zs
+right-before [] ys a = tt
+right-before (z ∷ zs) ys a = (a .0, right-before zs ys (a .1))
 
 pub right-decided : (zs : List Size) → Decides (right-sizes zs) (Right zs)
 unfolding right-sizes
@@ -54,9 +68,6 @@ above-decided a b =
       holds = λ h. leb-false a b (not-true (leb a b) h);
       passes = λ h. not-of-false (lt-leb a b h);
     }
-
-pub by-false : (b : Bool) → Decides (not b) (b ≡ false)
-by-false b = record { holds = not-true b; passes = λ e. not-of-false e }
 
 -- ---- the rows
 
@@ -91,39 +102,30 @@ request-decided g small q = (given-from KIND kinds (q .kind), (given-from PAGE (
 
 -- ---- the table of each call
 
-pub fits-decided : (zs : List Size) (boundary : Bool) → Decides (right-sizes zs && boundary) (Fits zs boundary)
-fits-decided zs boundary = by-and (right-decided zs) (by-itself boundary)
+abbrev pub format-decided : (g : Geometry) (others : List Size) (s : State) → All-decided (grounds g (Format others) s)
+format-decided g others s =
+    let sizes = state-sizes g s ++ others in size-decided g (right-sizes sizes) (right-decided sizes) (wrong-decided sizes)
 
-pub misfits-decided : (zs : List Size) (boundary : Bool) → Decides (not (right-sizes zs && boundary)) (Misfits zs boundary)
-misfits-decided zs boundary = by-either (right-sizes zs) boundary (wrong-decided zs) (by-false boundary)
+abbrev pub check-decided : (g : Geometry) (others : List Size) (s : State) → All-decided (grounds g (Check others) s)
+check-decided g others s =
+    let sizes = state-sizes g s ++ others in state-decided g s (right-sizes sizes) (right-decided sizes) (wrong-decided sizes)
 
-abbrev pub format-decided : (g : Geometry) (boundary : Bool) (s : State) → All-decided (format-grounds g boundary s)
-format-decided g boundary s =
-    let sizes = state-sizes g s in
-    size-decided g (right-sizes sizes && boundary) (fits-decided sizes boundary) (misfits-decided sizes boundary)
-
-abbrev pub check-decided : (g : Geometry) (boundary : Bool) (s : State) → All-decided (check-grounds g boundary s)
-check-decided g boundary s =
-    let sizes = state-sizes g s in
-    state-decided g s (right-sizes sizes && boundary) (fits-decided sizes boundary) (misfits-decided sizes boundary)
-
-abbrev pub single-decided : (g : Geometry) (boundary : Bool) (q : Request) (buffer : List ℕ) (s : State)
-    → All-decided (single-grounds g boundary q buffer s)
-single-decided g boundary q buffer s =
-    let sizes = state-sizes g s ++ buffer-sizes g buffer in
-    decided-then (state-grounds g s (Fits sizes boundary) (Misfits sizes boundary)) (request-grounds g (s .small) q)
-    (state-decided g s (right-sizes sizes && boundary) (fits-decided sizes boundary) (misfits-decided sizes boundary))
+abbrev pub single-decided : (g : Geometry) (others : List Size) (q : Request) (buffer : List ℕ) (s : State)
+    → All-decided (single-grounds g others q buffer s)
+single-decided g others q buffer s =
+    let sizes = state-sizes g s ++ buffer-sizes g buffer ++ others in
+    decided-then (state-grounds g s (Right sizes) (Wrong sizes)) (request-grounds g (s .small) q)
+    (state-decided g s (right-sizes sizes) (right-decided sizes) (wrong-decided sizes))
     (request-decided g (s .small) q)
 
-abbrev pub run-decided : (g : Geometry) (boundary : Bool) (requests : List Request) (words answers : List ℕ) (s : State)
-    → All-decided (run-grounds g boundary requests words answers s)
-run-decided g boundary requests words answers s =
-    let sizes = state-sizes g s ++ run-sizes g requests words answers in
+abbrev pub run-decided : (g : Geometry) (others : List Size) (requests : List Request) (words answers : List ℕ) (s : State)
+    → All-decided (grounds g (Run others requests words answers) s)
+run-decided g others requests words answers s =
+    let sizes = state-sizes g s ++ run-sizes g requests words answers ++ others in
     let few = leb (length requests) most-requests in
-    state-decided g s (right-sizes sizes && few && boundary)
-    (by-and (by-and (right-decided sizes) (by-most (length requests) most-requests)) (by-itself boundary))
-    (by-either (right-sizes sizes && few) boundary
-    (by-either (right-sizes sizes) few (wrong-decided sizes) (above-decided (length requests) most-requests)) (by-false boundary))
+    state-decided g s (right-sizes sizes && few)
+    (by-and (right-decided sizes) (by-most (length requests) most-requests))
+    (by-either (right-sizes sizes) few (wrong-decided sizes) (above-decided (length requests) most-requests))
 
 -- ---- what it is to pass a table
 
@@ -149,14 +151,14 @@ module _ (g : Geometry) (small : SmallRecord) (q : Request) where
   pub page-passed : All-passed (request-grounds g small q) → q .page < g .L
   page-passed h = h .1 .0
 
-module _ (g : Geometry) (q : Request) (buffer : List ℕ) (s : State) where
-  pub single-passes : Accepted g → Right (state-sizes g s ++ buffer-sizes g buffer) → Sound g s
-      → All-passed (request-grounds g (s .small) q) → All-passed (single-grounds g true q buffer s)
-  single-passes ok right sound h = (ok, ((right, refl), (sound, h)))
+module _ (g : Geometry) (others : List Size) (q : Request) (buffer : List ℕ) (s : State) where
+  pub single-passes : Accepted g → Right (state-sizes g s ++ buffer-sizes g buffer ++ others) → Sound g s
+      → All-passed (request-grounds g (s .small) q) → All-passed (single-grounds g others q buffer s)
+  single-passes ok right holds h = (ok, (right, (holds, h)))
 
-  module _ {boundary : Bool} (h : All-passed (single-grounds g boundary q buffer s)) where
+  module _ (h : All-passed (single-grounds g others q buffer s)) where
     pub buffer-passed : length buffer ≡ g .W
-    buffer-passed = right-behind (state-sizes g s) (buffer-sizes g buffer) (h .1 .0 .0) .0
+    buffer-passed = right-behind (state-sizes g s) (buffer-sizes g buffer ++ others) (h .1 .0) .0
 
     pub own-passed : All-passed (request-grounds g (s .small) q)
     own-passed = h .1 .1 .1

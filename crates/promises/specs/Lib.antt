@@ -1,8 +1,9 @@
--- The demands, and their proofs from the laws of the steps up.
+-- What the demands are said with; crate contracts states them.
+pub mod Call
 pub mod Grounds
-pub mod Refused
+pub mod EachRecord
 pub mod Remembered
-pub mod Demands
+pub mod Bounds
 -- The steps.
 pub mod Index
 pub mod Stored
@@ -27,4 +28,4 @@ pub mod Demand1
 pub mod OneForEach
 pub mod Standing
 pub mod RunStands
-pub mod Sequences
+pub mod FromSound

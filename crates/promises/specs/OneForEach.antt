@@ -12,7 +12,7 @@ use Rattle.scope.specs.Regions.{Data, region-pages, Has-page}
 use Rattle.scope.specs.Sound.{Names, Written, current, Sound}
 use Rattle.flash.specs.Cases.{not-of-false}
 use Rattle.flash.specs.Counting.{count-into}
-use Rattle.promises.specs.Demands.{One-for-each}
+use Rattle.promises.specs.Bounds.{One-for-each}
 
 module _ {g : Geometry} {s : State} (sound : Sound g s) where
   -- The valid page of a written logical page is its current place.

@@ -17,8 +17,7 @@ use Rattle.flash.specs.SamePages.{same-refl}
 use Rattle.region.specs.Done.{done-none, done-read}
 use Rattle.cache.specs.Ranks.{Has-rank}
 use Rattle.cache.specs.Current.{stored-in, place-or, current-is}
-use Rattle.promises.specs.Remembered.{words-at, held}
-use Rattle.promises.specs.Demands.{Tells}
+use Rattle.promises.specs.Remembered.{words-at, held, Tells}
 use Rattle.promises.specs.Parts.{cache-of, cached, cache-holds}
 use Rattle.promises.specs.Keeping.{Kept, within, kept-then, kept-contents}
 use Rattle.promises.specs.HeldWords.{held-same}

@@ -1,7 +1,7 @@
 -- A run is its records in order: what a record stores of its own answer, and that the records after it leave its answer and its
 -- words as it left them. So what a run hands back is what its records answered.
 use Prim.Native.Nat.{ℕ, zero, suc, _+_, _*_, _≤_, _<_}
-use mathlib.Core.Path.{_≡_, refl, _∙_, ap}
+use mathlib.Core.Path.{_≡_, refl, _∙_, ap, ap₂}
 use mathlib.Core.Logic.{_≢_, _⊎_}
 use mathlib.Core.List.{List, [], _++_, append-assoc}
 use native.Mathlib.Omega.{arith}
@@ -12,20 +12,29 @@ use Rattle.scope.specs.Lent.{none, State, Request}
 use Rattle.scope.specs.Operations.{Outcome, give, _>>=_}
 use Rattle.scope.specs.Replies.{DONE, UNWRITTEN}
 use Rattle.scope.specs.Requests.{Replied}
-use Rattle.scope.specs.Calls.{RunReplied, part, no-request, answer-record, serve-record, serve-records}
+use Rattle.scope.specs.Calls.{RunReplied, run-replied, part, no-request, answer-record, serve-record, serve-records}
 use Rattle.flash.specs.Cases.{last, below?}
 use Rattle.flash.specs.Stores.{getD-sets-outside, slot-same}
 use Rattle.flash.specs.Words.{words-same}
-use Rattle.promises.specs.Refused.{before-record, own}
+use Rattle.promises.specs.EachRecord.{before-record, record-outcome}
 use Rattle.promises.specs.Serve.{serve-hands-back}
 use Rattle.promises.specs.Refusals.{record-by-grounds}
 
 -- ---- one record
 
+-- What is lent and the state once the first i records are served, and then record i's turn, as the definition of a run has them.
+abbrev pub so-far : Geometry → List Request → List ℕ → List ℕ → State → ℕ → Outcome RunReplied
+so-far g requests words answers s i = serve-records g requests i (run-replied words answers DONE) s
+
+abbrev pub one-more : Geometry → List Request → List ℕ → List ℕ → State → ℕ → Outcome RunReplied
+one-more g requests words answers s i =
+    let before = so-far g requests words answers s i in
+    serve-record g i (getD requests i no-request) (before .value) (before .after)
+
 -- Record i's own answer, from what is lent and the state before it.
 abbrev pub answer-of : Geometry → List Request → List ℕ → List ℕ → State → ℕ → Outcome Replied
 answer-of g requests words answers s i =
-    let before = before-record g requests words answers s i in
+    let before = so-far g requests words answers s i in
     answer-record g (getD requests i no-request) (part g i (before .value .words)) (before .after)
 
 -- A record stores its answer and the words of its buffer, and adds its operations.
@@ -99,46 +108,46 @@ part-here g i words buffer h k =
 
 module _ (g : Geometry) (requests : List Request) (words answers : List ℕ) (s : State) where
   -- What is lent and the state, once record n has answered.
-  next-record : (n : ℕ) → before-record g requests words answers s (suc n) .value ≡ own g requests words answers s n .value
+  next-record : (n : ℕ) → so-far g requests words answers s (suc n) .value ≡ one-more g requests words answers s n .value
   unfolding serve-records _>>=_
   next-record n = refl
 
-  own-stores : (n : ℕ) → Stored g n (before-record g requests words answers s n .value) (answer-of g requests words answers s n)
-      (own g requests words answers s n)
+  own-stores : (n : ℕ) → Stored g n (so-far g requests words answers s n .value) (answer-of g requests words answers s n)
+      (one-more g requests words answers s n)
   own-stores n =
-      let before = before-record g requests words answers s n in
+      let before = so-far g requests words answers s n in
       record-stores g n (getD requests n no-request) (before .value) (before .after)
 
   own-at-most : (n : ℕ) → length (answer-of g requests words answers s n .value .buffer) ≤ g .W
   own-at-most n =
-      let before = before-record g requests words answers s n in
+      let before = so-far g requests words answers s n in
       answer-at-most g (getD requests n no-request) (part g n (before .value .words)) (before .after)
       (part-at-most g n (before .value .words))
 
-  length-answers : (n : ℕ) → length (before-record g requests words answers s n .value .answers) ≡ length answers
+  pub length-answers : (n : ℕ) → length (so-far g requests words answers s n .value .answers) ≡ length answers
   unfolding serve-records give
   length-answers zero = refl
   length-answers (suc n) =
       ap (λ r. length (r .answers)) (next-record n) ∙ ap length (own-stores n .answers)
-      ∙ length-set (before-record g requests words answers s n .value .answers) n
+      ∙ length-set (so-far g requests words answers s n .value .answers) n
       (answer-of g requests words answers s n .value .reply)
       ∙ length-answers n
 
-  pub length-words : (n : ℕ) → length (before-record g requests words answers s n .value .words) ≡ length words
+  pub length-words : (n : ℕ) → length (so-far g requests words answers s n .value .words) ≡ length words
   unfolding serve-records give
   length-words zero = refl
   length-words (suc n) =
       ap (λ r. length (r .words)) (next-record n) ∙ ap length (own-stores n .words)
-      ∙ length-sets (before-record g requests words answers s n .value .words) (n * g .W)
+      ∙ length-sets (so-far g requests words answers s n .value .words) (n * g .W)
       (answer-of g requests words answers s n .value .buffer)
       ∙ length-words n
 
   -- A record's answer is the one that it gave.
   pub final-answer : (n i : ℕ) → i < n → n ≤ length answers
-      → getD (before-record g requests words answers s n .value .answers) i none ≡ answer-of g requests words answers s i .value .reply
+      → getD (so-far g requests words answers s n .value .answers) i none ≡ answer-of g requests words answers s i .value .reply
   final-answer zero i h k = absurd (omega arith)
   final-answer (suc n) i h k =
-      let lent = before-record g requests words answers s n .value in
+      let lent = so-far g requests words answers s n .value in
       let a = answer-of g requests words answers s n .value in
       ap (λ r. getD (r .answers) i none) (next-record n) ∙ ap (λ (l : List ℕ). getD l i none) (own-stores n .answers)
       ∙ last i n h
@@ -146,22 +155,22 @@ module _ (g : Geometry) (requests : List Request) (words answers : List ℕ) (s 
       (λ e. rw e (getD-set-same (lent .answers) n (a .reply) none (omega (arith, length-answers n))))
 
   -- A record's words are as lent until it answers, and then as it left them.
-  pub words-before : (n i : ℕ) → n ≤ i → part g i (before-record g requests words answers s n .value .words) ≡ part g i words
+  pub words-before : (n i : ℕ) → n ≤ i → part g i (so-far g requests words answers s n .value .words) ≡ part g i words
   unfolding serve-records give
   words-before zero i h = refl
   words-before (suc n) i h =
-      let lent = before-record g requests words answers s n .value in
+      let lent = so-far g requests words answers s n .value in
       let a = answer-of g requests words answers s n .value in
       ap (λ r. part g i (r .words)) (next-record n) ∙ ap (part g i) (own-stores n .words)
       ∙ part-elsewhere g i n (lent .words) (a .buffer) (omega arith) (own-at-most n)
       ∙ words-before n i (omega arith)
 
   pub final-words : (n i : ℕ) → i < n
-      → part g i (before-record g requests words answers s n .value .words) ≡ part g i
-      (own g requests words answers s i .value .words)
+      → part g i (so-far g requests words answers s n .value .words) ≡ part g i
+      (one-more g requests words answers s i .value .words)
   final-words zero i h = absurd (omega arith)
   final-words (suc n) i h =
-      let lent = before-record g requests words answers s n .value in
+      let lent = so-far g requests words answers s n .value in
       let a = answer-of g requests words answers s n .value in
       ap (λ r. part g i (r .words)) (next-record n)
       ∙ last i n h
@@ -173,9 +182,9 @@ module _ (g : Geometry) (requests : List Request) (words answers : List ℕ) (s 
 
   -- A record that keeps its words leaves the data buffer, and so has the words that were lent.
   pub own-keeps : (i : ℕ) → (answer-of g requests words answers s i .value .reply ≢ DONE) ⊎ (getD requests i no-request .kind ≢ 0)
-      → own g requests words answers s i .value .words ≡ before-record g requests words answers s i .value .words
+      → one-more g requests words answers s i .value .words ≡ so-far g requests words answers s i .value .words
   own-keeps i k =
-      let before = before-record g requests words answers s i in
+      let before = so-far g requests words answers s i in
       own-stores i .words
       ∙ ap (λ (buffer : List ℕ). sets (before .value .words) (i * g .W) buffer)
       (answer-keeps g (getD requests i no-request) (part g i (before .value .words)) (before .after) k)
@@ -183,5 +192,18 @@ module _ (g : Geometry) (requests : List Request) (words answers : List ℕ) (s 
 
   pub kept-words : (n i : ℕ) → i < n
       → (answer-of g requests words answers s i .value .reply ≢ DONE) ⊎ (getD requests i no-request .kind ≢ 0)
-      → part g i (before-record g requests words answers s n .value .words) ≡ part g i words
+      → part g i (so-far g requests words answers s n .value .words) ≡ part g i words
   kept-words n i h k = final-words n i h ∙ ap (part g i) (own-keeps i k) ∙ words-before i i (omega arith)
+
+  -- Record by record: the state is what the records before left, and the answer that of a request of its own on the words that were lent.
+  pub state-so-far : (n : ℕ) → so-far g requests words answers s n .after ≡ before-record g requests words s n
+  unfolding serve-records give _>>=_
+  state-so-far zero = refl
+  state-so-far (suc n) =
+      own-stores n .state
+      ∙ ap₂ (λ (buffer : List ℕ) (t : State). answer-record g (getD requests n no-request) buffer t .after)
+      (words-before n n (omega arith)) (state-so-far n)
+
+  pub answer-is-outcome : (n : ℕ) → answer-of g requests words answers s n ≡ record-outcome g requests words s n
+  answer-is-outcome n =
+      ap₂ (answer-record g (getD requests n no-request)) (words-before n n (omega arith)) (state-so-far n)

@@ -2,17 +2,17 @@
 -- pass, the steps of their requests.
 use Prim.Native.Nat.{ℕ, zero, suc}
 use mathlib.Core.Path.{_≡_, refl}
-use mathlib.Core.Bool.{Bool}
 use mathlib.Core.List.{List}
 use native.Mathlib.Omega.{arith}
 use lib.ListN.{length}
 use Rattle.scope.specs.Geometry.{Geometry}
 use Rattle.scope.specs.Lent.{State, Request}
 use Rattle.scope.specs.Operations.{give, look, _>>=_}
-use Rattle.scope.specs.Replies.{DONE}
+use Rattle.scope.specs.Replies.{DONE, Size}
 use Rattle.scope.specs.Requests.{replied, format-steps}
 use Rattle.scope.specs.Calls.{read-of, write-of, run-replied, serve, answer-record, serve-record, serve-records, format, check, read, write, run}
-use Rattle.promises.specs.Grounds.{request-grounds, format-grounds, check-grounds, single-grounds, run-grounds}
+use Rattle.promises.specs.Call.{Format, Check, Run}
+use Rattle.promises.specs.Grounds.{request-grounds, single-grounds, grounds}
 use Rattle.promises.specs.Serve.{serve-hands-back}
 use Rattle.promises.specs.Tests.{By-grounds, by-grounds}
 use Rattle.promises.specs.GroundsDecided.{request-decided, format-decided, check-decided, single-decided, run-decided}
@@ -35,40 +35,40 @@ record-by-grounds g q buffer s =
 
 -- ---- the calls
 
-pub format-by-grounds : (g : Geometry) (boundary : Bool) (s : State)
-    → By-grounds (format-grounds g boundary s) (λ n. n) (λ n. n) (format-steps g) s (format g boundary s)
+pub format-by-grounds : (g : Geometry) (others : List Size) (s : State)
+    → By-grounds (grounds g (Format others) s) (λ n. n) (λ n. n) (format-steps g) s (format g others s)
 unfolding format look give _>>=_ format-steps
-format-by-grounds g boundary s =
-    by-grounds (format-grounds g boundary s) (format-decided g boundary s) (omega arith) (λ n. n) (λ n. n) (format-steps g) s
+format-by-grounds g others s =
+    by-grounds (grounds g (Format others) s) (format-decided g others s) (omega arith) (λ n. n) (λ n. n) (format-steps g) s
     (λ n. refl) (omega arith)
 
-pub check-by-grounds : (g : Geometry) (boundary : Bool) (s : State)
-    → By-grounds (check-grounds g boundary s) (λ n. n) (λ n. n) (give DONE) s (check g boundary s)
+pub check-by-grounds : (g : Geometry) (others : List Size) (s : State)
+    → By-grounds (grounds g (Check others) s) (λ n. n) (λ n. n) (give DONE) s (check g others s)
 unfolding check look give _>>=_
-check-by-grounds g boundary s =
-    by-grounds (check-grounds g boundary s) (check-decided g boundary s) (omega arith) (λ n. n) (λ n. n) (give DONE) s
+check-by-grounds g others s =
+    by-grounds (grounds g (Check others) s) (check-decided g others s) (omega arith) (λ n. n) (λ n. n) (give DONE) s
     (λ n. refl) (omega arith)
 
-module _ (g : Geometry) (boundary : Bool) (l : ℕ) (buffer : List ℕ) (s : State) where
-  pub read-by-grounds : By-grounds (single-grounds g boundary (read-of l) buffer s) (λ r. r .reply) (replied buffer)
-      (serve g (read-of l) buffer) s (read g boundary l buffer s)
+module _ (g : Geometry) (others : List Size) (l : ℕ) (buffer : List ℕ) (s : State) where
+  pub read-by-grounds : By-grounds (single-grounds g others (read-of l) buffer s) (λ r. r .reply) (replied buffer)
+      (serve g (read-of l) buffer) s (read g others l buffer s)
   unfolding read serve look _>>=_
   read-by-grounds =
-      by-grounds (single-grounds g boundary (read-of l) buffer s) (single-decided g boundary (read-of l) buffer s) (omega arith)
+      by-grounds (single-grounds g others (read-of l) buffer s) (single-decided g others (read-of l) buffer s) (omega arith)
       (λ r. r .reply) (replied buffer) (serve g (read-of l) buffer) s (λ n. refl) (serve-hands-back g (read-of l) buffer s .within)
 
-  pub write-by-grounds : By-grounds (single-grounds g boundary (write-of l) buffer s) (λ r. r .reply) (replied buffer)
-      (serve g (write-of l) buffer) s (write g boundary l buffer s)
+  pub write-by-grounds : By-grounds (single-grounds g others (write-of l) buffer s) (λ r. r .reply) (replied buffer)
+      (serve g (write-of l) buffer) s (write g others l buffer s)
   unfolding write serve look _>>=_
   write-by-grounds =
-      by-grounds (single-grounds g boundary (write-of l) buffer s) (single-decided g boundary (write-of l) buffer s) (omega arith)
+      by-grounds (single-grounds g others (write-of l) buffer s) (single-decided g others (write-of l) buffer s) (omega arith)
       (λ r. r .reply) (replied buffer) (serve g (write-of l) buffer) s (λ n. refl) (serve-hands-back g (write-of l) buffer s .within)
 
-pub run-by-grounds : (g : Geometry) (boundary : Bool) (requests : List Request) (words answers : List ℕ) (s : State)
-    → By-grounds (run-grounds g boundary requests words answers s) (λ r. r .reply) (run-replied words answers)
-    (serve-records g requests (length requests) (run-replied words answers DONE)) s (run g boundary requests words answers s)
+pub run-by-grounds : (g : Geometry) (others : List Size) (requests : List Request) (words answers : List ℕ) (s : State)
+    → By-grounds (grounds g (Run others requests words answers) s) (λ r. r .reply) (run-replied words answers)
+    (serve-records g requests (length requests) (run-replied words answers DONE)) s (run g others requests words answers s)
 unfolding run look _>>=_
-run-by-grounds g boundary requests words answers s =
-    by-grounds (run-grounds g boundary requests words answers s) (run-decided g boundary requests words answers s) (omega arith)
+run-by-grounds g others requests words answers s =
+    by-grounds (grounds g (Run others requests words answers) s) (run-decided g others requests words answers s) (omega arith)
     (λ r. r .reply) (run-replied words answers) (serve-records g requests (length requests) (run-replied words answers DONE)) s
     (λ n. refl) (omega (arith, run-reply g requests (length requests) words answers s))

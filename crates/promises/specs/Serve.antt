@@ -21,8 +21,8 @@ use Rattle.flash.specs.Cases.{on, same?}
 use Rattle.flash.specs.Words.{Lengths}
 use Rattle.flash.specs.Listed.{cost}
 use Rattle.region.specs.Done.{Done}
-use Rattle.promises.specs.Remembered.{Store, with-words, noted-record, held}
-use Rattle.promises.specs.Demands.{Tells, write-bound, Serves-well}
+use Rattle.promises.specs.Remembered.{Store, with-words, noted-record, held, Tells}
+use Rattle.promises.specs.Bounds.{write-bound, Serves-well}
 use Rattle.promises.specs.Keeping.{Kept, kept-contents}
 use Rattle.promises.specs.HeldWords.{held-same}
 use Rattle.promises.specs.Read.{read-law}

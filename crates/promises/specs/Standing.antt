@@ -3,7 +3,7 @@
 use Prim.Native.Nat.{ℕ, _<_}
 use mathlib.Core.Path.{_≡_, refl, sym, _∙_, ap, subst}
 use mathlib.Core.Logic.{_≢_}
-use mathlib.Core.Bool.{Bool, cond, _&&_}
+use mathlib.Core.Bool.{cond, _&&_}
 use mathlib.Core.List.{List}
 use native.Mathlib.Omega.{arith}
 use lib.Dec.{eqb}
@@ -12,7 +12,7 @@ use borrow.Author.Tests.{ne-eqb}
 use Rattle.scope.specs.Geometry.{Geometry, Accepted}
 use Rattle.scope.specs.Lent.{decode, State, Request}
 use Rattle.scope.specs.Operations.{Outcome, give, _>>=_}
-use Rattle.scope.specs.Replies.{DONE, UNWRITTEN}
+use Rattle.scope.specs.Replies.{DONE, UNWRITTEN, Size}
 use Rattle.scope.specs.Requests.{replied, format-steps}
 use Rattle.scope.specs.Calls.{state-sizes, read-of, write-of, serve, format, check, read, write}
 use Rattle.scope.specs.Sound.{Sound}
@@ -21,10 +21,8 @@ use Rattle.flash.specs.Words.{Lengths}
 use Rattle.scope.specs.Laws.Applied.{flash-refl}
 use Rattle.scope.specs.Laws.AppliedSteps.{format-steps-applied}
 use Rattle.region.specs.Done.{Done, done-none}
-use Rattle.promises.specs.Grounds.{Right, request-grounds}
-use Rattle.promises.specs.Remembered.{Nothing, Store, with-words, noted-record, words-at, held}
-use Rattle.promises.specs.Demands.{Tells}
-use Rattle.promises.specs.Tests.{All-passed}
+use Rattle.promises.specs.Grounds.{Right, All-passed, request-grounds}
+use Rattle.promises.specs.Remembered.{Nothing, Store, with-words, noted-record, words-at, held, Tells}
 use Rattle.promises.specs.GroundsDecided.{kind-passed, page-passed, buffer-passed, own-passed}
 use Rattle.promises.specs.Refusals.{format-by-grounds, check-by-grounds, read-by-grounds, write-by-grounds}
 use Rattle.promises.specs.Serve.{Serves, serve-law}
@@ -102,48 +100,48 @@ module _ {g : Geometry} (ok : Accepted g) where
       rw (e, ne-eqb n DONE refused) (record { stands = stands; done = done-none g flash-refl })
 
   module _ {s : State} {store : Store} (stands : Standing g s store) where
-    pub format-leaves : (boundary : Bool)
-        → Leaves g s (format g boundary s) (cond (eqb (format g boundary s .value) DONE) (λ l. Nothing) store)
+    pub format-leaves : (others : List Size)
+        → Leaves g s (format g others s) (cond (eqb (format g others s .value) DONE) (λ l. Nothing) store)
     unfolding format-steps give _>>=_
-    format-leaves boundary =
-        let t = format-by-grounds g boundary s in
-        below? UNWRITTEN (format g boundary s .value)
-        (λ h. refusal-leaves (λ l. Nothing) (format g boundary s .value) (format g boundary s)
-        (format g boundary s .value) stands (t .refuses h) (omega arith))
+    format-leaves others =
+        let t = format-by-grounds g others s in
+        below? UNWRITTEN (format g others s .value)
+        (λ h. refusal-leaves (λ l. Nothing) (format g others s .value) (format g others s)
+        (format g others s .value) stands (t .refuses h) (omega arith))
         (λ h. rw (t .served h .1)
         (record {
           stands = format-stands s (stands .lengths);
           done = record { flash = format-steps-applied .law s; allowed = format-allowed g s };
         }))
 
-    pub check-leaves : (boundary : Bool) → Leaves g s (check g boundary s) store
+    pub check-leaves : (others : List Size) → Leaves g s (check g others s) store
     unfolding give
-    check-leaves boundary =
-        let t = check-by-grounds g boundary s in
-        below? UNWRITTEN (check g boundary s .value)
+    check-leaves others =
+        let t = check-by-grounds g others s in
+        below? UNWRITTEN (check g others s .value)
         (λ h. rw (t .refuses h) (record { stands = stands; done = done-none g flash-refl }))
         (λ h. rw (t .served h .1) (record { stands = stands; done = done-none g flash-refl }))
 
-    module _ (boundary : Bool) (l : ℕ) (buffer : List ℕ) where
-      pub read-leaves : Leaves g s (read g boundary l buffer s) store
+    module _ (others : List Size) (l : ℕ) (buffer : List ℕ) where
+      pub read-leaves : Leaves g s (read g others l buffer s) store
       unfolding give
       read-leaves =
-          let t = read-by-grounds g boundary l buffer s in
-          below? UNWRITTEN (read g boundary l buffer s .value .reply)
+          let t = read-by-grounds g others l buffer s in
+          below? UNWRITTEN (read g others l buffer s .value .reply)
           (λ h. rw (t .refuses h) (record { stands = stands; done = done-none g flash-refl }))
           (λ h.
           let passed = t .served h .0 in
           rw (t .served h .1)
-          (serve-leaves (read-of l) buffer stands (own-passed g (read-of l) buffer s passed) (buffer-passed g (read-of l) buffer s passed)))
+          (serve-leaves (read-of l) buffer stands (own-passed g others (read-of l) buffer s passed) (buffer-passed g others (read-of l) buffer s passed)))
 
-      pub write-leaves : Leaves g s (write g boundary l buffer s)
-          (cond (eqb (write g boundary l buffer s .value .reply) DONE) (with-words l buffer store) store)
+      pub write-leaves : Leaves g s (write g others l buffer s)
+          (cond (eqb (write g others l buffer s .value .reply) DONE) (with-words l buffer store) store)
       write-leaves =
-          let t = write-by-grounds g boundary l buffer s in
-          below? UNWRITTEN (write g boundary l buffer s .value .reply)
-          (λ h. refusal-leaves (with-words l buffer store) (replied buffer (write g boundary l buffer s .value .reply))
-          (write g boundary l buffer s) (write g boundary l buffer s .value .reply) stands (t .refuses h) (omega arith))
+          let t = write-by-grounds g others l buffer s in
+          below? UNWRITTEN (write g others l buffer s .value .reply)
+          (λ h. refusal-leaves (with-words l buffer store) (replied buffer (write g others l buffer s .value .reply))
+          (write g others l buffer s) (write g others l buffer s .value .reply) stands (t .refuses h) (omega arith))
           (λ h.
           let passed = t .served h .0 in
           rw (t .served h .1)
-          (serve-leaves (write-of l) buffer stands (own-passed g (write-of l) buffer s passed) (buffer-passed g (write-of l) buffer s passed)))
+          (serve-leaves (write-of l) buffer stands (own-passed g others (write-of l) buffer s passed) (buffer-passed g others (write-of l) buffer s passed)))

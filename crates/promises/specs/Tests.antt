@@ -12,7 +12,7 @@ use Rattle.scope.specs.Lent.{State}
 use Rattle.scope.specs.Operations.{Outcome, Step, give}
 use Rattle.scope.specs.Replies.{DONE, UNWRITTEN, Test, first-applying, admit}
 use Rattle.scope.specs.Laws.Decides.{Decides}
-use Rattle.promises.specs.Grounds.{Ground, Given-for, Refuses, Refusal}
+use Rattle.promises.specs.Grounds.{Ground, Given-for, Refuses, Refusal, All-passed}
 
 -- A test of a row, which decides both what it is given for and what passes it, so that no statement says "not not".
 pub record Decided (row : Ground) : Type 0 where
@@ -31,11 +31,6 @@ decided-then (row ∷ rows) more d e = (d .0, decided-then rows more (d .1) e)
 abbrev pub tests-of : (rows : List Ground) → All-decided rows → List Test
 tests-of [] d = []
 tests-of (row ∷ rows) d = record { number = row .number; applies = d .0 .test } ∷ tests-of rows (d .1)
-
--- No test applies.
-abbrev pub All-passed : List Ground → Type 0
-All-passed [] = Unit {0}
-All-passed (row ∷ rows) = row .Passes × All-passed rows
 
 -- "In number order", all above k.
 abbrev pub Rising : ℕ → List Ground → Type 0

@@ -31,7 +31,7 @@ use Rattle.cache.specs.Holds.{Hit, updated}
 use Rattle.cache.specs.Steps.{Ranks-kept, set-entry-law}
 use Rattle.cache.specs.Current.{Place-set, set-entry-sets-place}
 use Rattle.promises.specs.Remembered.{Holding, held}
-use Rattle.promises.specs.Demands.{write-bound}
+use Rattle.promises.specs.Bounds.{write-bound}
 use Rattle.promises.specs.Parts.{index-of, data-of, cache-of, sound-from, cached, cache-holds}
 use Rattle.promises.specs.Update.{written-holds, update-bound}
 use Rattle.promises.specs.Follow.{place-while, Follows, none-waits, cache-follower}

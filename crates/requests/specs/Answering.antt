@@ -20,7 +20,7 @@ use Rattle.flash.specs.Words.{Lengths}
 use Rattle.cache.specs.Ranks.{Has-rank}
 use Rattle.region.specs.Follower.{Room-made}
 use Rattle.region.specs.MakeRoom.{make-room-law}
-use Rattle.promises.specs.Demands.{read-bound, write-bound}
+use Rattle.promises.specs.Bounds.{read-bound, write-bound}
 use Rattle.promises.specs.Parts.{index-of, data-of, cache-of, sound-from}
 use Rattle.promises.specs.Update.{update-bound}
 use Rattle.promises.specs.Follow.{place-while, Follows, none-waits, cache-follower}

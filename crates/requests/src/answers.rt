@@ -20,7 +20,7 @@ ghost use lib.ListN.{length};
 ghost use Rattle.scope.specs.Requests.{replied, read-place, read-steps, write-steps};
 ghost use Rattle.lent.specs.Model.{geometry, entry};
 ghost use Rattle.lent.specs.Shapes.{Does-by-chip};
-ghost use Rattle.promises.specs.Demands.{read-bound, write-bound};
+ghost use Rattle.promises.specs.Bounds.{read-bound, write-bound};
 ghost use Rattle.promises.specs.Write.{placing};
 ghost use Rattle.words.specs.Census.{Census};
 ghost use Rattle.words.specs.Filter.{Filter};

@@ -2,7 +2,7 @@
 use borrow.Author.Needs.{needs}
 use denote.Ref.{now}
 use Rattle.lent.specs.Model.{geometry, counts}
-use Rattle.promises.specs.Demands.{read-bound}
+use Rattle.promises.specs.Bounds.{read-bound}
 use Rattle.scope.specs.Requests.{read-steps}
 use Rattle.scope.specs.Calls.{read}
 use Rattle.admission.specs.Room.{read-few}

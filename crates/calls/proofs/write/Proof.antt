@@ -2,7 +2,7 @@
 use borrow.Author.Needs.{needs}
 use denote.Ref.{now}
 use Rattle.lent.specs.Model.{geometry, counts}
-use Rattle.promises.specs.Demands.{write-bound}
+use Rattle.promises.specs.Bounds.{write-bound}
 use Rattle.scope.specs.Requests.{write-steps}
 use Rattle.scope.specs.Calls.{write}
 use Rattle.admission.specs.Room.{write-few}
