@@ -1,8 +1,8 @@
--- The demands of the contracts: the faces, the statements, and their proofs.
-pub mod Faces
-pub mod ContractDemands
-pub mod Faithful
-pub mod AnyOutcome
+-- A call that was made, the three demands of it, and their proofs.
+pub mod Made
+pub mod Demands
+pub mod Outcomes
+pub mod Demand1
 pub mod Traces
 pub mod Theorems
 -- What they come to at one call, and at two in a row.
