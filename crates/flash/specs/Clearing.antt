@@ -58,12 +58,12 @@ stored spare p q v h c =
     (λ e. rw (e, getD-set-same spare (q * spare-words) v none (omega arith)) c)
     (λ ne. stays (getD-set-other spare (q * spare-words) (p * spare-words) v none (omega arith)))
 
-pub allowed-clears : (g : Geometry) (o : Operation) (s : State) → Lengths g s → Allows g o (s .spare) → Clears g o s
+pub allowed-clears : (g : Geometry) (o : Operation) (s : State) → Lengths g s → Allows g o (s .chip) (s .spare) → Clears g o s
 unfolding apply
 allowed-clears g (Read q) s len ok p h out = stays refl
 allowed-clears g (Program q owner words) s len ok p h out =
     same? p q
-    (λ e. rw (e, claimed-state q owner (s .spare) (omega (arith, len .spare-fits)), ok .1) refl)
+    (λ e. rw (e, claimed-state q owner (s .spare) (omega (arith, len .spare-fits)), ok .1 .state) refl)
     (λ ne. stays (claimed-others q owner (s .spare) p ne))
 allowed-clears g (Mark q) s len ok p h out =
     stored (s .spare) p q invalid (omega (arith, len .spare-fits)) (and-zero-l (state-of q (s .spare)))

@@ -6,7 +6,7 @@ use mathlib.Core.Logic.{_≢_}
 use mathlib.Core.List.{List}
 use native.Mathlib.Omega.{arith}
 use native.Mathlib.Nat.{add-zero}
-use lib.ListN.{length, getD, replicate, length-replicate, getD-replicate}
+use lib.ListN.{length, getD, replicate}
 use lib.Seq.{sets, length-sets, getD-set-same, getD-set-other}
 use Rattle.scope.specs.Geometry.{Geometry, pages, blocks}
 use Rattle.scope.specs.Lent.{none, erased, valid, invalid, State, spare-words, words-of, word-of, state-of, owner-of, claim-words, with-claim}
@@ -127,20 +127,18 @@ mark-page g p s len h =
 
 -- ---- erase
 
--- An erased page: its state, no owner, and only erased words.
+-- Page p is erased as a whole, spare and chip: its state is erased, it has no owner, and each of its W words is the erased word.
 pub record Page-erased (g : Geometry) (p : ℕ) (chip spare : List ℕ) : Type 0 where
   pub state : state-of p spare ≡ erased
   pub owner : owner-of p spare ≡ none
-  pub word : (i : ℕ) → i < g .W → word-of g p i chip ≡ erased
-  pub words : words-of g p chip ≡ replicate (g .W) erased
+  pub words : (i : ℕ) → i < g .W → word-of g p i chip ≡ erased
 
 pub erased-same : {g : Geometry} {p : ℕ} {c d c′ d′ : List ℕ} → Page-same g p c d c′ d′ → Page-erased g p c d → Page-erased g p c′ d′
 erased-same same e =
     record {
       state = same .state ∙ e .state;
       owner = same .owner ∙ e .owner;
-      word = λ i h. page-word same i h ∙ e .word i h;
-      words = same .words ∙ e .words;
+      words = λ i h. page-word same i h ∙ e .words i h;
     }
 
 -- A page that is none of block b's.
@@ -180,11 +178,7 @@ erase-block g b s len h = record { pages = inside; others = outside }
         record {
           state = rw add-zero at (spare-word i 0 k (omega arith));
           owner = spare-word i 1 k (omega arith);
-          word = λ j l. chip-word i j k l;
-          words = words-are g (page-in g b i) chip′ (replicate (g .W) erased) (on-chip i k)
-              (length-sets (s .chip) (b * g .P * g .W) (replicate (g .P * g .W) erased) ∙ len .chip-fits)
-              (length-replicate (g .W) erased)
-              (λ j l. chip-word i j k l ∙ sym (getD-replicate (g .W) j erased none l));
+          words = λ j l. chip-word i j k l;
         }
 
     outside : (q : ℕ) → Outside g b q → Same-page g q s (apply g (Erase b) s)

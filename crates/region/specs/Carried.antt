@@ -16,15 +16,20 @@ use Rattle.region.specs.Holds.{Region-fits, Besides, Maps, Region-holds,
 
 -- ---- rule 1 of one page
 
--- Of one that is erased, of one that is programmed, and of one that is as before.
+-- Of one that is erased, and the other way round: by rule 1 a page with an erased state is erased as a whole. Of one that is programmed, and
+-- of one that is as before.
 pub erased-fits : {g : Geometry} {r : Region} {p : ℕ} {chip spare : List ℕ} → Page-erased g p chip spare → Page-fits g r chip spare p
 erased-fits e =
     record {
       one-of-three = inl (e .state);
       no-owner = λ _. e .owner;
-      no-words = λ _. e .word;
+      no-words = λ _. e .words;
       owned = λ ne. absurd (ne (e .state));
     }
+
+pub fits-erased : {g : Geometry} {r : Region} {p : ℕ} {chip spare : List ℕ}
+    → Page-fits g r chip spare p → state-of p spare ≡ erased → Page-erased g p chip spare
+fits-erased fits e = record { state = e; owner = fits .no-owner e; words = fits .no-words e }
 
 pub programmed-fits : {g : Geometry} {r : Region} {p : ℕ} {chip spare : List ℕ}
     → (state-of p spare ≡ valid) ⊎ (state-of p spare ≡ invalid) → owner-of p spare < owners g r → Page-fits g r chip spare p

@@ -5,7 +5,7 @@ use Rattle.scope.specs.Geometry.{Geometry}
 use Rattle.scope.specs.Lent.{State}
 use Rattle.scope.specs.Operations.{Operation, Read, apply, apply-all}
 use Rattle.scope.specs.Laws.Applied.{Same-flash, flash-refl, flash-trans, apply-all-same, apply-all-append}
-use Rattle.flash.specs.Listed.{Allows, Allowed, allowed-++, allowed-spare}
+use Rattle.flash.specs.Listed.{Allows, Allowed, allowed-++, allowed-same}
 
 pub record Done (g : Geometry) (s : State) (ops : List Operation) (s′ : State) : Type 0 where
   pub flash : Same-flash s′ (apply-all g ops s)
@@ -17,7 +17,7 @@ unfolding apply-all
 done-none g h = record { flash = h; allowed = tt }
 
 -- One operation.
-pub done-one : (g : Geometry) {s : State} (o : Operation) → Allows g o (s .spare) → Done g s (o ∷ []) (apply g o s)
+pub done-one : (g : Geometry) {s : State} (o : Operation) → Allows g o (s .chip) (s .spare) → Done g s (o ∷ []) (apply g o s)
 unfolding apply-all
 done-one g o h = record { flash = flash-refl; allowed = (h, tt) }
 
@@ -30,5 +30,5 @@ pub done-then : {g : Geometry} {s s′ s″ : State} {a b : List Operation} → 
 done-then {g} {s} {s′} {s″} {a} {b} h k =
     record {
       flash = flash-trans (k .flash) (rw apply-all-append (apply-all-same g b (h .flash)));
-      allowed = allowed-++ g a b s (h .allowed) (allowed-spare g b s′ (apply-all g a s) (h .flash .spare) (k .allowed));
+      allowed = allowed-++ g a b s (h .allowed) (allowed-same g b (h .flash) (k .allowed));
     }

@@ -17,12 +17,13 @@ use Rattle.scope.specs.Sound.{Names}
 use Rattle.scope.specs.Laws.Applied.{flash-refl, flash-as}
 use Rattle.flash.specs.Bounded.{Region-bounded}
 use Rattle.flash.specs.Words.{Lengths}
-use Rattle.flash.specs.Pages.{page-trans, Programmed, Marked, program-page, mark-page}
+use Rattle.flash.specs.Pages.{page-trans, Programmed, Marked, program-page, mark-page, Page-erased}
 use Rattle.flash.specs.Places.{page-on-chip, page-in-region}
 use Rattle.flash.specs.Heads.{Same-rest, advanced-block, advanced-offset, advanced-rest}
 use Rattle.flash.specs.Kept.{apply-keeps-lengths}
 use Rattle.flash.specs.Listed.{cost}
 use Rattle.region.specs.Holds.{Region-fits, Maps}
+use Rattle.region.specs.Carried.{fits-erased}
 use Rattle.region.specs.Elsewhere.{Same-elsewhere}
 use Rattle.region.specs.Replace.{Replaced, Replacement, replace-law}
 use Rattle.region.specs.Done.{Done, done-none, done-one}
@@ -116,12 +117,16 @@ module _ (g : Geometry) (r : Region) (k : ℕ) (words : List ℕ) (view : ℕ �
       let did = program-page g q k words s lengths (page-on-chip g r q here) full-page in
       record { state = did .state; owner = did .owner; words = did .words; others = did .others }
 
+  -- From the next offset on the open block's pages are erased.
+  erased-page : Page-erased g q (s .chip) (s .spare)
+  erased-page = fits-erased (fits .pages-fit q here) (fits .from-offset _ room (omega arith))
+
   programs : Done g s (Program q k words ∷ []) s₁
   unfolding apply-all
   programs =
       record {
         flash = flash-as refl;
-        allowed = ((page-on-chip g r q here, fits .from-offset _ room (omega arith)), tt);
+        allowed = ((page-on-chip g r q here, erased-page, full-page), tt);
       }
 
   replaced : {chip′ spare′ : List ℕ} (old : Entry) → decode (view k) ≡ old

@@ -31,11 +31,6 @@ pub data Entry : Type 0 where
 abbrev pub decode : ℕ → Entry
 decode x = cond (eqb x none) Nowhere (Place x)
 
--- 01's number for each case.
-abbrev pub encode : Entry → ℕ
-encode (Place p) = p
-encode Nowhere = none
-
 -- The five lent parts that a call hands on to the next.
 pub record State : Type 0 where
   pub chip : List ℕ

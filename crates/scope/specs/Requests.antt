@@ -1,4 +1,4 @@
--- 01, "The steps": read, write and format, which a call makes once its tests have passed.
+-- 01, "The steps": read and write, with their answer, and format: what a call makes once its tests have passed.
 use Prim.Native.Nat.{ℕ}
 use mathlib.Core.List.{List}
 use lib.ListN.{replicate}

@@ -1,4 +1,4 @@
--- 01, "The steps": update, what follows a moved page in each region, translate, read, write and format.
+-- 01, "The steps": what follows a moved page in each region, update and translate.
 use Prim.Native.Nat.{ℕ}
 use mathlib.Core.Bool.{cond}
 use mathlib.Core.List.{List, [], _∷_}

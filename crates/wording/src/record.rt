@@ -22,7 +22,7 @@ fn word(s: &[u32], i: usize) -> u32
     if i < s.len() { s[i] } else { 0 }
 }
 
-fn put(s: &mut [u32], i: usize, x: u32)
+fn set_word(s: &mut [u32], i: usize, x: u32)
     ensures { λ _. ⌜ now (s .exit) ≡ set (now (s .entry)) i x ⌝ }
 {
     if i < s.len() {
@@ -45,9 +45,9 @@ pub fn load(record: &[u32]) -> Record
 pub fn store(record: &mut [u32], rec: Record)
     ensures { λ _. ⌜ now («record» .exit) ≡ sets (now («record» .entry)) 0 (words-from (small rec)) ⌝ }
 {
-    put(record, 0, rec.open_data);
-    put(record, 1, rec.data_offset);
-    put(record, 2, rec.open_translation);
-    put(record, 3, rec.translation_offset);
-    put(record, 4, rec.used);
+    set_word(record, 0, rec.open_data);
+    set_word(record, 1, rec.data_offset);
+    set_word(record, 2, rec.open_translation);
+    set_word(record, 3, rec.translation_offset);
+    set_word(record, 4, rec.used);
 }

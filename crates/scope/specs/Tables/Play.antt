@@ -34,8 +34,12 @@ unformatted g =
       small = record-of (replicate record-words 7);
     }
 
+-- That first format, and the state that it leaves.
+unfoldable pub first-format : Geometry → Outcome ℕ
+first-format g = format g [] (unformatted g)
+
 unfoldable pub formatted : Geometry → State
-formatted g = format g [] (unformatted g) .after
+formatted g = first-format g .after
 
 unfoldable pub made : Geometry → Line → State → Outcome Replied
 made g (W l value) = write g [] l (replicate (g .W) value)
@@ -65,5 +69,5 @@ play g (l ∷ ls) s =
 
 -- x itself, where everything that a call computes with is unfolded.
 unfoldable pub computed : {A : Type 0} → A → A
-unfolding unformatted formatted made first-word printed play format read write counted apply give look perform set-directory set-cache set-small for _>>=_ read-page program-next erased-blocks lowest-erased victim move-page move-if-valid move-pages collect open-lowest open-or-collect make-room touch enter dropped forget written-back set-entry directory-names-it begun set-words mark-old update of-page update-touched cache-or-wait update-all write-back drop-entry drop-if-full word-for fetch translate first-applying admit right-sizes read-place read-steps write-steps format-steps accepted sound page-fits pages-fit owners-differ blocks-fit directory-names entries-fit places-hold unchanged-agree rank-of stored current check run serve answer-record serve-record serve-records
+unfolding unformatted first-format formatted made first-word printed play format read write counted apply give look perform set-directory set-cache set-small for _>>=_ read-page program-next erased-blocks lowest-erased victim move-page move-if-valid move-pages collect open-lowest open-or-collect make-room touch enter dropped forget written-back set-entry directory-names-it begun set-words mark-old update of-page update-touched cache-or-wait update-all write-back drop-entry drop-if-full word-for fetch translate first-applying admit right-sizes read-place read-steps write-steps format-steps accepted sound page-fits pages-fit owners-differ blocks-fit directory-names entries-fit places-hold unchanged-agree rank-of stored current check run serve answer-record serve-record serve-records
 computed x = x

@@ -1,13 +1,12 @@
 -- 01, "A session in full": its eight lines, the state afterwards and its six marked cases, as one table about the definitions.
 use Prim.Native.Nat.{ℕ}
 use mathlib.Core.Path.{_≡_, refl}
-use mathlib.Core.Bool.{true, false}
 use mathlib.Core.List.{List, [], _∷_}
-use Rattle.scope.specs.Geometry.{Geometry, accepted}
+use Rattle.scope.specs.Geometry.{Geometry}
 use Rattle.scope.specs.SmallRecord.{words-from}
 use Rattle.scope.specs.Lent.{none, erased, valid, invalid, State, words-of}
-use Rattle.scope.specs.Replies.{UNWRITTEN, GEOMETRY, PAGE}
-use Rattle.scope.specs.Tables.Play.{computed, Line, W, R, formatted, made, printed, play}
+use Rattle.scope.specs.Replies.{DONE, UNWRITTEN, GEOMETRY, PAGE}
+use Rattle.scope.specs.Tables.Play.{computed, Line, W, R, first-format, formatted, made, printed, play}
 
 -- "Geometry G: P=2, W=2, D=3, T=3, L=3, C=1 (M=2)."
 abbrev pub G : Geometry
@@ -59,8 +58,10 @@ G-with p t l = record { P = p; W = 2; D = 3; T = t; L = l; C = 1 }
 pub record As-01-says : Type 0 where
   pub eight-lines : output ≡ play G input (formatted G) .lines
   pub state-afterwards : afterwards ≡ told (play G input (formatted G) .left)
-  pub four-geometries : false ∷ false ∷ false ∷ true ∷ []
-      ≡ accepted (G-with 2 3 4) ∷ accepted (G-with 2 3 0) ∷ accepted (G-with 2 2 3) ∷ accepted (G-with 1 3 1) ∷ []
+  -- Format's replies, on lists of the sizes that each geometry gives them.
+  pub four-geometries : GEOMETRY ∷ GEOMETRY ∷ GEOMETRY ∷ DONE ∷ []
+      ≡ first-format (G-with 2 3 4) .value ∷ first-format (G-with 2 3 0) .value
+      ∷ first-format (G-with 2 2 3) .value ∷ first-format (G-with 1 3 1) .value ∷ []
   pub refused-geometry : GEOMETRY ≡ made (G-with 2 3 4) (R 0) (formatted G) .value .reply
   pub read-3 : PAGE ∷ 0 ∷ 0 ∷ 0 ∷ [] ≡ printed (R 3) (made G (R 3) (formatted G))
   pub read-2 : UNWRITTEN ∷ 0 ∷ 0 ∷ 0 ∷ [] ≡ printed (R 2) (made G (R 2) (formatted G))

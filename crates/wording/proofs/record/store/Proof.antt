@@ -3,20 +3,20 @@ use borrow.Author.Needs.{needs}
 use Rattle.wording.proofs.record.store.Statement.{statement}
 use Rattle.wording.proofs.record.store.Tie as tie
 
-put-requires : tie.Need-put-requires
-put-requires c κs = search needs
+set-word-requires : tie.Need-set-word-requires
+set-word-requires c κs = search needs
 
-put-requires-2 : tie.Need-put-requires-2
-put-requires-2 c κs = search needs
+set-word-requires-2 : tie.Need-set-word-requires-2
+set-word-requires-2 c κs = search needs
 
-put-requires-3 : tie.Need-put-requires-3
-put-requires-3 c κs = search needs
+set-word-requires-3 : tie.Need-set-word-requires-3
+set-word-requires-3 c κs = search needs
 
-put-requires-4 : tie.Need-put-requires-4
-put-requires-4 c κs = search needs
+set-word-requires-4 : tie.Need-set-word-requires-4
+set-word-requires-4 c κs = search needs
 
-put-requires-5 : tie.Need-put-requires-5
-put-requires-5 c κs = search needs
+set-word-requires-5 : tie.Need-set-word-requires-5
+set-word-requires-5 c κs = search needs
 
 same-length : tie.Need-same-length
 same-length c = search needs
@@ -28,10 +28,10 @@ pub store-spec : {M : Type 1} → statement M
 store-spec =
     tie.close
     (tie.spec
-    put-requires
-    put-requires-2
-    put-requires-3
-    put-requires-4
-    put-requires-5
+    set-word-requires
+    set-word-requires-2
+    set-word-requires-3
+    set-word-requires-4
+    set-word-requires-5
     same-length
     returns)

@@ -1,4 +1,4 @@
--- `wording::record::put` meets its contract: a word stored past the end of a list is lost.
+-- `wording::record::set_word` meets its contract: a word stored past the end of a list is lost.
 use Prim.Native.Nat.{_≤_}
 use borrow.Author.Needs.{needs}
 use native.Mathlib.Omega.{arith}
@@ -6,8 +6,8 @@ use mathlib.Core.Path.{sym}
 use denote.Ref.{now}
 use lib.ListN.{length}
 use lib.Seq.{set-out}
-use Rattle.wording.proofs.record.put.Statement.{statement}
-use Rattle.wording.proofs.record.put.Tie as tie
+use Rattle.wording.proofs.record.set_word.Statement.{statement}
+use Rattle.wording.proofs.record.set_word.Tie as tie
 
 mul-s : tie.Need-mul-s
 mul-s c = search needs
@@ -27,5 +27,5 @@ returns-2 c =
     let past : length s ≤ c .before .args .i = omega arith in
     sym (set-out s (c .before .args .i) (c .before .args .x) past)
 
-pub put-spec : {M : Type 1} → statement M
-put-spec = tie.close (tie.spec mul-s slice-write-s same-length returns returns-2)
+pub set-word-spec : {M : Type 1} → statement M
+set-word-spec = tie.close (tie.spec mul-s slice-write-s same-length returns returns-2)
