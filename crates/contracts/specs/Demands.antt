@@ -1,7 +1,7 @@
 -- The three demands, as statements about whatever outcome the contract of a public call allows: one m, from any lent memory whatever
 -- (demand 1 and what was done), or on the node that a trace of calls has left (demands 2 and 3). The theorem is `calls-meet` of
 -- Theorems.antt.
-use Prim.Native.Nat.{ℕ, _≤_, _<_}
+use Prim.Native.Nat.{ℕ, _+_, _≤_, _<_}
 use mathlib.Core.Path.{_≡_}
 use mathlib.Core.Logic.{_≢_}
 use mathlib.Core.List.{List, [], _++_}
