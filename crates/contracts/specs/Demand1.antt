@@ -1,16 +1,13 @@
 -- Demand 1, and what was done, of any outcome that a contract allows: what the definitions answer, carried over to what was handed back.
-use Prim.Native.Nat.{ℕ}
-use mathlib.Core.Path.{_≡_, refl, sym, _∙_, ap, subst}
+use mathlib.Core.Path.{_≡_, sym, _∙_, ap, subst}
 use mathlib.Core.Logic.{_≢_}
-use mathlib.Core.List.{List, []}
-use lib.ListN.{length}
 use Rattle.scope.specs.Geometry.{Geometry}
-use Rattle.scope.specs.Lent.{State, Request}
-use Rattle.scope.specs.Operations.{Operation, give}
-use Rattle.scope.specs.Replies.{DONE, Size}
-use Rattle.promises.specs.Call.{Call, Format, Check, Read-page, Write-page, Run, Answer, make, as-lent}
+use Rattle.scope.specs.Lent.{State}
+use Rattle.scope.specs.Operations.{give}
+use Rattle.scope.specs.Replies.{DONE}
+use Rattle.promises.specs.Call.{Call, Answer, make, as-lent}
 use Rattle.promises.specs.Grounds.{Refusal, Refuses, All-passed, grounds}
-use Rattle.promises.specs.EachRecord.{Ran, records-did}
+use Rattle.promises.specs.EachRecord.{Ran}
 use Rattle.promises.specs.Demand1.{tested, read-keeps, write-keeps, run-ran, run-operations, unwritten-by-read, empty-run, check-unchanged}
 use Rattle.contracts.specs.Made.{entry, Made, By-contract, Left-alone}
 use Rattle.contracts.specs.Demands.{Demand-1, did, Done-as-listed}

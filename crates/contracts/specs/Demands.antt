@@ -13,14 +13,13 @@ use Rattle.scope.specs.Operations.{Operation, apply-all, counted}
 use Rattle.scope.specs.Replies.{DONE, UNWRITTEN, Size}
 use Rattle.scope.specs.Boundary.{Words, put-counts}
 use Rattle.scope.specs.Calls.{state-sizes, buffer-sizes, run-sizes, read-of, write-of, part, no-request}
-use Rattle.flash.specs.Listed.{Allowed}
-use Rattle.flash.specs.Clearing.{Clears-each}
+use Rattle.flash.specs.Moments.{Allowed, Clears-each}
 use Rattle.promises.specs.Call.{Call, Format, Check, Read-page, Write-page, Run, Answer, make}
 use Rattle.promises.specs.Grounds.{Refusal, Refuses, Right, All-passed, grounds}
 use Rattle.promises.specs.EachRecord.{before-record, record-outcome, records-did, Ran}
 use Rattle.promises.specs.Remembered.{Store, Nothing, noted-records, held, Tells}
 use Rattle.promises.specs.Bounds.{One-for-each, Below-limit, Serves-well}
-use Rattle.contracts.specs.Made.{Lent, Numbers, In-words, entry, exit, counts-at-entry, counts-at-exit, Made, Contract-allows, By-contract, Left-alone, Whole, Trace, remembered}
+use Rattle.contracts.specs.Made.{Numbers, In-words, entry, exit, counts-at-entry, counts-at-exit, Made, Contract-allows, By-contract, Left-alone, Whole, Trace, remembered}
 
 -- ---- Demand 1: any input, one answer
 

@@ -1,7 +1,7 @@
 -- What an outcome that a contract allows is: the definition's. A call in words comes down to the call on numbers and lists, so that the
 -- demands are proved once.
 use Prim.Native.Nat.{ℕ}
-use mathlib.Core.Path.{_≡_, refl, sym, _∙_, ap}
+use mathlib.Core.Path.{_≡_, sym, _∙_, ap}
 use mathlib.Core.List.{List}
 use lib.ListN.{length}
 use lib.Seq.{sets}
@@ -13,8 +13,8 @@ use Rattle.scope.specs.Boundary.{Words, from-words, to-words, put-counts, in-wo
 use Rattle.scope.specs.Laws.SmallRecord.{record-stored, record-words-kept}
 use Rattle.scope.specs.Laws.Applied.{Same-flash}
 use Rattle.scope.specs.Laws.AppliedSteps.{format-applied, check-applied, read-applied, write-applied, run-applied}
-use Rattle.promises.specs.Call.{Call, Format, Check, Read-page, Write-page, Run, Answer, make, as-lent}
-use Rattle.contracts.specs.Made.{Lent, Numbers, In-words, entry, exit, counts-at-entry, counts-at-exit, Made, Contract-allows, By-contract, Same-lent, Left-alone, Whole}
+use Rattle.promises.specs.Call.{Call, Format, Check, Read-page, Write-page, Run, Answer, make}
+use Rattle.contracts.specs.Made.{Lent, Numbers, In-words, entry, exit, counts-at-entry, counts-at-exit, Contract-allows, Same-lent, Whole}
 
 -- The state that is left is the definition's where the record is whole; chip and spare are, whole or not.
 pub record Says (g : Geometry) (c : Call) (a : Answer) (lent : Lent) : Type 0 where

@@ -21,7 +21,7 @@ use Rattle.scope.specs.Replies.{DONE, UNWRITTEN, Size}
 use Rattle.scope.specs.Calls.{buffer-sizes, run-sizes, read-of, write-of, part, run-replied, write}
 use Rattle.scope.specs.Boundary.{Words, from-words, word-sizes, counts-words, put-counts, words-of-counts, tf-check, tf-read, tf-write, tf-run, requests-of}
 use Rattle.scope.specs.Contracts.{Gives}
-use Rattle.flash.specs.Listed.{total, cost}
+use Rattle.flash.specs.Moments.{total, cost}
 use Rattle.promises.specs.Call.{Call, Format, Check, Read-page, Write-page, Run, Answer}
 use Rattle.promises.specs.Grounds.{Right, Refusal}
 use Rattle.promises.specs.EachRecord.{before-record}

@@ -1,14 +1,14 @@
 -- Demands 2 and 3 after any trace: the store that a program remembers stands by the node after each call, be it served or refused.
-use Prim.Native.Nat.{ℕ, _+_, _<_}
+use Prim.Native.Nat.{ℕ, _+_}
 use mathlib.Core.Path.{_≡_, refl, sym, _∙_, ap, subst}
 use mathlib.Core.Logic.{_≢_, inl, inr}
 use mathlib.Core.List.{List, [], _∷_, _++_}
 use native.Mathlib.Omega.{arith}
-use lib.ListN.{length, getD}
+use lib.ListN.{getD}
 use borrow.Author.Tests.{ne-eqb}
 use Rattle.scope.specs.Geometry.{Geometry, Accepted}
 use Rattle.scope.specs.Lent.{none, State, Request}
-use Rattle.scope.specs.Operations.{Outcome, Counts, counted, give, _>>=_}
+use Rattle.scope.specs.Operations.{Outcome, counted, give, _>>=_}
 use Rattle.scope.specs.Replies.{DONE, Size}
 use Rattle.scope.specs.Requests.{format-steps}
 use Rattle.scope.specs.Calls.{state-sizes, buffer-sizes, run-sizes, part, no-request}
@@ -21,11 +21,11 @@ use Rattle.promises.specs.Remembered.{Store, Nothing, noted, noted-records, hel
 use Rattle.promises.specs.Bounds.{Below-limit, Serves-well}
 use Rattle.promises.specs.OneForEach.{one-for-each}
 use Rattle.promises.specs.Formatted.{format-counts}
-use Rattle.promises.specs.Standing.{Standing, Leaves, format-stands, right-lengths, lengths-right}
+use Rattle.promises.specs.Standing.{Standing, format-stands, right-lengths, lengths-right}
 use Rattle.promises.specs.FromSound.{call-leaves, read-call-tells, read-well, write-well, check-well, record-tells, record-well, run-well, formats}
 use Rattle.contracts.specs.Made.{entry, exit, Made, By-contract, Whole, Goes, Trace, remembered}
 use Rattle.contracts.specs.Demands.{Demand-2, Demand-3, did, Node, Demands-after, Formatted}
-use Rattle.contracts.specs.Outcomes.{Says, says}
+use Rattle.contracts.specs.Outcomes.{says}
 use Rattle.contracts.specs.Demand1.{known, answered, demand-1}
 
 -- ---- one call more

@@ -8,19 +8,15 @@ use lib.Bits.{bitAnd, and-self, and-zero-l, and-le-r, and-shr, and-mod}
 use lib.ListN.{length, set}
 use lib.Seq.{getD-set-same, getD-set-other}
 use native.Mathlib.Nat.{add-zero}
-use Rattle.scope.specs.Geometry.{Geometry, pages}
+use Rattle.scope.specs.Geometry.{Geometry}
 use Rattle.scope.specs.Lent.{none, erased, invalid, State, spare-words, state-of}
 use Rattle.scope.specs.Operations.{Operation, Read, Program, Mark, Erase, apply}
 use Rattle.flash.specs.Cases.{same?}
 use Rattle.flash.specs.Stores.{block-kept}
 use Rattle.flash.specs.Words.{Lengths}
 use Rattle.flash.specs.Kept.{apply-keeps-lengths}
-use Rattle.flash.specs.Pages.{claimed-state, claimed-others, Outside}
-use Rattle.flash.specs.Listed.{Allows, Allowed}
-
--- No bit is set in the new word that was not set in the old one.
-abbrev pub Only-clears : ℕ → ℕ → Type 0
-Only-clears new old = bitAnd new old ≡ new
+use Rattle.flash.specs.Pages.{claimed-state, claimed-others}
+use Rattle.flash.specs.Moments.{Allows, Allowed, Only-clears, Clears, Clears-each}
 
 -- Said of bit i.
 pub clears-bit : (new old i : ℕ) → Only-clears new old → new / 2 ^ i % 2 ≤ old / 2 ^ i % 2
@@ -30,22 +26,6 @@ clears-bit new old i c =
     ∙ ap (λ (x : ℕ). x % 2) (and-shr new old i)
     ∙ and-mod (new / 2 ^ i) (old / 2 ^ i) 1 in
     omega (arith, and-le-r (new / 2 ^ i % 2) (old / 2 ^ i % 2))
-
--- The operation is no erase of the page's block.
-abbrev pub Not-erased-by : Geometry → Operation → ℕ → Type 0
-Not-erased-by g (Read q) p = Unit {0}
-Not-erased-by g (Program q owner words) p = Unit {0}
-Not-erased-by g (Mark q) p = Unit {0}
-Not-erased-by g (Erase b) p = Outside g b p
-
--- An operation only clears bits of the states of the pages that it does not erase; and so does each of a list at its moment.
-abbrev pub Clears : Geometry → Operation → State → Type 0
-Clears g o s =
-    (p : ℕ) → p < pages g → Not-erased-by g o p → Only-clears (state-of p (apply g o s .spare)) (state-of p (s .spare))
-
-abbrev pub Clears-each : Geometry → List Operation → State → Type 0
-Clears-each g [] s = Unit {0}
-Clears-each g (o ∷ os) s = Clears g o s × Clears-each g os (apply g o s)
 
 -- A state that stays clears nothing; one that is stored clears what it clears at its own page.
 stays : {new old : ℕ} → new ≡ old → Only-clears new old

@@ -1,4 +1,6 @@
--- The modules of this crate.
+-- What the demands are said with.
+pub mod Moments
+-- What is proved.
 pub mod Cases
 pub mod Counting
 pub mod Tests

@@ -1,23 +1,15 @@
 -- Lists of operations: what they cost, and that each is allowed at its moment, "in their order": "only erased pages are programmed".
-use Prim.Native.Nat.{ℕ, _+_, _<_}
+use Prim.Native.Nat.{_+_}
 use mathlib.Core.Path.{_≡_, refl, ap, _∙_}
 use mathlib.Core.List.{List, [], _∷_, _++_}
 use native.Mathlib.Omega.{arith}
-use lib.ListN.{length}
-use Rattle.scope.specs.Geometry.{Geometry, pages}
+use Rattle.scope.specs.Geometry.{Geometry}
 use Rattle.scope.specs.Lent.{State}
-use Rattle.scope.specs.Operations.{Operation, Read, Program, Mark, Erase, apply, apply-all, Counts, counts-add, counts-of, counted}
+use Rattle.scope.specs.Operations.{Operation, apply, apply-all, Counts, counts-add, counts-of, counted}
 use Rattle.scope.specs.Laws.Applied.{Same-flash, apply-same}
-use Rattle.flash.specs.Pages.{Page-erased}
+use Rattle.flash.specs.Moments.{total, cost, Allowed}
 
 -- ---- cost
-
--- The reads, the programs and the erases: what demand 3 bounds.
-abbrev pub total : Counts → ℕ
-total c = c .reads + c .programs + c .erases
-
-abbrev pub cost : List Operation → ℕ
-cost os = total (counted os)
 
 pub cost-none : cost [] ≡ 0
 unfolding counted
@@ -41,19 +33,6 @@ pub cost-++ : (a b : List Operation) → cost (a ++ b) ≡ cost a + cost b
 cost-++ a b = ap total (counted-++ a b) ∙ omega arith
 
 -- ---- allowed
-
--- A program is of a page of the chip that is erased as a whole, and stores a page's words, W of them, so that it stays within that page;
--- the other operations ask for nothing.
-abbrev pub Allows : Geometry → Operation → List ℕ → List ℕ → Type 0
-Allows g (Read p) chip spare = Unit {0}
-Allows g (Program p owner words) chip spare = (p < pages g) × Page-erased g p chip spare × (length words ≡ g .W)
-Allows g (Mark p) chip spare = Unit {0}
-Allows g (Erase b) chip spare = Unit {0}
-
--- Each operation is allowed by chip and spare as the ones before it left them.
-abbrev pub Allowed : Geometry → List Operation → State → Type 0
-Allowed g [] s = Unit {0}
-Allowed g (o ∷ os) s = Allows g o (s .chip) (s .spare) × Allowed g os (apply g o s)
 
 pub allowed-++ : (g : Geometry) (a b : List Operation) (s : State)
     → Allowed g a s → Allowed g b (apply-all g a s) → Allowed g (a ++ b) s

@@ -14,6 +14,7 @@ use Rattle.scope.specs.Regions.{page-in}
 use Rattle.scope.specs.Operations.{Read, Program, Mark, Erase, apply}
 use Rattle.flash.specs.Stores.{getD-sets-inside, slot-below, slot-kept, block-filled, block-kept}
 use Rattle.flash.specs.Words.{Lengths, words-are, words-same, word-same}
+use Rattle.flash.specs.Moments.{Page-erased, Outside}
 
 -- ---- pages as before
 
@@ -127,12 +128,6 @@ mark-page g p s len h =
 
 -- ---- erase
 
--- Page p is erased as a whole, spare and chip: its state is erased, it has no owner, and each of its W words is the erased word.
-pub record Page-erased (g : Geometry) (p : ℕ) (chip spare : List ℕ) : Type 0 where
-  pub state : state-of p spare ≡ erased
-  pub owner : owner-of p spare ≡ none
-  pub words : (i : ℕ) → i < g .W → word-of g p i chip ≡ erased
-
 pub erased-same : {g : Geometry} {p : ℕ} {c d c′ d′ : List ℕ} → Page-same g p c d c′ d′ → Page-erased g p c d → Page-erased g p c′ d′
 erased-same same e =
     record {
@@ -140,10 +135,6 @@ erased-same same e =
       owner = same .owner ∙ e .owner;
       words = λ i h. page-word same i h ∙ e .words i h;
     }
-
--- A page that is none of block b's.
-abbrev pub Outside : Geometry → ℕ → ℕ → Type 0
-Outside g b q = (i : ℕ) → i < g .P → q ≢ page-in g b i
 
 -- After an erase of block b each of its pages is erased; every other page is as before.
 pub record Erased (g : Geometry) (b : ℕ) (s s′ : State) : Type 0 where

@@ -8,7 +8,7 @@ use Rattle.scope.specs.Geometry.{Geometry, blocks, pages}
 use Rattle.scope.specs.Regions.{Region, Data, Translation, first-block, region-blocks, page-in, Has-block, Has-page}
 use Rattle.flash.specs.Cases.{below?}
 use Rattle.flash.specs.Stores.{slot-below, slot-same}
-use Rattle.flash.specs.Pages.{Outside}
+use Rattle.flash.specs.Moments.{Outside}
 
 -- ---- regions
 

@@ -8,7 +8,7 @@ use Rattle.scope.specs.Lent.{State}
 use Rattle.scope.specs.Sound.{Sound}
 use Rattle.scope.specs.Operations.{Step, Counts}
 use Rattle.flash.specs.Words.{Lengths}
-use Rattle.flash.specs.Listed.{cost}
+use Rattle.flash.specs.Moments.{cost}
 use Rattle.lent.specs.declared.Counts.{Counts as Counted}
 use Rattle.lent.specs.declared.Work.{Work}
 use Rattle.lent.specs.Model.{state, counts}

@@ -8,7 +8,7 @@ use Rattle.lent.specs.declared.Counts.{Counts as Counted}
 use Rattle.lent.specs.declared.Work.{Work}
 use Rattle.scope.specs.Lent.{State, with-flash, with-directory, with-cache}
 use Rattle.scope.specs.Operations.{Operation, Step, Counts, counts-add, counted}
-use Rattle.flash.specs.Listed.{cost}
+use Rattle.flash.specs.Moments.{cost}
 use Rattle.lent.specs.Model.{with-rec, counts}
 use Rattle.lent.specs.Does.{Does}
 use Rattle.lent.specs.DoesLaws.{one-read}

@@ -13,7 +13,7 @@ use Rattle.scope.specs.Regions.{Data, region-pages, Has-page}
 use Rattle.scope.specs.Sound.{Written, current}
 use Rattle.scope.specs.Operations.{Operation}
 use Rattle.scope.specs.Replies.{DONE, UNWRITTEN}
-use Rattle.flash.specs.Listed.{cost}
+use Rattle.flash.specs.Moments.{cost}
 
 -- "The valid data pages are one for each written logical page."
 pub record One-for-each (g : Geometry) (s : State) : Type 0 where

@@ -14,7 +14,8 @@ use Rattle.scope.specs.Lent.{none, valid, Place, Nowhere, State, with-directory
 use Rattle.scope.specs.Regions.{Region, Data, Translation, first-block, region-blocks, page-in, Has-block, Has-page}
 use Rattle.scope.specs.SmallRecord.{SmallRecord, fresh, open-block, next-offset}
 use Rattle.scope.specs.Sound.{Page-fits, Blocks-fit, Entries-fit, rank-of, stored, current, Sound}
-use Rattle.flash.specs.Listed.{counted-++, counts-same, Allowed, allowed-++}
+use Rattle.flash.specs.Moments.{Allowed, Page-erased}
+use Rattle.flash.specs.Listed.{counted-++, counts-same, allowed-++}
 use Rattle.scope.specs.Operations.{Counts, counts-add, counted, Erase, Step, perform, give, set-directory, set-cache, set-small, for, _>>=_}
 use Rattle.scope.specs.Requests.{format-steps}
 use Rattle.flash.specs.Cases.{last, and-true}
@@ -22,7 +23,7 @@ use Rattle.promises.specs.Index.{page-below}
 use Rattle.flash.specs.Searching.{Is-lowest, lowest-cases}
 use Rattle.flash.specs.Words.{Lengths, lengths-with-directory, lengths-with-cache}
 use Rattle.flash.specs.Kept.{apply-keeps-lengths}
-use Rattle.flash.specs.Pages.{Page-erased, erased-same, erase-block}
+use Rattle.flash.specs.Pages.{erased-same, erase-block}
 use Rattle.flash.specs.Places.{in-block, block-on-chip, page-in-region, outside-block}
 use Rattle.region.specs.Carried.{erased-fits}
 

@@ -9,11 +9,12 @@ use Rattle.scope.specs.Regions.{Data, Translation}
 use Rattle.scope.specs.Operations.{Operation, Outcome, apply, apply-all}
 use Rattle.scope.specs.Laws.Applied.{Same-flash, flash-as}
 use Rattle.scope.specs.Sound.{current, Sound}
+use Rattle.flash.specs.Moments.{cost}
 use Rattle.flash.specs.Words.{Lengths}
 use Rattle.flash.specs.Kept.{lengths-still}
 use Rattle.flash.specs.Heads.{Same-head}
 use Rattle.flash.specs.SamePages.{Same-pages, same-refl, same-trans}
-use Rattle.flash.specs.Listed.{cost, cost-++, cost-none}
+use Rattle.flash.specs.Listed.{cost-++, cost-none}
 use Rattle.region.specs.Holds.{Region-holds, contents}
 use Rattle.region.specs.Carried.{holds-same, contents-same}
 use Rattle.region.specs.Done.{Done, done-none, done-then}

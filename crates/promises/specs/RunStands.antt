@@ -16,8 +16,9 @@ use Rattle.scope.specs.Replies.{DONE, UNWRITTEN, Size}
 use Rattle.scope.specs.Requests.{Replied}
 use Rattle.scope.specs.Calls.{kinds, RunReplied, run-replied, part, no-request, serve, answer-record, serve-records, run}
 use Rattle.scope.specs.Laws.Applied.{flash-refl}
+use Rattle.flash.specs.Moments.{cost}
 use Rattle.flash.specs.Cases.{on, below?}
-use Rattle.flash.specs.Listed.{cost, cost-none}
+use Rattle.flash.specs.Listed.{cost-none}
 use Rattle.region.specs.Done.{done-none, done-then}
 use Rattle.promises.specs.Grounds.{All-passed, request-grounds}
 use Rattle.promises.specs.Remembered.{Store, noted-record, noted-records, Tells}

@@ -14,6 +14,7 @@ use Rattle.scope.specs.Operations.{Outcome, give, look, nothing, counted, _>>=_
 use Rattle.scope.specs.Cache.{touch, forget, dropped, is-changed, written-back}
 use Rattle.scope.specs.Steps.{write-back, drop-entry, drop-if-full, fetch, translate, update}
 use Rattle.scope.specs.Sound.{rank-of, Sound}
+use Rattle.flash.specs.Moments.{cost}
 use Rattle.flash.specs.Cases.{on, same?, below?}
 use Rattle.flash.specs.Words.{Lengths}
 use Rattle.flash.specs.Heads.{head-trans}
@@ -21,7 +22,7 @@ use Rattle.scope.specs.Laws.Applied.{flash-refl}
 use Rattle.flash.specs.SamePages.{same-trans}
 use Rattle.region.specs.Done.{Done, done-none, done-then}
 use Rattle.region.specs.DirectoryFollows.{Translation-only}
-use Rattle.flash.specs.Listed.{cost, cost-++, cost-none}
+use Rattle.flash.specs.Listed.{cost-++, cost-none}
 use Rattle.cache.specs.Ranks.{Has-rank, rank-found, rank-missing}
 use Rattle.cache.specs.Holds.{Miss, updated, updated-here, updated-elsewhere, holds-found}
 use Rattle.cache.specs.Steps.{touch-law}

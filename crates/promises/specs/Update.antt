@@ -15,6 +15,7 @@ use Rattle.scope.specs.Sound.{Names}
 use Rattle.scope.specs.Operations.{Read, Outcome, Step, apply, give, look, perform, set-directory, counted, _>>=_}
 use Rattle.scope.specs.Room.{read-page, program-next, make-room}
 use Rattle.scope.specs.Steps.{directory-names-it, directory-follows, begun, set-words, mark-old, update}
+use Rattle.flash.specs.Moments.{cost}
 use Rattle.flash.specs.Bounded.{accepted-region}
 use Rattle.scope.specs.Laws.Applied.{flash-as}
 use Rattle.flash.specs.Cases.{same?}
@@ -22,7 +23,7 @@ use Rattle.flash.specs.Words.{Lengths, lengths-with-directory, length-words-of}
 use Rattle.flash.specs.Places.{page-on-chip}
 use Rattle.flash.specs.Heads.{rest-same, rest-trans}
 use Rattle.flash.specs.SamePages.{same-refl, same-trans}
-use Rattle.flash.specs.Listed.{cost, cost-++, cost-none}
+use Rattle.flash.specs.Listed.{cost-++, cost-none}
 use Rattle.region.specs.Holds.{Holds, Besides, Renames, contents}
 use Rattle.region.specs.Done.{Done, done-none, done-one, done-then}
 use Rattle.region.specs.NextPage.{next-page, Page-written, page-written}

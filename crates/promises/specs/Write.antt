@@ -17,10 +17,11 @@ use Rattle.scope.specs.Steps.{mark-old, cache-follows, translate}
 use Rattle.scope.specs.Replies.{DONE}
 use Rattle.scope.specs.Requests.{Replied, replied, write-steps}
 use Rattle.scope.specs.Sound.{current, Sound}
+use Rattle.flash.specs.Moments.{cost}
 use Rattle.flash.specs.Bounded.{accepted-region}
 use Rattle.flash.specs.Words.{Lengths, lengths-with-cache}
 use Rattle.scope.specs.Laws.Applied.{flash-as}
-use Rattle.flash.specs.Listed.{cost, cost-++, cost-none}
+use Rattle.flash.specs.Listed.{cost-++, cost-none}
 use Rattle.region.specs.Holds.{Holds, Renames, contents}
 use Rattle.region.specs.Elsewhere.{Same-elsewhere}
 use Rattle.region.specs.Done.{Done, done-none, done-then}

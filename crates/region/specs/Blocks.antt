@@ -8,8 +8,9 @@ use Rattle.scope.specs.Geometry.{Geometry}
 use Rattle.scope.specs.Regions.{Region, owners, page-in, Has-block, Has-page}
 use Rattle.scope.specs.Lent.{erased, valid, decode, State, state-of}
 use Rattle.scope.specs.Sound.{Page-fits, Wholly-erased}
+use Rattle.flash.specs.Moments.{Page-erased, Outside}
 use Rattle.flash.specs.Cases.{same?}
-use Rattle.flash.specs.Pages.{Page-same, Page-erased, Outside, Erased}
+use Rattle.flash.specs.Pages.{Page-same, Erased}
 use Rattle.flash.specs.Places.{in-block, outside-block}
 use Rattle.region.specs.Holds.{Region-fits, Besides, Maps, contents}
 use Rattle.region.specs.Carried.{erased-fits, page-fits-same, owners-differ-kept, Owner-same, contents-kept, maps-kept}

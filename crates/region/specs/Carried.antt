@@ -9,7 +9,8 @@ use Rattle.scope.specs.Regions.{Region, owners, Has-block, Has-page}
 use Rattle.scope.specs.Lent.{erased, valid, invalid, Entry, Place, Nowhere, decode, State, state-of, owner-of}
 use Rattle.scope.specs.Sound.{Page-fits, Owners-differ, Wholly-erased, Full, Names}
 use Rattle.scope.specs.Laws.Applied.{Same-flash}
-use Rattle.flash.specs.Pages.{Page-same, page-word, page-alike, Page-erased}
+use Rattle.flash.specs.Moments.{Page-erased}
+use Rattle.flash.specs.Pages.{Page-same, page-word, page-alike}
 use Rattle.flash.specs.Places.{page-in-region}
 use Rattle.flash.specs.SamePages.{Pages-same, Same-pages}
 use Rattle.region.specs.Holds.{Region-fits, Besides, Maps, Region-holds, contents}

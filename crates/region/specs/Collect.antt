@@ -14,6 +14,7 @@ use Rattle.scope.specs.Lent.{valid, decode, State, Mapping, state-of}
 use Rattle.scope.specs.Operations.{Erase, Outcome, apply, look, perform, set-small, _>>=_}
 use Rattle.scope.specs.Room.{Following, erased-blocks, victim, move-pages, open-lowest, collect}
 use Rattle.scope.specs.Laws.Applied.{Same-flash, flash-as}
+use Rattle.flash.specs.Moments.{cost}
 use Rattle.flash.specs.Bounded.{Region-bounded}
 use Rattle.flash.specs.Words.{Lengths}
 use Rattle.flash.specs.Pages.{erase-block}
@@ -21,7 +22,7 @@ use Rattle.flash.specs.Kept.{apply-keeps-lengths, apply-keeps-beside}
 use Rattle.flash.specs.Places.{block-on-chip, page-in-region}
 use Rattle.flash.specs.Heads.{rest-same}
 use Rattle.flash.specs.SamePages.{erase-elsewhere}
-use Rattle.flash.specs.Listed.{cost, cost-first, cost-++, cost-none}
+use Rattle.flash.specs.Listed.{cost-first, cost-++, cost-none}
 use Rattle.region.specs.Holds.{Region-fits, Besides, Holds, contents}
 use Rattle.region.specs.Carried.{region-fits-same, maps-same, maps-viewed, contents-same}
 use Rattle.region.specs.Blocks.{erase-law}

@@ -16,11 +16,12 @@ use Rattle.scope.specs.Blocks.{valid-pages}
 use Rattle.scope.specs.Operations.{Outcome, give, _>>=_}
 use Rattle.scope.specs.Room.{Following, move-if-valid, move-pages}
 use Rattle.scope.specs.Laws.Applied.{flash-refl}
+use Rattle.flash.specs.Moments.{cost}
 use Rattle.flash.specs.Bounded.{Region-bounded}
 use Rattle.flash.specs.Cases.{last}
 use Rattle.flash.specs.Counting.{count-upto}
 use Rattle.flash.specs.Places.{page-in-region, page-in-same}
-use Rattle.flash.specs.Listed.{cost, cost-none, cost-++}
+use Rattle.flash.specs.Listed.{cost-none, cost-++}
 use Rattle.region.specs.Done.{Done, done-none, done-then}
 use Rattle.region.specs.Follower.{View, Invariant, Mover}
 use Rattle.region.specs.NextPage.{next-page}

@@ -5,7 +5,8 @@ use Rattle.scope.specs.Geometry.{Geometry}
 use Rattle.scope.specs.Lent.{State}
 use Rattle.scope.specs.Operations.{Operation, Read, apply, apply-all}
 use Rattle.scope.specs.Laws.Applied.{Same-flash, flash-refl, flash-trans, apply-all-same, apply-all-append}
-use Rattle.flash.specs.Listed.{Allows, Allowed, allowed-++, allowed-same}
+use Rattle.flash.specs.Moments.{Allows, Allowed}
+use Rattle.flash.specs.Listed.{allowed-++, allowed-same}
 
 pub record Done (g : Geometry) (s : State) (ops : List Operation) (s′ : State) : Type 0 where
   pub flash : Same-flash s′ (apply-all g ops s)

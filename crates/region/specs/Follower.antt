@@ -16,7 +16,7 @@ use Rattle.scope.specs.Laws.Applied.{Same-flash}
 use Rattle.flash.specs.Words.{Lengths}
 use Rattle.flash.specs.Heads.{Same-head}
 use Rattle.flash.specs.SamePages.{Same-pages}
-use Rattle.flash.specs.Listed.{cost}
+use Rattle.flash.specs.Moments.{cost}
 use Rattle.region.specs.Elsewhere.{Same-elsewhere}
 use Rattle.region.specs.Holds.{Holds, Renames, contents}
 use Rattle.region.specs.Done.{Done}

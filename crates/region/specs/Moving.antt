@@ -15,11 +15,12 @@ use Rattle.scope.specs.Operations.{Read, Outcome, apply, give, look, perform, _
 use Rattle.scope.specs.Room.{Following, read-page, program-next, move-page, move-if-valid}
 use Rattle.scope.specs.Steps.{mark-old}
 use Rattle.scope.specs.Laws.Applied.{flash-refl}
+use Rattle.flash.specs.Moments.{cost}
 use Rattle.flash.specs.Bounded.{Region-bounded}
 use Rattle.flash.specs.Cases.{on, same?}
 use Rattle.flash.specs.Words.{Lengths, length-words-of}
 use Rattle.flash.specs.Places.{page-on-chip, page-in-region}
-use Rattle.flash.specs.Listed.{cost, cost-none, cost-first, cost-++}
+use Rattle.flash.specs.Listed.{cost-none, cost-first, cost-++}
 use Rattle.region.specs.Holds.{Region-fits, Maps, Renames, contents, valid-page-named}
 use Rattle.region.specs.Carried.{flash-pages, region-fits-same, maps-same}
 use Rattle.region.specs.Elsewhere.{Same-elsewhere}

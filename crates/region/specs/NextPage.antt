@@ -17,11 +17,11 @@ use Rattle.scope.specs.Sound.{Names}
 use Rattle.scope.specs.Laws.Applied.{flash-refl, flash-as}
 use Rattle.flash.specs.Bounded.{Region-bounded}
 use Rattle.flash.specs.Words.{Lengths}
-use Rattle.flash.specs.Pages.{page-trans, Programmed, Marked, program-page, mark-page, Page-erased}
+use Rattle.flash.specs.Pages.{page-trans, Programmed, Marked, program-page, mark-page}
 use Rattle.flash.specs.Places.{page-on-chip, page-in-region}
 use Rattle.flash.specs.Heads.{Same-rest, advanced-block, advanced-offset, advanced-rest}
 use Rattle.flash.specs.Kept.{apply-keeps-lengths}
-use Rattle.flash.specs.Listed.{cost}
+use Rattle.flash.specs.Moments.{cost, Page-erased}
 use Rattle.region.specs.Holds.{Region-fits, Maps}
 use Rattle.region.specs.Carried.{fits-erased}
 use Rattle.region.specs.Elsewhere.{Same-elsewhere}

@@ -3,7 +3,7 @@
 use Prim.Native.Nat.{ℕ, _+_, _≤_}
 use mathlib.Core.Path.{subst}
 use mathlib.Core.List.{List}
-use Rattle.flash.specs.Listed.{cost}
+use Rattle.flash.specs.Moments.{cost}
 use Rattle.flash.specs.Words.{Lengths}
 use Rattle.scope.specs.Geometry.{Geometry}
 use Rattle.scope.specs.Lent.{State}

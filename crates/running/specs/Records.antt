@@ -5,7 +5,8 @@ use mathlib.Core.List.{List, []}
 use native.Mathlib.Omega.{arith}
 use lib.ListN.{length, getD, length-set}
 use lib.Seq.{length-sets}
-use Rattle.flash.specs.Listed.{cost, cost-none, cost-++}
+use Rattle.flash.specs.Moments.{cost}
+use Rattle.flash.specs.Listed.{cost-none, cost-++}
 use Rattle.flash.specs.Words.{Lengths}
 use Rattle.scope.specs.Geometry.{Geometry, Accepted}
 use Rattle.scope.specs.Lent.{State, Request}
