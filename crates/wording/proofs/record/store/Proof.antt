@@ -1,5 +1,12 @@
 -- `wording::record::store` meets its contract: five stores, one after the other.
+use Prim.Native.Nat.{ℕ}
+use mathlib.Core.Path.{_≡_}
+use mathlib.Core.List.{List}
+use lib.ListN.{set}
+use lib.Seq.{sets}
 use borrow.Author.Needs.{needs}
+use Rattle.scope.specs.SmallRecord.{SmallRecord, words-from}
+use Rattle.lent.specs.Model.{small}
 use Rattle.wording.proofs.record.store.Statement.{statement}
 use Rattle.wording.proofs.record.store.Tie as tie
 
@@ -21,8 +28,22 @@ set-word-requires-5 c κs = search needs
 same-length : tie.Need-same-length
 same-length c = search needs
 
+-- Each number is stored at its own place.
+in-order : (l : List ℕ) (r : SmallRecord) {l₁ l₂ l₃ l₄ l₅ : List ℕ} → l₁ ≡ set l 0 (r .open-data) → l₂ ≡ set l₁ 1 (r .data-offset)
+    → l₃ ≡ set l₂ 2 (r .open-translation) → l₄ ≡ set l₃ 3 (r .translation-offset) → l₅ ≡ set l₄ 4 (r .used)
+    → l₅ ≡ sets l 0 (words-from r)
+in-order l r h₁ h₂ h₃ h₄ h₅ = cc
+
 returns : tie.Need-returns
-returns c = cc
+returns c =
+    let fifth = c .before .before in
+    let fourth = fifth .before .before .before .before in
+    let third = fourth .before .before .before .before in
+    let second = third .before .before .before .before in
+    let first = second .before .before .before .before in
+    let a = first .before .before .before .args in
+    in-order (a .«record» .now) (small (a .rec)) (first .put .ensures) (second .put2 .ensures) (third .put3 .ensures) (fourth .put4 .ensures)
+    (fifth .put5 .ensures)
 
 pub store-spec : {M : Type 1} → statement M
 store-spec =
