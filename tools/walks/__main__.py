@@ -1,9 +1,10 @@
-"""Prints proofs of the functions that the borrow checker does not cover: those over a lent record, and over lent requests.
+"""Prints proofs of the functions that the borrow checker does not cover: those over a lent record or lent requests, and those that lend.
 
 WHY
-    A function with a `&mut Record`, a `&Record` or a `&[Request]` among its parameters is proved by a walk of its MIR, some hundreds
-    of lines in which nothing is to be thought about. This tool reads the function in src/ and prints the walk, a whole Proof.antt. It
-    is not trusted: the check refuses a walk that does not fit the source. Print anew after each change of a signature or a contract.
+    A function with a `&mut Record`, a `&Record` or a `&[Request]` among its parameters, or which makes one, is proved by a walk of its
+    MIR, some hundreds of lines in which nothing is to be thought about. This tool reads the function in src/ and prints the walk, a whole
+    Proof.antt. It is not trusted: the check refuses a walk that does not fit the source. Print anew after each change of a signature or
+    a contract.
 
 COMMANDS, from the repository's folder; `rt fmt` after the first
     python3 tools/walks CRATE            writes the proof files of all such functions of a crate, and crates/walks/specs/Rules.antt, the
@@ -13,18 +14,20 @@ COMMANDS, from the repository's folder; `rt fmt` after the first
     python3 tools/walks --check          holds every printed file of the repository to what is printed now, the layout aside
     What does not fit is said in one line, with exit status 1; nothing is written then. tests/walks tries this.
 
-THE SOURCE has one of two shapes; all else goes into the functions that these call, which are covered and take structs by value
+THE SOURCE has one of three shapes; all else is covered, and takes structs by value: the callees of the first two, the callers of the third
     over a record: copies it, makes calls, stores the record that the last one gives    (record.py has the shape)
     a run: a loop over the requests, each given to one callee with the state so far     (run.py)
+    a caller: lends structs that it has by value to one call, gives back what it left   (caller.py)
     Parameters are numbers (u32, u64, usize), structs, `&[u32]`, `&mut [u32]`, `&mut [u32; 64]`, `&[Struct]`, and the record. A function
-    over a record may have local arrays of zeros, which it lends to its callees. An array's length is a number, or a constant whose value is one.
+    over a record may have local arrays of zeros, which it lends to its callees. A caller may have `[Struct; 8]`, and no reference to a
+    struct. An array's length is a number, or a constant whose value is one.
 
 THE CONTRACTS have one `ensures { λ r. ⌜ fact ⌝ }`, and at most one `requires { ⌜ fact ⌝ }`. They speak of a slice or a record by
     `now (x .entry)` and `now (x .exit)` alone. The walk takes the callees' facts from their source, with what `ghost use` brings.
     With one call over a record, the function ensures what its callee does, of `now (rec .entry)`, r and `now (rec .exit)` for what the
-    callee has by value. Else laws of the crate, in specs/ or proofs/, say how contracts follow from each other. They are declared there,
-    or passed on by a line `pub use M.{law as f-none}`. They take proofs alone, so their other arguments are implicit, and a fact is a
-    record type, as `Ran ..`. For a function f:
+    callee has by value. A caller does so too, of `rec`, `r .answer` and `r .rec` for what its callee is lent. Else laws of the crate, in
+    specs/ or proofs/, say how contracts follow from each other. They are declared there, or passed on by a line `pub use M.{law as f-none}`.
+    They take proofs alone, so their other arguments are implicit, and a fact is a record type, as `Ran ..`. For a function f:
 
     f-by            over a record, of several calls: what each callee ensures, in order, gives what f ensures
     f-before-g      the same of the calls before g gives what g requires, where g requires anything; in front, that the list of each
@@ -34,7 +37,8 @@ THE CONTRACTS have one `ensures { λ r. ⌜ fact ⌝ }`, and at most one `requir
                     Request i is `getD rs i (record { .. })`, with 0 in each field
     f-ready         i < length rs, the same of the first i requests, and what f requires give what the callee requires, where it does
 
-LIMITS  A function over a record returns a u32. A request has u32 fields. No statement but those of the shape.
+LIMITS  A function over a record returns a u32. A request has u32 fields. What a caller calls requires nothing. No statement but those of
+    the shape.
 """
 from __future__ import annotations
 
@@ -46,7 +50,9 @@ from typing import NoReturn
 
 sys.dont_write_bytecode = True  # no __pycache__ in the repository
 sys.path.insert(0, str(Path(__file__).parent))
-from params import Record, params_of  # noqa: E402
+from caller import Caller  # noqa: E402
+from kinds import Struct  # noqa: E402
+from params import Record, Slice, params_of  # noqa: E402
 from record import OverRecord  # noqa: E402
 from run import Run  # noqa: E402
 from source import Item, Misfit, Source  # noqa: E402
@@ -64,7 +70,9 @@ def rules() -> str:
 def proof(source: Source, item: Item) -> str:
     """The proof file of a function."""
     f = source.function(item)
-    shape = OverRecord if any(isinstance(p, Record) for p in params_of(f)) else Run
+    params = params_of(f)
+    over_structs = any(isinstance(p, Slice) and isinstance(p.to, Struct) for p in params)
+    shape = OverRecord if any(isinstance(p, Record) for p in params) else Run if over_structs else Caller
     return shape(source, f).file(f"{COMMAND} {item.crate} {item.name}")
 
 
@@ -72,7 +80,7 @@ def write_all(source: Source, crate: str) -> None:
     """Writes the proof files of all walked functions of a crate, and the rules that they cite."""
     proofs, walked = source.root / "crates" / crate / "proofs", source.walked(crate)
     if not walked:
-        raise Misfit(f"crate '{crate}' has no function over a lent record or lent requests")
+        raise Misfit(f"crate '{crate}' has no function over a lent record or lent requests, and none that lends")
     texts = {proofs.joinpath(*item.modules, item.name, "Proof.antt"): proof(source, item) for item in walked}
     for path, text in {**texts, source.root / RULES: rules()}.items():
         path.parent.mkdir(parents=True, exist_ok=True)

@@ -5,7 +5,7 @@ from typing import NamedTuple
 
 from context import Context
 from kinds import TRUE, Kind, Plain
-from params import Lendable, LocalArray
+from params import Lendable
 from source import Function, Misfit
 from text import LOGIC, MACHINE, Terms, arrow, binders, cons, named, nested, nested_type, part, token
 
@@ -18,7 +18,7 @@ class Given(NamedTuple):
     lists: dict[Lendable, tuple[str, str]]     # of what can be lent its list there, and what is known of it
     depends: Pairs                             # the variables that these depend on, ..
     facts: Pairs                               # .. and those that the proofs of them have
-    kept: list[Lendable]                       # what is lent as `&mut` and needed after the call
+    kept: list[Lendable]                       # what is lent and needed after the call, but for `&` slices
     needs: str                                 # a proof of the callee's `requires`
 
 
@@ -35,7 +35,7 @@ class Lent:
         self.type, self.value, self.machine, self.row = p.type, p.at(self.name, items), p.machine, p.row_at(number, self.lifetime)
         # the variables that its value in the call depends on: what is made for the call, and the place of a local
         self.binds = [(self.made, "ℕ"), (self.name, "GName")] if comes_back else []
-        self.binds += [(f"l·{p.local}", "ℕ")] if isinstance(p, LocalArray) else []
+        self.binds += [(f"l·{p.local}", "ℕ")] if p.own else []
 
 
 class Call:
@@ -47,11 +47,11 @@ class Call:
             raise Misfit(f"'{callee.item}' takes {len(callee.params)} arguments, and is given {len(names)}")
         lists, values = {p.name: p for p in given.lists}, {"true": (None, TRUE), **given.values}
         self.args: list[Plain | Lent] = []
-        self.operands: list[int | None] = []  # a local, or none where the argument is `true` or a local array
+        self.operands: list[int | None] = []  # a local, or none where the argument is `true` or a local that is lent
         for place, name in enumerate(names):
             if p := lists.get(name):
                 number = sum(isinstance(a, Lent) for a in self.args)
-                operand = None if isinstance(p, LocalArray) else p.local
+                operand = None if p.own else p.local
                 arg = Lent(p, self.n, place, number, p in given.kept, *given.lists[p])
             elif name in values:
                 operand, arg = values[name]
@@ -61,30 +61,30 @@ class Call:
             self.args.append(arg)
         self.lent = [a for a in self.args if isinstance(a, Lent)]
         self.muts = [a for a in self.lent if a.p.mut]
-        self.arrays = [a for a in self.lent if isinstance(a.p, LocalArray)]
-        self.listed = [a for a in self.lent if a not in self.arrays]
-        self.lent_on: dict[Lent, int] = {}  # of each `&mut` the last of the locals by which it is lent on
-        self.state = given.depends + [pair for a in self.muts for pair in a.binds]
+        self.locals, self.listed = ([a for a in self.lent if a.p.own == own] for own in (True, False))
+        self.anew = [a for a in self.lent if a.p.mut or a.p.own]  # lent by a reference that is made for the call; a `&` slice is copied
+        self.lent_on: dict[Lent, int] = {}  # of each of those the last of the locals by which it is lent on
+        self.state = given.depends + [pair for a in self.lent for pair in a.binds]
         self.to, self.ca, self.cv, self.gives = (f"({name}{self.n} {named(self.state)})" for name in ("to", "ca", "cv", "gives"))
         self.contract, self.lifetimes = f"Callee{self.n} 𝓤 H A mm rn", nested(a.lifetime for a in self.lent)
         # what is known after the call: the result, the last values of all arguments, what the `ensures` says of them, what is known of
-        # the result, that each last list of a slice is as long as the one given, and how a local array lies in its local; in the `post`,
+        # the result, that each last list of a slice is as long as the one given, and how a local lies there; in the `post`,
         # that the result is related to the machine value w
         self.result = out.plain(f"r{self.n}", f"is{self.n}")
-        self.lasts = nested_type("List ℕ" if a in self.muts else "Unit {0}" for a in self.args)
+        self.lasts = nested_type(a.p.behind if a in self.muts else "Unit {0}" for a in self.args)
         self.values: Pairs = [(f"r{self.n}", out.type), (f"zs{self.n}", self.lasts)]
         self.did = (f"did{self.n}", f"Did{self.n} {named(given.depends + self.values)}")
         self.known = (f"is{self.n}", out.known(f"r{self.n}"))
         self.lengths: Pairs = [(f"d{self.n}·{a.x}", f"length {a.last} ≡ length {a.items}") for a in self.muts if a.p.sized]
-        lie: Pairs = [(a.p.known_after(self.n, a.known), a.p.to.known(a.last)) for a in self.arrays]
+        lie: Pairs = [(a.p.known_after(self.n, a.known), a.p.to.known(a.last)) for a in self.locals]
         self.results: Pairs = [*self.values, self.did, self.known, *self.lengths, *lie]
         self.heard: Pairs = [*self.values, self.did, (f"was{self.n}", f"Is {out.row} r{self.n} (w{self.n} ∷ [])"), *self.lengths]
         self.knows = out.knows(f"r{self.n}", f"was{self.n}")
 
     def number_locals(self, first: int) -> list[str]:
-        """Gives each `&mut` the locals by which it is lent on, from `first` on; their machine types."""
+        """Gives what is lent anew the locals by which it is lent on, from `first` on; their machine types."""
         types: list[str] = []
-        for a in self.muts:
+        for a in self.anew:
             types += a.p.on
             self.lent_on[a] = first + len(types) - 1
         self.extra_locals = range(first, first + len(types))
@@ -186,7 +186,7 @@ Callee{n} 𝓤 H A mm rn = tripleOf 𝓤 H A callee{n}.signature (callee{n}.spec
     def steps(self, c: Context, slot: int, how: str) -> None:
         """From what the walk has of all that is lent to the result in the local `slot`, and what it has of that after the call."""
         n, out, items = self.n, self.out, self.given_items()
-        for a in self.muts:
+        for a in self.anew:
             a.p.lend_on(c, self.lent_on[a])
         for a in self.lent:
             self.lend(c, a)
@@ -202,11 +202,11 @@ Callee{n} 𝓤 H A mm rn = tripleOf 𝓤 H A callee{n}.signature (callee{n}.spec
         c.rule(f"land ! (from ! (stop !)) ({how} ! {c.cell(slot)} refl ({out.lawful} .typed r{n} _ was{n} .0))")
         tells, cell = f"(ap only ({out.tells} r{n} _ was{n}))", f"(λ (v : Val). ‵ (fat fullShare {out.machine_type} l·{slot} 0 v))"
         c.rule(f"rewrite ! {c.cell(slot)} {cell} {tells} refl").line()
-        for a in (a for a in self.muts if a.comes_back):
+        for a in (a for a in self.lent if a.comes_back):
             a.p.come_back(c, n, a.items, a.last, a.known)
 
     def lend(self, c: Context, a: Lent) -> None:
-        """A `&mut` that comes back is lent for a lifetime made for the call; of a `&` slice a copy is made."""
+        """What comes back is lent for a lifetime made for the call; of a `&` slice a copy is made."""
         p, x = a.p, a.x
         if a.comes_back:
             p.lend(c, a.number, a.items, a.known, f"{a.made} {a.name}")

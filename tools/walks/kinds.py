@@ -95,16 +95,19 @@ class Struct(Kind):
 
 
 class Array(Kind):
-    """[u32; n] or [u64; n]: in contracts a list."""
+    """[u32; n], [u64; n] or [Struct; n]: in contracts a list."""
 
-    def __init__(self, of: Number, n: str):
+    def __init__(self, of: Kind, n: str):
         self.of, self.n = of, n
-        self.type, self.row, self.machine_type = "(List ℕ)", f"(Array {of.row} {n})", f"(tyArray {of.machine_type} {n})"
+        self.type, self.row, self.machine_type = f"(List {of.type})", f"(Array {of.row} {n})", f"(tyArray {of.machine_type} {n})"
         self.vals, self.tells = f"array-vals ({of.vals})", f"array-tells {of.row} ({of.vals}) ({of.tells}) {n}"
         self.lawful, self.makes = f"array-lawful 𝓤 H A W {of.row} ({of.lawful}) {n}", f"(array-makes 𝓤 H A W {of.row} {of.makes} {n})"
 
     def machine(self, value: str) -> str:
         return f"(only ({self.vals} {value}))"
+
+    def knows(self, value: str, related: str) -> str:
+        return f"(subst (Is {self.row} {value}) ({self.tells} {value} _ {related}) {related})"
 
 
 U32, USIZE = Number("u32"), Number("usize")

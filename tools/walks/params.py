@@ -1,4 +1,4 @@
-"""The parameters of a walked function, its local arrays, and what the parts of a walk say of each."""
+"""The parameters of a walked function, and what the parts of a walk say of each."""
 from __future__ import annotations
 
 import re
@@ -6,7 +6,7 @@ import re
 from context import Context
 from kinds import USIZE, Array, Kind, Number, Struct, kind_of
 from source import Function, Misfit
-from text import named, part, token
+from text import part, token
 
 
 class Param:
@@ -32,7 +32,7 @@ class Param:
 
 
 class ByValue(Param):
-    """A number or a struct."""
+    """A number, a struct or an array."""
 
     def __init__(self, name: str, place: int, kind: Kind):
         super().__init__(name, place)
@@ -60,16 +60,19 @@ class Reference(Param):
 
 
 class Lendable:
-    """What is lent to a callee, and is a list in contracts: a slice, an array behind a `&mut`, or a local array. Of its list so far a
-    walk has a proof, `known`: of a slice, that it is as long as at entry; of a local array, how it lies in its local; else none."""
+    """What is lent to a callee: a slice, an array behind a `&mut`, or a local (held.py). In contracts it is a list, or a struct, which
+    is called its list here too. Of its list so far a walk has a proof, `known`: of a slice, that it is as long as at entry; of a local,
+    how it lies there; else none."""
 
     x: str
     name: str          # as an argument
     local: int
+    own = False        # whether it is a local of the function's own, and no parameter
     mut: bool
     sized: bool        # whether its length is told by its list alone, and not by its type
     list: str          # its first list, ..
     known: str         # .. and the proof of it
+    behind = "List ℕ"  # the type of that
     type: str          # of the reference in contracts
     machine: str       # the machine value of the reference
     on: list[str]      # the machine types of the locals by which it is lent on
@@ -171,12 +174,16 @@ class Slice(Listed):
         return f"d{n}·{self.x}" if known == "refl" else f"(d{n}·{self.x} ∙ {known})"
 
 
-class ArrayLent(Lendable):
-    """What a local array that is lent and an array behind a `&mut` share: the reference to it, which points to `place`."""
+class ThinLent(Lendable):
+    """What a local that is lent as `&mut` and an array behind a `&mut` share: the reference to it, which points to `place`."""
 
-    mut, sized, type, typing = True, False, "RefT (List ℕ)", "(tt, tt)"
+    mut, sized, typing = True, False, "(tt, tt)"
     place: str
-    to: Array
+    to: Kind
+
+    @property
+    def type(self) -> str:
+        return f"RefT {self.to.type}"
 
     def at(self, name: str, items: str) -> str:
         return f"to-one {self.to.row} {self.place} {name} {items}"
@@ -188,7 +195,7 @@ class ArrayLent(Lendable):
         return f"‵ (fres {name or f'γ·{self.x}'} ({self.to.row} .coded .code {items}))"
 
 
-class ArrayRef(ArrayLent, Listed):
+class ArrayRef(ThinLent, Listed):
     """A `&mut [u32; n]` or a `&mut [u64; n]`."""
 
     form, known = "ref", "tt"
@@ -214,44 +221,6 @@ class ArrayRef(ArrayLent, Listed):
         c.front(f"fresh {x}", f"kept {x}", f"last {x}").rule(back, 3, [f"own {x}", f"token {x}"]).line()
 
 
-class LocalArray(ArrayLent):
-    """`let mut x = [0u32; n];`, lent as `&mut x`. Its first list is a variable, of which the walk has that it is zeros: so no proof that
-    the check computes with has n elements."""
-
-    def __init__(self, name: str, local: int, to: Array):
-        self.name, self.x, self.local, self.to = f"&mut {name}", name.replace("_", "-"), local, to
-        self.list, self.known, self.place = f"l·{self.x}", f"is·{self.x}", f"l·{local} 0"
-        self.machine, self.on = f"(vptr {self.place})", [f"(tyRef erased mut {to.machine_type})"]
-        self.zeros = (f"zeros·{self.x}", f"{self.list} ≡ replicate {to.n} 0")
-        self.made = [(self.list, "List ℕ"), self.zeros, (self.known, to.known(self.list))]  # what is known once it is made
-
-    def held(self, items: str) -> str:
-        """What its local owns, at that list."""
-        return f"‵ (fat fullShare {self.to.machine_type} l·{self.local} 0 {self.to.machine(items)})"
-
-    def make(self, c: Context) -> None:
-        """The statement that makes it."""
-        n, cell, fits = self.to.n, f"cell {self.local}", f"{self.to.of.width} (lit< tt)"
-        c.assign(self.local, f"(rep ! {n} (lit ! tt))", f"(zeros-typed {fits} 𝓤 H A W {n})")
-        c.front(cell).bind(f"zeroed ! {fits} {n} l·{self.local}", named(self.made), 1, [cell]).line()
-
-    def lend_on(self, c: Context, local: int) -> None:
-        c.assign(local, "(addr ! (from ! (stop !)))", "(tt, tt)")
-
-    def lend(self, c: Context, number: int, items: str, known: str, made: str) -> None:
-        x, to = self.x, self.to.plain(items, known)
-        c.rule(to.owned, 0, ["own array"]).front(f"cell {self.local}", "own array")
-        lends = f"lends-local ! tt {to.row} (named {number}) l·{self.local} {items} ({to.machine} ∷ [])"
-        c.bind(lends, made, 2, [f"fresh {x}", f"lent {x}", f"kept {x}"]).line()
-
-    def come_back(self, c: Context, n: str, items: str, last: str, known: str) -> None:
-        x, back = self.x, f"local-back ! tt {self.to.row} ({self.to.vals}) ({self.to.tells}) l·{self.local} {last}"
-        c.front(f"fresh {x}", f"kept {x}", f"last {x}").bind(back, self.known_after(n, known), 3, [f"cell {self.local}"]).line()
-
-    def known_after(self, n: str, known: str) -> str:
-        return f"is{n}·{self.x}"
-
-
 class Record(Reference):
     """A `&mut Record` or a `&Record`."""
 
@@ -275,8 +244,8 @@ def params_of(f: Function) -> list[Param]:
         m = re.fullmatch(r"(?P<ref>& ?(?P<mut>mut )?)?(?P<slice>\[)?(?P<to>[\w:]+)(?:; (?P<n>\d+))?\]?", text)
         to = m and kind_of(m["to"], f)
         lifetime = sum(isinstance(p, Reference) for p in params)
-        if m and not m["ref"] and not m["slice"]:
-            params.append(ByValue(name, place, to))
+        if m and not m["ref"] and bool(m["slice"]) == bool(m["n"]):
+            params.append(ByValue(name, place, Array(to, m["n"]) if m["n"] else to))
         elif m and m["n"] and m["ref"] and m["mut"] and isinstance(to, Number):
             params.append(ArrayRef(name, place, lifetime, True, Array(to, m["n"])))
         elif m and m["ref"] and not m["n"] and (isinstance(to, Number) or not m["mut"] if m["slice"] else isinstance(to, Struct)):

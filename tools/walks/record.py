@@ -23,8 +23,9 @@ from typing import NamedTuple
 
 from calls import Call, Given, Pairs
 from context import Context
+from held import LocalArray
 from kinds import U32, WIDTHS, Array, Number, Plain, Struct, kind_of
-from params import LocalArray, Record, Slice
+from params import Record, Slice
 from source import Function, Misfit, Source, split_list
 from text import binders, cons, field, kebab, named, part
 from walk import Walk
@@ -164,7 +165,7 @@ class OverRecord(Walk):
         items = {f"own {a.x}": a.p.owned(a.items) for a in call.listed}
         items.update({f"token {a.x}": a.p.token for a in call.listed})
         items.update({f"cell {i}": self.cell(i, a.machine) for i, a in zip(call.operands, call.args) if i is not None})
-        items.update({f"cell {a.p.local}": a.p.held(a.items) for a in call.arrays})
+        items.update({f"cell {a.p.local}": a.p.held(a.items) for a in call.locals})
         return {**items, **{f"cell {i}": self.cell(i) for i in [self.slots[call.k - 1], *call.extra_locals]}}
 
     def put(self, call: Call) -> dict[str, str]:
@@ -172,7 +173,7 @@ class OverRecord(Walk):
         gone, slot = [a for a in call.muts if not a.comes_back], self.slots[call.k - 1]
         items = {f"last {a.x}" if a in gone else f"own {a.x}": (a.p.last if a in gone else a.p.owned)(a.last) for a in call.listed}
         items.update({name: item for name, item in self.taken(call).items() if not name.startswith("own")})
-        items.update({f"cell {a.p.local}": a.p.held(a.last) for a in call.arrays})
+        items.update({f"cell {a.p.local}": a.p.held(a.last) for a in call.locals})
         return {**items, f"cell {slot}": self.cell(slot, call.result.machine)}
 
     def lemma(self, call: Call, statement: int, following: int) -> str:

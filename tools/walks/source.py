@@ -65,8 +65,8 @@ def split_list(text: str) -> list[str]:
 
 
 def typed_names(text: str) -> list[tuple[str, str]]:
-    """'pub a: u32, b: &[u32]' in pairs."""
-    pairs = [part.removeprefix("pub ").partition(": ") for part in split_list(text)]
+    """'pub a: u32, mut b: Record, c: &[u32]' in pairs."""
+    pairs = [part.removeprefix("pub ").removeprefix("mut ").partition(": ") for part in split_list(text)]
     return [(name, kind) for name, _, kind in pairs]
 
 
@@ -151,21 +151,31 @@ class Source:
         body = self.counted(file, " ".join(text[start:end].split()))
         return Function(item, file, params, result[1] if result else "", clause(item, clauses["requires"]), ensures, body)
 
-    def functions(self, crate: str) -> list[tuple[Item, str]]:
-        """All functions of a crate, with the text of their parameters."""
-        return [(Item(crate, file.modules, m[1]), file.text[m.end():closing(file.text, m.end() - 1)])
-                for file in self.files(crate) for m in re.finditer(r"\bfn (\w+)\s*\(", file.text)]
+    def functions(self, crate: str) -> list[tuple[Item, str, str]]:
+        """All functions of a crate, with the text of their parameters, and the text from there to the next function."""
+        found = []
+        for file in self.files(crate):
+            starts = list(re.finditer(r"\bfn (\w+)\s*\(", file.text))
+            for m, following in zip(starts, [*(m.start() for m in starts[1:]), len(file.text)]):
+                end = closing(file.text, m.end() - 1)
+                found.append((Item(crate, file.modules, m[1]), file.text[m.end():end], file.text[end:following]))
+        return found
 
     def named(self, crate: str, name: str) -> Item:
         """The function of that name, wherever in the crate it stands."""
-        found = [item for item, _ in self.functions(crate) if item.name == name]
+        found = [item for item, _, _ in self.functions(crate) if item.name == name]
         if len(found) != 1:
             raise Misfit(f"crate '{crate}' has {len(found) or 'no'} function '{name}'")
         return found[0]
 
     def walked(self, crate: str) -> list[Item]:
-        """The functions with a reference to a struct, or to a slice of structs, among their parameters."""
-        return [item for item, params in self.functions(crate) if re.search(r"&\s*(mut )?\[?(\w+::)*[A-Z]", params)]
+        """The functions with a reference to a struct, or to a slice of structs, among their parameters, or which lend such a parameter."""
+        def lends(params: str, rest: str) -> bool:
+            structs = [name for name, kind in typed_names(params) if re.match(r"\[?(\w+::)*[A-Z]", kind)]
+            return any(re.search(rf"&\s*(mut )?{name}\b(?![\[.])", rest) for name in structs)
+
+        return [item for item, params, rest in self.functions(crate)
+                if re.search(r"&\s*(mut )?\[?(\w+::)*[A-Z]", params) or lends(params, rest)]
 
     def law(self, crate: str, name: str) -> str:
         """The module of the crate that has the law."""

@@ -64,9 +64,10 @@ denote.Triple.Walked: says needs Stays stay-ref gave-ref gave-slice stay-slice s
 denote.Triple.Walked: goes-none goes-ref goes-gave-ref goes-gave-slice goes-slice goes-none-slice goes-none-ref Walks ends-at walked walk-meets
 denote.Exit: yes"""
 OF_THE_LOGIC = {name: line.partition(": ")[0] for line in IMPORTS.splitlines() for name in line.partition(": ")[2].split()}
-RULES = "slice lends-again comes-back to-one lends-ref-again ref-comes-back lends-local local-back zeros-typed zeroed holds bare frees-all".split()
-OF_THE_WALK = {*"a vals Post needed stayed exits walk walks all-go En St At Turned Nearer Nearer-wf more ends turns begin looping no-request "
-               "i-fits place-fits next-fits".split(), *RULES}
+RULES = ("slice lends-again comes-back to-one lends-ref-again ref-comes-back lends-local local-back as-raw as-named shares-local shared-back "
+         "shares-elements elements-back zeros-typed zeroed holds bare frees-all").split()
+OF_THE_WALK = {*"a vals Post needed stayed exits walk walks all-go made En St At Turned Nearer Nearer-wf more ends turns begin looping "
+               "no-request i-fits place-fits next-fits".split(), *RULES}
 
 EDGE = r"\s(){},;"  # what stands at the ends of a word of antt
 

@@ -3,7 +3,7 @@ from __future__ import annotations
 
 from calls import Call
 from context import Context
-from kinds import Plain, Struct
+from kinds import Array, Plain, Struct, kind_of
 from params import ByValue, Listed, Param, Reference, params_of
 from source import Clause, Function, Misfit, Source
 from text import LOGIC, MACHINE, RULES, Terms, cited_by, cons, imports_for, kebab, nested, nested_type, use_lines, words_of
@@ -77,7 +77,8 @@ class Walk:
     def uses(self, body: str) -> str:
         """The `use` lines of the repository's own modules."""
         kinds = [*(call.out for call in self.calls), *(p.to for p in self.refs), *(p.kind for p in self.params if isinstance(p, ByValue))]
-        structs = {kind.name: kind for kind in kinds if isinstance(kind, Struct)}
+        parts = (kind.of if isinstance(kind, Array) else kind for kind in [*kinds, kind_of(self.f.result, self.f)])
+        structs = {kind.name: kind for kind in parts if isinstance(kind, Struct)}
         module = self.f.item.module("proofs", self.own)
         return "".join([
             "use denote.Struct.Laws as LL\n", *(s.uses(self.own) for s in structs.values()), *(call.uses(self.own) for call in self.calls),
