@@ -17,7 +17,8 @@ THE SOURCE has one of two shapes; all else goes into the functions that these ca
     over a record: copies it, makes calls, stores the record that the last one gives    (record.py has the shape)
     a run: a loop over the requests, each given to one callee with the state so far     (run.py)
     Parameters are numbers (u32, u64, usize), structs, `&[u32]`, `&mut [u32]`, `&mut [u32; 64]`, `&[Struct]`, and the record. A function
-    over a record may have local arrays of zeros, which it lends to its callees. An array's length is a number, or a constant whose value is one.
+    over a record may have local arrays of zeros, which it lends to its callees. An array's length, and what a callee is given, may be a number,
+    or a constant, in capitals, whose value is one.
 
 THE CONTRACTS have one `ensures { λ r. ⌜ fact ⌝ }`, and at most one `requires { ⌜ fact ⌝ }`. They speak of a slice or a record by
     `now (x .entry)` and `now (x .exit)` alone. The walk takes the callees' facts from their source, with what `ghost use` brings.
@@ -64,6 +65,7 @@ def rules() -> str:
 def proof(source: Source, item: Item) -> str:
     """The proof file of a function."""
     f = source.function(item)
+    f = f._replace(body=source.counted(f.file, f.body))
     shape = OverRecord if any(isinstance(p, Record) for p in params_of(f)) else Run
     return shape(source, f).file(f"{COMMAND} {item.crate} {item.name}")
 
