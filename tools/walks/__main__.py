@@ -20,7 +20,7 @@ THE SOURCE has one of three shapes; all else is covered, and takes structs by va
     a caller: lends structs that it has by value to one call, gives back what it left   (caller.py)
     Parameters are numbers (u32, u64, usize), structs, `&[u32]`, `&mut [u32]`, `&mut [u32; 64]`, `&[Struct]`, and the record. A function
     over a record may have local arrays of zeros, which it lends to its callees. A caller may have `[Struct; 8]`, and no reference to a
-    struct. An array's length is a number, or a constant whose value is one.
+    struct. An array's length, and what a callee is given, may be a number, or a constant, in capitals, whose value is one.
 
 THE CONTRACTS have one `ensures { λ r. ⌜ fact ⌝ }`, and at most one `requires { ⌜ fact ⌝ }`. They speak of a slice or a record by
     `now (x .entry)` and `now (x .exit)` alone. The walk takes the callees' facts from their source, with what `ghost use` brings.
@@ -70,6 +70,7 @@ def rules() -> str:
 def proof(source: Source, item: Item) -> str:
     """The proof file of a function."""
     f = source.function(item)
+    f = f._replace(body=source.counted(f.file, f.body))
     params = params_of(f)
     over_structs = any(isinstance(p, Slice) and isinstance(p.to, Struct) for p in params)
     shape = OverRecord if any(isinstance(p, Record) for p in params) else Run if over_structs else Caller

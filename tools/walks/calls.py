@@ -4,7 +4,7 @@ from __future__ import annotations
 from typing import NamedTuple
 
 from context import Context
-from kinds import TRUE, Kind, Plain
+from kinds import Kind, Plain, kind_of
 from params import Lendable
 from source import Function, Misfit
 from text import LOGIC, MACHINE, Terms, arrow, binders, cons, named, nested, nested_type, part, token
@@ -45,16 +45,18 @@ class Call:
         self.k, self.n, self.callee, self.out, self.given = k, f"·{k}", callee, out, given
         if len(names) != len(callee.params):
             raise Misfit(f"'{callee.item}' takes {len(callee.params)} arguments, and is given {len(names)}")
-        lists, values = {p.name: p for p in given.lists}, {"true": (None, TRUE), **given.values}
+        lists = {p.name: p for p in given.lists}
         self.args: list[Plain | Lent] = []
-        self.operands: list[int | None] = []  # a local, or none where the argument is `true` or a local that is lent
+        self.operands: list[int | None] = []  # a local, or none where the argument is a number or a local that is lent
         for place, name in enumerate(names):
             if p := lists.get(name):
                 number = sum(isinstance(a, Lent) for a in self.args)
                 operand = None if p.own else p.local
                 arg = Lent(p, self.n, place, number, p in given.kept, *given.lists[p])
-            elif name in values:
-                operand, arg = values[name]
+            elif name in given.values:
+                operand, arg = given.values[name]
+            elif name.isdigit():
+                operand, arg = None, kind_of(callee.params[place][1], callee).plain(name, "(refl, lit< tt)")
             else:
                 raise Misfit(f"'{callee.item}' is given '{name}', which is no local or parameter that a walk can give")
             self.operands.append(operand)
@@ -195,7 +197,7 @@ Callee{n} 𝓤 H A mm rn = tripleOf 𝓤 H A callee{n}.signature (callee{n}.spec
         operands = "no-more !"
         for a, operand in reversed(list(zip(self.args, self.operands))):
             local = self.lent_on.get(a, operand) if isinstance(a, Lent) else operand
-            read = "(true-lit !)" if local is None else c.load(local)
+            read = "(lit ! tt)" if local is None else c.load(local)
             operands = f"and-then ! {read} ({operands})"
         c.bind(f"calls-at ! fm ({self.contract}) known{n} {self.to} ({operands})", f"w{n}", 1, ["post"]).line()
         c.bind(f"come{n} {named(self.state)} w{n} _ tt", named(self.heard), 1, list(self.come_items())).line()

@@ -9,7 +9,7 @@ WIDTHS = {"u32": "w32", "u64": "w64", "usize": "w64"}
 
 
 class Plain(NamedTuple):
-    """A value that is a number, a bool, a struct or an array."""
+    """A value that is a number, a struct or an array."""
     type: str          # in contracts
     value: str
     machine_type: str
@@ -111,7 +111,6 @@ class Array(Kind):
 
 
 U32, USIZE = Number("u32"), Number("usize")
-TRUE = Plain("Bool", "true", "tyBool", "(vbool true)", "(tt, tt)", "bool", "owned ! bool (Is bool) (bool-makes 𝓤 H A W) true _ refl")
 
 
 def kind_of(name: str, f: Function) -> Kind:

@@ -5,12 +5,12 @@
         let r = *rec;
         let n = chip.len();                                      any number of these, or none
         let mut seen = [0u64; 16];                               and of these, at u32 or u64
-        let out = read_step(r, n, true, g, page, chip, counts, &mut seen);
+        let out = read_step(r, n, 5, g, page, chip, counts, &mut seen);
         *rec = out.rec;
         out.answer
     }
 
-There may be several calls: each is given any of r, the lengths, the parameters, `true`, a local array as `&mut seen`, and the results of
+There may be several calls: each is given any of r, the lengths, the parameters, numbers, a local array as `&mut seen`, and the results of
 calls before it.
 With `rec: &Record` there is no store, and the last call may be the end of the body, if it returns the answer itself.
 Each call is a lemma, `call·k`: a rule that takes what the call needs off the front of the context, with any rest Γ, and puts what comes

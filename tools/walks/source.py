@@ -123,16 +123,16 @@ class Source:
         return typed_names(file.text[at + 1:closing(file.text, at)])
 
     def counted(self, file: File, text: str) -> str:
-        """That text of a file with a number for each constant that is an array's length: [u32; 16] for [u32; SEEN]."""
+        """That text of a file with a number for each constant that is a length or an argument: [u32; 16] for [u32; SEEN]."""
 
         def number(m: re.Match) -> str:
             const = file.leads_to(m[0])
             there, at = self.found(const, "const", ":")
             if value := re.compile(r": usize = (\d+);").match(there.text, at):
                 return value[1]
-            raise Misfit(f"'{const}' is a length, and no usize with a number for its value")
+            raise Misfit(f"'{const}' is no usize with a number for its value")
 
-        return re.sub(r"(?<=; )(?:\w+::)*[A-Z]\w*(?=\])", number, text)
+        return re.sub(r"(?<![\w:])(?:\w+::)*[A-Z][A-Z0-9_]+(?=[,)\]])", number, text)
 
     def function(self, item: Item) -> Function:
         file, at = self.found(item, "fn", "(")
@@ -148,7 +148,7 @@ class Source:
         ensures = clause(item, clauses["ensures"])
         if not m or not ensures:
             raise Misfit(f"'{item}' has no body or no `ensures`")
-        body = self.counted(file, " ".join(text[start:end].split()))
+        body = " ".join(text[start:end].split())
         return Function(item, file, params, result[1] if result else "", clause(item, clauses["requires"]), ensures, body)
 
     def functions(self, crate: str) -> list[tuple[Item, str, str]]:

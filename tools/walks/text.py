@@ -12,7 +12,7 @@ MACHINE = "(mm : Memory → SProp 𝓤) (rn : Routine → Fun 𝓤)"
 IMPORTS = """\
 mathlib.Core.Path: _≡_ refl sym ap subst _∙_
 mathlib.Core.Logic: _⊎_ inl inr
-mathlib.Core.Bool: Bool true
+mathlib.Core.Bool: Bool
 mathlib.Core.WellFounded: WellFounded InvImage·wf
 Prim.Native.Nat: ℕ _+_ _-_ _*_ _≤_ _<_ _^_ zero-le
 native.Mathlib.Nat: eq-or-lt-of-le le-of-eq
@@ -36,7 +36,7 @@ contract.Monad: Fun fact
 contract.Running: givenOf tables tablesOf
 types.Kit: Goal Soaks Given Item ‵ raw some later _⊛_ ⋆ runs anyQ atRet Sq _$_ _∵_ ! qed by move keep drop cut use1 split join pick rewrite
 types.Kit: fsplit fsplit3 fjoin fjoin3 feqL feqI suffices frame await done
-types.Run: look look-raw init store store-raw forget stop hop fld from load lit true-lit bin addr of-opd and-then no-more
+types.Run: look look-raw init store store-raw forget stop hop fld from load lit bin addr of-opd and-then no-more
 types.Run: assigns assigns-last land first blocks stays leaves-loop returns enter alloc1 alloc0 params1 pass1 pass0 exec Below again loops
 types.Part: agg rep whole sub look-in
 types.SemTy: Body
@@ -44,8 +44,8 @@ sound.WpLaws: FmC fmOf WpFn-mono
 denote.RattleType: owns
 denote.Laws: Is shows
 denote.Memory: mem pointee partAt
-denote.Plain: uint-vals uint-tells uint-lawful uint-makes bool-makes
-denote.Builtin: u32 u64 usize bool
+denote.Plain: uint-vals uint-tells uint-lawful uint-makes
+denote.Builtin: u32 u64 usize
 denote.Array: Array array-vals array-tells array-lawful array-makes
 denote.Ref: RefT MutRef ShrRef ptr-vals mut-tells shr-tells
 denote.Slice: sliceTy sliceVal MutSlice ShrSlice Room finally slice-vals mut-slice-tells shr-slice-tells shr-slice-copy

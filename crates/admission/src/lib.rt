@@ -12,13 +12,11 @@ use replies::tests::request_answer;
 use replies::tests::size_answer;
 use soundness::sound::is_sound;
 ghost use mathlib.Core.Path.{_≡_};
-ghost use mathlib.Core.Bool.{_&&_};
 ghost use Prim.Native.Nat.{_≤_};
-ghost use lib.Dec.{eqb};
 ghost use lib.ListN.{length};
 ghost use Rattle.lent.specs.Model.{geometry, state};
 ghost use Rattle.lent.specs.Notes.{census-words};
-ghost use Rattle.scope.specs.Boundary.{counts-words};
+ghost use Rattle.scope.specs.Boundary.{call-sizes};
 ghost use Rattle.scope.specs.Replies.{DONE};
 ghost use Rattle.replies.specs.Model.{request};
 ghost use Rattle.admission.specs.Tested.{State-tested};
@@ -105,10 +103,10 @@ pub fn check_answer(
     DONE
 }
 
-// All tests of a single request: the state's, with the lengths of its page buffer and its counts, and then its own.
+// All tests of a single request: the state's, with the lengths of what else it lends, and then its own.
 pub fn single_answer(
     rec: Record,
-    boundary: bool,
+    record_words: usize,
     g: Geometry,
     q: Request,
     buffer: usize,
@@ -121,11 +119,11 @@ pub fn single_answer(
     filter: &mut [u64; FILTER_WORDS],
 ) -> u32
     requires { ⌜ census-words ≤ length (now census) ⌝ }
-    ensures { λ r. ⌜ Single-tested (geometry g) (boundary && eqb counts counts-words) (request q) buffer
+    ensures { λ r. ⌜ Single-tested (geometry g) (call-sizes «record_words» counts) (request q) buffer
         (state (now (chip .entry)) (now (spare .entry)) (now (directory .entry)) (now (cache .entry)) rec) r
         (now (census .exit)) (now (filter .exit)) ⌝ }
 {
-    let right = page_lengths_right(g, boundary, buffer, counts);
+    let right = page_lengths_right(g, record_words, buffer, counts);
     let answer = state_answer(rec, right, g, chip, spare, directory, cache, census, filter);
     if answer != DONE {
         return answer;

@@ -1,27 +1,27 @@
 -- Format, refused and served.
 use Prim.Native.Nat.{ℕ}
-use mathlib.Core.Path.{_≡_, sym, _∙_}
+use mathlib.Core.Path.{_≡_, ap, sym, _∙_}
 use mathlib.Core.Logic.{_≢_}
 use mathlib.Core.Bool.{Bool, _&&_}
-use mathlib.Core.List.{List}
+use mathlib.Core.List.{List, _++_}
 use Rattle.lent.specs.Does.{Does}
 use Rattle.scope.specs.Geometry.{Geometry}
 use Rattle.scope.specs.Lent.{State}
 use Rattle.scope.specs.Operations.{Counts, no-counts}
-use Rattle.scope.specs.Replies.{DONE, first-applying, right-sizes}
+use Rattle.scope.specs.Replies.{DONE, Size, first-applying, right-sizes}
 use Rattle.scope.specs.Requests.{format-steps}
 use Rattle.scope.specs.Calls.{state-sizes, size-tests, format}
 use Rattle.formatting.specs.Fresh.{Sized-state}
 use Rattle.scope.specs.Boundary.{put-counts}
 use Rattle.scope.specs.Contracts.{Answers}
 use Rattle.replies.specs.Answers.{does-answers, refuses, admits}
+use Rattle.replies.specs.Sizes.{with-others}
 use Rattle.admission.specs.Tested.{sizes-pass, geometry-passes, lengths-pass}
 
--- The code tests with `right`, its own name for whether the lengths beside the state's are right.
-module _ (g : Geometry) (s : State) {right others : Bool} {n : ℕ} (named : right ≡ others)
+module _ (g : Geometry) (s : State) (others : List Size) {right : Bool} {n : ℕ} (named : right ≡ right-sizes others)
     (tested : n ≡ first-applying (size-tests g (right-sizes (state-sizes g s) && right))) where
-  answered : n ≡ first-applying (size-tests g (right-sizes (state-sizes g s) && others))
-  answered = rw named at tested
+  answered : n ≡ first-applying (size-tests g (right-sizes (state-sizes g s ++ others)))
+  answered = tested ∙ ap (λ (b : Bool). first-applying (size-tests g b)) (with-others g s others named)
 
   pub format-sized : n ≡ DONE → Sized-state g s
   format-sized e =

@@ -13,33 +13,35 @@ use Rattle.lent.specs.Does.{Does}
 use Rattle.scope.specs.Geometry.{Geometry, Accepted}
 use Rattle.scope.specs.Lent.{State, Request}
 use Rattle.scope.specs.Operations.{Counts, no-counts, Step, look, _>>=_}
-use Rattle.scope.specs.Replies.{DONE, first-applying, right-sizes, admit}
+use Rattle.scope.specs.Replies.{DONE, Size, first-applying, right-sizes, admit}
 use Rattle.scope.specs.Requests.{Replied, replied}
-use Rattle.scope.specs.Calls.{state-sizes, state-tests, request-tests, single-tests}
+use Rattle.scope.specs.Calls.{state-sizes, buffer-sizes, state-tests, request-tests, single-tests}
 use Rattle.scope.specs.Boundary.{put-counts}
 use Rattle.scope.specs.Contracts.{Answers}
 use Rattle.words.specs.Noted.{Noted}
 use Rattle.lent.specs.Ready.{Ready-for}
 use Rattle.replies.specs.Answers.{does-answers, refuses, admits}
-use Rattle.replies.specs.Sizes.{buffer-right, with-buffer}
+use Rattle.replies.specs.Sizes.{buffer-right, with-others}
 use Rattle.admission.specs.Tested.{request-below, single-passes, geometry-passes, state-ready}
 use Rattle.admission.specs.Room.{most-cost, room-at-first}
 use Rattle.admission.specs.SingleTested.{Single-tested}
 
 -- The definition of either, by its steps.
-abbrev pub single : Geometry → Bool → Request → List ℕ → Step Replied → Step Replied
+abbrev pub single : Geometry → List Size → Request → List ℕ → Step Replied → Step Replied
 single g others q buffer steps = look (λ s. single-tests g others q buffer s) >>= (λ tests. admit tests (replied buffer) steps)
 
-module _ {g : Geometry} {others : Bool} {q : Request} (buffer : List ℕ) {s : State} {n : ℕ} {census filter : List ℕ}
+module _ {g : Geometry} {others : List Size} {q : Request} (buffer : List ℕ) {s : State} {n : ℕ} {census filter : List ℕ}
     (t : Single-tested g others q (length buffer) s n census filter) where
   answered : n ≡ first-applying (single-tests g others q buffer s)
   answered =
-      t .tested ∙ ap (λ (b : Bool). first-applying (state-tests g b s ++ request-tests g (s .small) q)) (sym (with-buffer g s buffer others))
+      t .tested
+      ∙ ap (λ (b : Bool). first-applying (state-tests g b s ++ request-tests g (s .small) q)) (with-others g s (buffer-sizes g buffer ++ others) refl)
 
   -- What the steps begin with.
   pub single-ready : (bound : ℕ) → (Accepted g → bound ≤ most-cost) → n ≡ DONE
       → (Ready-for (q .page) g s bound (record { reads = 0; programs = 0; erases = 0 }) × (length buffer ≡ g .W))
       × Noted g s census filter
+  unfolding right-sizes
   single-ready bound few e =
       let right = buffer-right g (length buffer) others in
       let pass = single-passes g s right q (sym e ∙ t .tested) in
@@ -50,7 +52,7 @@ module _ {g : Geometry} {others : Bool} {q : Request} (buffer : List ℕ) {s : S
             ready = state-ready g s right (pass .state-passed) (room-at-first (omega arith) refl);
             below = request-below g (s .small) q (pass .request-passed);
           },
-          eqb-true (length buffer) (g .W) (and-true (eqb (length buffer) (g .W)) others (and-true (right-sizes (state-sizes g s)) right (sizes .sized) .1) .0),
+          eqb-true (length buffer) (g .W) (and-true (eqb (length buffer) (g .W)) (right-sizes others) (and-true (right-sizes (state-sizes g s)) right (sizes .sized) .1) .0),
         ),
         t .noted e,
       )

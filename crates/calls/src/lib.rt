@@ -1,6 +1,6 @@
 // Format, check, read and write by value: 01's tests, then the steps, for every input. No call has a `requires`, and each contract settles the reply, the
-// record, every lent list and the counts by citing the call's definition. `boundary` says whether the lengths are right that only the caller
-// knows, as that of the record's words at the C boundary.
+// record, every lent list and the counts by citing the call's definition. `record_words` is how many words the small record has where the
+// caller lends it: RECORD_WORDS for Rattle, and any number for C.
 use admission::check_answer;
 use admission::single_answer;
 use lent::CENSUS_WORDS;
@@ -19,15 +19,17 @@ use replies::tests::DONE;
 use replies::tests::lengths_right;
 use replies::tests::size_answer;
 use requests::answers;
+ghost use lib.ListN.{length};
 ghost use Rattle.lent.specs.Model.{geometry, state};
 ghost use Rattle.scope.specs.Calls.{format, check, read, write};
 ghost use Rattle.scope.specs.Requests.{replied};
-ghost use Rattle.scope.specs.Contracts.{Answers, right-lengths};
+ghost use Rattle.scope.specs.Boundary.{call-sizes};
+ghost use Rattle.scope.specs.Contracts.{Answers};
 
 // The old state isn't tested.
 pub fn format(
     rec: Record,
-    boundary: bool,
+    record_words: usize,
     g: Geometry,
     chip: &mut [u32],
     spare: &mut [u32],
@@ -36,13 +38,13 @@ pub fn format(
     counts: &mut [u32],
 ) -> Out
     ensures { λ o. ⌜ Answers
-        (format (geometry g) (right-lengths boundary (now (counts .entry)))
+        (format (geometry g) (call-sizes «record_words» (length (now (counts .entry))))
         (state (now (chip .entry)) (now (spare .entry)) (now (directory .entry)) (now (cache .entry)) rec))
         (now (counts .entry)) (o .answer)
         (state (now (chip .exit)) (now (spare .exit)) (now (directory .exit)) (now (cache .exit)) (o .rec))
         (now (counts .exit)) ⌝ }
 {
-    let right = lengths_right(boundary, counts.len());
+    let right = lengths_right(record_words, counts.len());
     let answer = size_answer(
         g,
         right,
@@ -67,7 +69,7 @@ pub fn format(
 // Changes nothing but the counts.
 pub fn check(
     rec: Record,
-    boundary: bool,
+    record_words: usize,
     g: Geometry,
     chip: &[u32],
     spare: &[u32],
@@ -76,13 +78,13 @@ pub fn check(
     counts: &mut [u32],
 ) -> u32
     ensures { λ r. ⌜ Answers
-        (check (geometry g) (right-lengths boundary (now (counts .entry)))
+        (check (geometry g) (call-sizes «record_words» (length (now (counts .entry))))
         (state (now (chip .entry)) (now (spare .entry)) (now (directory .entry)) (now (cache .entry)) rec))
         (now (counts .entry)) r
         (state (now (chip .entry)) (now (spare .entry)) (now (directory .entry)) (now (cache .entry)) rec)
         (now (counts .exit)) ⌝ }
 {
-    let right = lengths_right(boundary, counts.len());
+    let right = lengths_right(record_words, counts.len());
     let answer = check_answer(rec, right, g, chip, spare, directory, cache);
     put_none(counts);
     answer
@@ -91,7 +93,7 @@ pub fn check(
 // Fills the page buffer where the page was written.
 pub fn read(
     rec: Record,
-    boundary: bool,
+    record_words: usize,
     g: Geometry,
     page: u32,
     chip: &mut [u32],
@@ -102,7 +104,7 @@ pub fn read(
     counts: &mut [u32],
 ) -> Out
     ensures { λ o. ⌜ Answers
-        (read (geometry g) (right-lengths boundary (now (counts .entry))) page (now (buffer .entry))
+        (read (geometry g) (call-sizes «record_words» (length (now (counts .entry)))) page (now (buffer .entry))
         (state (now (chip .entry)) (now (spare .entry)) (now (directory .entry)) (now (cache .entry)) rec))
         (now (counts .entry)) (replied (now (buffer .exit)) (o .answer))
         (state (now (chip .exit)) (now (spare .exit)) (now (directory .exit)) (now (cache .exit)) (o .rec))
@@ -112,7 +114,7 @@ pub fn read(
     let mut filter = [0u64; FILTER_WORDS];
     let answer = single_answer(
         rec,
-        boundary,
+        record_words,
         g,
         Request {
             kind: KIND_READ,
@@ -158,7 +160,7 @@ pub fn read(
 // Leaves the page buffer as it is.
 pub fn write(
     rec: Record,
-    boundary: bool,
+    record_words: usize,
     g: Geometry,
     page: u32,
     chip: &mut [u32],
@@ -169,7 +171,7 @@ pub fn write(
     counts: &mut [u32],
 ) -> Out
     ensures { λ o. ⌜ Answers
-        (write (geometry g) (right-lengths boundary (now (counts .entry))) page (now (buffer .entry))
+        (write (geometry g) (call-sizes «record_words» (length (now (counts .entry)))) page (now (buffer .entry))
         (state (now (chip .entry)) (now (spare .entry)) (now (directory .entry)) (now (cache .entry)) rec))
         (now (counts .entry)) (replied (now (buffer .entry)) (o .answer))
         (state (now (chip .exit)) (now (spare .exit)) (now (directory .exit)) (now (cache .exit)) (o .rec))
@@ -179,7 +181,7 @@ pub fn write(
     let mut filter = [0u64; FILTER_WORDS];
     let answer = single_answer(
         rec,
-        boundary,
+        record_words,
         g,
         Request {
             kind: KIND_WRITE,

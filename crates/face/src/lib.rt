@@ -3,11 +3,14 @@
 // reply, the record, every lent list and the counts for every input. A body only copies the record, hands it on by value and stores what
 // comes back: all that is tested and done is in crate calls. The bodies have the shapes of tools/walks, which prints their proofs.
 use lent::Geometry;
+use lent::RECORD_WORDS;
 use lent::Record;
-ghost use mathlib.Core.Bool.{true};
+ghost use lib.ListN.{length};
 ghost use Rattle.lent.specs.Model.{geometry, state};
 ghost use Rattle.scope.specs.Calls.{format, check};
-ghost use Rattle.scope.specs.Contracts.{Answers, right-lengths};
+ghost use Rattle.scope.specs.SmallRecord.{record-words};
+ghost use Rattle.scope.specs.Boundary.{call-sizes};
+ghost use Rattle.scope.specs.Contracts.{Answers};
 
 // The old state isn't tested.
 pub fn format(
@@ -20,14 +23,14 @@ pub fn format(
     counts: &mut [u32],
 ) -> u32
     ensures { λ r. ⌜ Answers
-        (format (geometry g) (right-lengths true (now (counts .entry)))
+        (format (geometry g) (call-sizes record-words (length (now (counts .entry))))
         (state (now (chip .entry)) (now (spare .entry)) (now (directory .entry)) (now (cache .entry)) (now (rec .entry))))
         (now (counts .entry)) r
         (state (now (chip .exit)) (now (spare .exit)) (now (directory .exit)) (now (cache .exit)) (now (rec .exit)))
         (now (counts .exit)) ⌝ }
 {
     let r = *rec;
-    let out = calls::format(r, true, g, chip, spare, directory, cache, counts);
+    let out = calls::format(r, RECORD_WORDS, g, chip, spare, directory, cache, counts);
     *rec = out.rec;
     out.answer
 }
@@ -43,12 +46,12 @@ pub fn check(
     counts: &mut [u32],
 ) -> u32
     ensures { λ r. ⌜ Answers
-        (check (geometry g) (right-lengths true (now (counts .entry)))
+        (check (geometry g) (call-sizes record-words (length (now (counts .entry))))
         (state (now (chip .entry)) (now (spare .entry)) (now (directory .entry)) (now (cache .entry)) (now (rec .entry))))
         (now (counts .entry)) r
         (state (now (chip .entry)) (now (spare .entry)) (now (directory .entry)) (now (cache .entry)) (now (rec .entry)))
         (now (counts .exit)) ⌝ }
 {
     let r = *rec;
-    calls::check(r, true, g, chip, spare, directory, cache, counts)
+    calls::check(r, RECORD_WORDS, g, chip, spare, directory, cache, counts)
 }

@@ -1,12 +1,15 @@
 // Read and write for Rattle, over a small record that is lent and changed in place, and a page buffer. They have no `requires`, and the contracts
 // cite the calls' definitions, as in crate face; all that is tested and done is in crate calls.
 use lent::Geometry;
+use lent::RECORD_WORDS;
 use lent::Record;
-ghost use mathlib.Core.Bool.{true};
+ghost use lib.ListN.{length};
 ghost use Rattle.lent.specs.Model.{geometry, state};
 ghost use Rattle.scope.specs.Requests.{replied};
 ghost use Rattle.scope.specs.Calls.{read, write};
-ghost use Rattle.scope.specs.Contracts.{Answers, right-lengths};
+ghost use Rattle.scope.specs.SmallRecord.{record-words};
+ghost use Rattle.scope.specs.Boundary.{call-sizes};
+ghost use Rattle.scope.specs.Contracts.{Answers};
 
 // Fills the page buffer where the page was written.
 pub fn read(
@@ -21,7 +24,7 @@ pub fn read(
     counts: &mut [u32],
 ) -> u32
     ensures { λ r. ⌜ Answers
-        (read (geometry g) (right-lengths true (now (counts .entry))) page (now (buffer .entry))
+        (read (geometry g) (call-sizes record-words (length (now (counts .entry)))) page (now (buffer .entry))
         (state (now (chip .entry)) (now (spare .entry)) (now (directory .entry)) (now (cache .entry)) (now (rec .entry))))
         (now (counts .entry)) (replied (now (buffer .exit)) r)
         (state (now (chip .exit)) (now (spare .exit)) (now (directory .exit)) (now (cache .exit)) (now (rec .exit)))
@@ -30,7 +33,7 @@ pub fn read(
     let r = *rec;
     let out = calls::read(
         r,
-        true,
+        RECORD_WORDS,
         g,
         page,
         chip,
@@ -57,7 +60,7 @@ pub fn write(
     counts: &mut [u32],
 ) -> u32
     ensures { λ r. ⌜ Answers
-        (write (geometry g) (right-lengths true (now (counts .entry))) page (now (buffer .entry))
+        (write (geometry g) (call-sizes record-words (length (now (counts .entry)))) page (now (buffer .entry))
         (state (now (chip .entry)) (now (spare .entry)) (now (directory .entry)) (now (cache .entry)) (now (rec .entry))))
         (now (counts .entry)) (replied (now (buffer .entry)) r)
         (state (now (chip .exit)) (now (spare .exit)) (now (directory .exit)) (now (cache .exit)) (now (rec .exit)))
@@ -66,7 +69,7 @@ pub fn write(
     let r = *rec;
     let out = calls::write(
         r,
-        true,
+        RECORD_WORDS,
         g,
         page,
         chip,

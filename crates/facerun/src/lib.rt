@@ -7,15 +7,18 @@ use crate::served::serve_all;
 use lent::CENSUS_WORDS;
 use lent::FILTER_WORDS;
 use lent::Geometry;
+use lent::RECORD_WORDS;
 use lent::Record;
 use replies::Request;
 use serving::begin;
 use serving::finish;
-ghost use mathlib.Core.Bool.{true};
 ghost use mathlib.Core.List.{map};
+ghost use lib.ListN.{length};
 ghost use Rattle.lent.specs.Model.{geometry, state};
 ghost use Rattle.scope.specs.Calls.{run-replied, run};
-ghost use Rattle.scope.specs.Contracts.{Answers, right-lengths};
+ghost use Rattle.scope.specs.SmallRecord.{record-words};
+ghost use Rattle.scope.specs.Boundary.{call-sizes};
+ghost use Rattle.scope.specs.Contracts.{Answers};
 ghost use Rattle.replies.specs.Model.{request};
 
 // Serves the requests in their order, once the state has been tested, each with its own answer.
@@ -32,7 +35,7 @@ pub fn run(
     counts: &mut [u32],
 ) -> u32
     ensures { λ r. ⌜ Answers
-        (run (geometry g) (right-lengths true (now (counts .entry))) (map request (now (requests .entry))) (now (words .entry)) (now (answers .entry))
+        (run (geometry g) (call-sizes record-words (length (now (counts .entry)))) (map request (now (requests .entry))) (now (words .entry)) (now (answers .entry))
         (state (now (chip .entry)) (now (spare .entry)) (now (directory .entry)) (now (cache .entry)) (now (rec .entry))))
         (now (counts .entry)) (run-replied (now (words .exit)) (now (answers .exit)) r)
         (state (now (chip .exit)) (now (spare .exit)) (now (directory .exit)) (now (cache .exit)) (now (rec .exit)))
@@ -47,7 +50,8 @@ pub fn run(
     let mut filter = [0u64; FILTER_WORDS];
     let first = begin(
         r,
-        true,
+        RECORD_WORDS,
+        0,
         n,
         g,
         words_len,

@@ -28,17 +28,6 @@ small r =
       used = r .used;
     }
 
--- The record with a small record's numbers, from which `small` gives it back.
-abbrev pub numbers : SmallRecord → Record
-numbers r =
-    record {
-      «open_data» = r .open-data;
-      «data_offset» = r .data-offset;
-      «open_translation» = r .open-translation;
-      «translation_offset» = r .translation-offset;
-      used = r .used;
-    }
-
 abbrev pub counts : Counted → Counts
 counts c = record { reads = c .reads; programs = c .programs; erases = c .erases }
 

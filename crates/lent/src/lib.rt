@@ -21,6 +21,9 @@ pub const SPARE_WORDS: usize = 2;
 // Words an entry has in the cache: its logical page, its physical page, and whether it is changed.
 pub const ENTRY_WORDS: usize = 3;
 
+// Words of the small record.
+pub const RECORD_WORDS: usize = 5;
+
 // Words of what a call keeps on its stack: the census, and the filter of the cached pages, whose words have 64 bits.
 pub const CENSUS_WORDS: usize = 1024;
 

@@ -1,83 +1,77 @@
 -- The lengths beside the state's, tested together with those of the state.
-use Prim.Native.Nat.{ℕ, _*_, _≤_, _<_}
-use mathlib.Core.Path.{_≡_, refl, ap, _∙_}
+use Prim.Native.Nat.{ℕ, _*_, _≤_}
+use mathlib.Core.Path.{_≡_, refl, sym, ap, _∙_}
 use mathlib.Core.Logic.{_≢_}
 use mathlib.Core.Bool.{Bool, true, false, _&&_}
 use mathlib.Core.List.{List, [], _∷_, _++_}
 use lib.Dec.{eqb, leb}
-use lib.ListN.{length}
-use borrow.Author.Tests.{le-leb, lt-leb, eq-eqb, ne-eqb}
+use borrow.Author.Tests.{le-leb, eq-eqb, ne-eqb}
 use Rattle.scope.specs.Geometry.{Geometry}
 use Rattle.scope.specs.Lent.{State, most-requests}
 use Rattle.scope.specs.Replies.{Size, right-sizes}
-use Rattle.scope.specs.Calls.{state-sizes, buffer-sizes}
-use Rattle.flash.specs.Tests.{and-assoc}
+use Rattle.scope.specs.Calls.{state-sizes}
+use Rattle.scope.specs.Boundary.{call-sizes}
+use Rattle.flash.specs.Tests.{and-passed, and-assoc}
 
 -- The sizes of what a run of n requests lends: scope's `run-sizes` of lists of these lengths.
 abbrev pub sizes-of-run : Geometry → ℕ → ℕ → ℕ → List Size
 sizes-of-run g n words answers = record { has = words; should = n * g .W } ∷ record { has = answers; should = n } ∷ []
 
--- What the code tests beside the state's lengths.
-abbrev pub buffer-right : Geometry → ℕ → Bool → Bool
-buffer-right g buffer others = eqb buffer (g .W) && others
+-- What is tested beside them: that no request word is odd, as one of C's can be, and what every call lends.
+abbrev pub beside-run : ℕ → ℕ → ℕ → List Size
+beside-run odd small counts = record { has = odd; should = 0 } ∷ call-sizes small counts
 
-abbrev pub run-right : Geometry → ℕ → ℕ → ℕ → Bool → Bool
-run-right g n words answers others = leb n most-requests && (eqb words (n * g .W) && (eqb answers n && others))
+-- What the code tests beside the state's lengths; "page buffer of W words", "at most 1,024" requests.
+abbrev pub buffer-right : Geometry → ℕ → List Size → Bool
+buffer-right g buffer others = right-sizes (record { has = buffer; should = g .W } ∷ others)
 
--- Each of a run's tests, where those before it pass.
-module _ (g : Geometry) (n words answers : ℕ) (others : Bool) where
-  pub too-many : most-requests < n → false ≡ run-right g n words answers others
-  too-many h = rw (lt-leb n most-requests h)
+abbrev pub run-right : Geometry → ℕ → ℕ → ℕ → List Size → Bool
+run-right g n words answers others = leb n most-requests && right-sizes (sizes-of-run g n words answers ++ others)
 
-  pub words-wrong : n ≤ most-requests → words ≢ n * g .W → false ≡ run-right g n words answers others
-  words-wrong h w = rw (le-leb n most-requests h, ne-eqb words (n * g .W) w)
+-- ---- sizes one after the other, as the code tests them
 
-  pub answers-wrong : n ≤ most-requests → words ≡ n * g .W → answers ≢ n → false ≡ run-right g n words answers others
-  answers-wrong h w a = rw (le-leb n most-requests h, eq-eqb words (n * g .W) w, ne-eqb answers n a)
+module _ {has should : ℕ} (zs : List Size) where
+  pub size-wrong : has ≢ should → false ≡ right-sizes (record { has = has; should = should } ∷ zs)
+  unfolding right-sizes
+  size-wrong h = rw (ne-eqb has should h)
 
-  pub run-lengths : n ≤ most-requests → words ≡ n * g .W → answers ≡ n → others ≡ run-right g n words answers others
-  run-lengths h w a = rw (le-leb n most-requests h, eq-eqb words (n * g .W) w, eq-eqb answers n a)
+  pub size-right : has ≡ should → right-sizes zs ≡ right-sizes (record { has = has; should = should } ∷ zs)
+  unfolding right-sizes
+  size-right h = rw (eq-eqb has should h)
 
--- More sizes: those before are tested first.
-with-more : (zs ys : List Size) (others : Bool) → right-sizes (zs ++ ys) && others ≡ right-sizes zs && (right-sizes ys && others)
+pub last-size : (has should : ℕ) → eqb has should ≡ right-sizes (record { has = has; should = should } ∷ [])
 unfolding right-sizes
-with-more [] ys others = refl
-with-more (z ∷ zs) ys others = first (eqb (z .has) (z .should)) (with-more zs ys others)
-  where
-    first : (b : Bool) → right-sizes (zs ++ ys) && others ≡ right-sizes zs && (right-sizes ys && others)
-        → (b && right-sizes (zs ++ ys)) && others ≡ (b && right-sizes zs) && (right-sizes ys && others)
-    first true rest = rest
-    first false rest = refl
+last-size has should = sym (and-passed (eqb has should))
+
+-- A run's sizes are tested where it has few enough requests.
+pub few-enough : {n : ℕ} {r right : Bool} → n ≤ most-requests → r ≡ right → r ≡ leb n most-requests && right
+few-enough {n} h e = rw (le-leb n most-requests h) e
+
+-- ---- with the state's
+
+both : (zs ys : List Size) → right-sizes (zs ++ ys) ≡ right-sizes zs && right-sizes ys
+unfolding right-sizes
+both [] ys = refl
+both (z ∷ zs) ys =
+    ap (λ (b : Bool). eqb (z .has) (z .should) && b) (both zs ys)
+    ∙ sym (and-assoc (eqb (z .has) (z .should)) (right-sizes zs) (right-sizes ys))
 
 module _ (g : Geometry) (s : State) where
-  -- "Page buffer of W words."
-  pub with-buffer : (buffer : List ℕ) (others : Bool)
-      → right-sizes (state-sizes g s ++ buffer-sizes g buffer) && others ≡ right-sizes (state-sizes g s) && buffer-right g (length buffer) others
-  unfolding right-sizes
-  with-buffer buffer others =
-      with-more (state-sizes g s) (buffer-sizes g buffer) others
-      ∙ ap (λ (b : Bool). right-sizes (state-sizes g s) && b) (last (eqb (length buffer) (g .W)))
-    where
-      last : (b : Bool) → (b && true) && others ≡ b && others
-      last true = refl
-      last false = refl
+  -- The code tests with `right`, its own name for whether the sizes beside the state's are right.
+  pub with-others : (others : List Size) {right : Bool} → right ≡ right-sizes others
+      → right-sizes (state-sizes g s) && right ≡ right-sizes (state-sizes g s ++ others)
+  with-others others named = ap (λ (b : Bool). right-sizes (state-sizes g s) && b) named ∙ sym (both (state-sizes g s) others)
 
-  -- "A data buffer of n·W words; n answer words"; "at most 1,024" requests.
-  pub with-run : (n words answers : ℕ) (others : Bool)
-      → right-sizes (state-sizes g s ++ sizes-of-run g n words answers) && leb n most-requests && others
+  pub with-run : (n words answers : ℕ) (others : List Size)
+      → right-sizes (state-sizes g s ++ sizes-of-run g n words answers ++ others) && leb n most-requests
       ≡ right-sizes (state-sizes g s) && run-right g n words answers others
-  unfolding right-sizes
   with-run n words answers others =
-      and-assoc (right-sizes (state-sizes g s ++ sizes-of-run g n words answers)) (leb n most-requests) others
-      ∙ with-more (state-sizes g s) (sizes-of-run g n words answers) (leb n most-requests && others)
-      ∙ ap (λ (b : Bool). right-sizes (state-sizes g s) && b) (last (eqb words (n * g .W)) (eqb answers n) (leb n most-requests))
+      ap (λ (b : Bool). b && leb n most-requests) (both (state-sizes g s) (sizes-of-run g n words answers ++ others))
+      ∙ few-first (right-sizes (state-sizes g s)) (right-sizes (sizes-of-run g n words answers ++ others)) (leb n most-requests)
     where
-      last : (a b c : Bool) → (a && (b && true)) && (c && others) ≡ c && (a && (b && others))
-      last true true true = refl
-      last true true false = refl
-      last true false true = refl
-      last true false false = refl
-      last false true true = refl
-      last false true false = refl
-      last false false true = refl
-      last false false false = refl
+      few-first : (a b c : Bool) → (a && b) && c ≡ a && (c && b)
+      few-first true true true = refl
+      few-first true true false = refl
+      few-first true false true = refl
+      few-first true false false = refl
+      few-first false b c = refl

@@ -6,16 +6,16 @@ use crate::counting::COUNTS_WORDS;
 use geometry::accepts;
 use geometry::sizes_right;
 use lent::Geometry;
+use lent::RECORD_WORDS;
 use lent::Record;
 ghost use mathlib.Core.Path.{_≡_};
 ghost use mathlib.Core.Bool.{_&&_};
-ghost use lib.Dec.{eqb};
 ghost use Rattle.lent.specs.Model.{geometry, small};
-ghost use Rattle.scope.specs.Boundary.{counts-words};
+ghost use Rattle.scope.specs.Boundary.{call-sizes};
 ghost use Rattle.scope.specs.Calls.{size-tests, request-tests};
 ghost use Rattle.scope.specs.Replies.{first-applying, right-sizes};
 ghost use Rattle.geometry.specs.Sizes.{sizes};
-ghost use Rattle.replies.specs.Sizes.{buffer-right, run-right};
+ghost use Rattle.replies.specs.Sizes.{beside-run, buffer-right, run-right};
 ghost use Rattle.replies.specs.Model.{request};
 
 pub const DONE: u32 = 0;
@@ -30,36 +30,37 @@ const PAGE: u32 = 6;
 
 const MOST_REQUESTS: usize = 1024;
 
-// The caller's own lengths and that of the counts.
-pub fn lengths_right(boundary: bool, counts: usize) -> bool
-    ensures { λ r. ⌜ r ≡ (boundary && eqb counts counts-words) ⌝ }
+// What every call lends beside the state's lists: the words of the small record, and the counts.
+pub fn lengths_right(record_words: usize, counts: usize) -> bool
+    ensures { λ r. ⌜ r ≡ right-sizes (call-sizes «record_words» counts) ⌝ }
 {
-    if !boundary {
+    if record_words != RECORD_WORDS {
         return false;
     }
     counts == COUNTS_WORDS
 }
 
 // Those, and that of the page buffer.
-pub fn page_lengths_right(g: Geometry, boundary: bool, buffer: usize, counts: usize) -> bool
-    ensures { λ r. ⌜ r ≡ buffer-right (geometry g) buffer (boundary && eqb counts counts-words) ⌝ }
+pub fn page_lengths_right(g: Geometry, record_words: usize, buffer: usize, counts: usize) -> bool
+    ensures { λ r. ⌜ r ≡ buffer-right (geometry g) buffer (call-sizes «record_words» counts) ⌝ }
 {
     if buffer != g.w as usize {
         return false;
     }
-    lengths_right(boundary, counts)
+    lengths_right(record_words, counts)
 }
 
-// Those, and what a run of n requests lends. There are few enough before any number is multiplied.
+// Those, what a run of n requests lends, and that no request word is odd. There are few enough before any number is multiplied.
 pub fn run_lengths_right(
     g: Geometry,
-    boundary: bool,
+    record_words: usize,
+    odd_words: usize,
     n: usize,
     words: usize,
     answers: usize,
     counts: usize,
 ) -> bool
-    ensures { λ r. ⌜ r ≡ run-right (geometry g) n words answers (boundary && eqb counts counts-words) ⌝ }
+    ensures { λ r. ⌜ r ≡ run-right (geometry g) n words answers (beside-run «odd_words» «record_words» counts) ⌝ }
 {
     if MOST_REQUESTS < n {
         return false;
@@ -70,7 +71,10 @@ pub fn run_lengths_right(
     if answers != n {
         return false;
     }
-    lengths_right(boundary, counts)
+    if odd_words != 0 {
+        return false;
+    }
+    lengths_right(record_words, counts)
 }
 
 // GEOMETRY, and LENGTH of the state's slices and of all others together.

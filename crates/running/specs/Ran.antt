@@ -2,7 +2,7 @@
 -- the requests and finish are the call of the definitions. For whoever goes through the requests.
 use Prim.Native.Nat.{ℕ, zero, suc, _+_, _*_, _<_}
 use mathlib.Core.Path.{_≡_, refl, sym, ap, subst, _∙_}
-use mathlib.Core.Bool.{Bool, true, false, cond, _&&_}
+use mathlib.Core.Bool.{Bool, true, false, cond}
 use mathlib.Core.List.{List, [], _∷_, map}
 use native.Mathlib.Numerals.{add-one}
 use native.Mathlib.Omega.{arith}
@@ -18,14 +18,13 @@ use Rattle.lent.specs.DoesLaws.{does-give, does-bind, does-ends, does-value}
 use Rattle.scope.specs.Geometry.{Geometry}
 use Rattle.scope.specs.Lent.{State, Request, most-requests}
 use Rattle.scope.specs.Operations.{Counts, give, _>>=_}
-use Rattle.scope.specs.Replies.{DONE, first-applying, right-sizes}
-use Rattle.scope.specs.Boundary.{counts-words}
+use Rattle.scope.specs.Replies.{DONE, Size, first-applying, right-sizes}
 use Rattle.scope.specs.Calls.{state-sizes, state-tests, RunReplied, run-replied, no-request, serve-record, serve-records, run}
 use Rattle.geometry.specs.Sizes.{piece-inside}
 use Rattle.replies.specs.declared.Request.{Request as Asked}
 use Rattle.replies.specs.Model.{request}
 use Rattle.running.specs.declared.Running.{Running}
-use Rattle.scope.specs.Contracts.{right-lengths, Answers}
+use Rattle.scope.specs.Contracts.{Answers}
 use Rattle.replies.specs.Answers.{does-answers, refuses, admits}
 use Rattle.replies.specs.Sizes.{run-right, with-run}
 use Rattle.admission.specs.Tested.{state-passes, state-ready}
@@ -82,11 +81,11 @@ pub record Admitted (g : Geometry) (n : ℕ) (a : Running) (s : State) (words an
 abbrev pub Tested : Geometry → ℕ → Running → State → List ℕ → List ℕ → List ℕ → List ℕ → Type 0
 Tested g n a s words answers census filter = a .answer ≡ DONE → Admitted g n a s words answers census filter
 
-pub begun-admits : {g : Geometry} {boundary : Bool} {n counted : ℕ} {s s′ : State} {words answers census filter : List ℕ} {a : Running}
-    → Begun g boundary n (length words) (length answers) counted s a s′ census filter
+pub begun-admits : {g : Geometry} {others : List Size} {n : ℕ} {s s′ : State} {words answers census filter : List ℕ} {a : Running}
+    → Begun g others n (length words) (length answers) s a s′ census filter
     → Tested g n a s′ words answers census filter
-begun-admits {g} {boundary} {n} {counted} {s} {s′} {words} {answers} {census} {filter} {a} begun e =
-    let others = boundary && eqb counted counts-words in
+unfolding right-sizes
+begun-admits {g} {others} {n} {s} {s′} {words} {answers} {census} {filter} {a} begun e =
     let right = run-right g n (length words) (length answers) others in
     let pass = state-passes g s right
     (sym e ∙ begun .tested ∙ ap (λ (b : Bool). first-applying (state-tests g b s)) (with-run g s n (length words) (length answers) others)) in
@@ -100,7 +99,7 @@ begun-admits {g} {boundary} {n} {counted} {s} {s′} {words} {answers} {census} 
         noted = begun .noted e;
       };
       words-long = eqb-true (length words) (n * g .W) (long .0);
-      answers-long = eqb-true (length answers) n (and-true (eqb (length answers) n) others (long .1) .0);
+      answers-long = eqb-true (length answers) n (and-true (eqb (length answers) n) (right-sizes others) (long .1) .0);
     }
 
 -- Request i can be served after those before it.
@@ -168,21 +167,21 @@ gives {x = x} {s = s} {c = c} d = (d .value, d .after, sym (does-give {s = s} {c
 
 -- Begun, served to the last request and finished, with the record that is handed on, is the call: the requests' answers, the state and the
 -- counts after are its own.
-pub run-answers : (g : Geometry) (requests : List Request) {boundary : Bool} {a b : Running} {s s₁ : State} {x : Lists}
+pub run-answers : (g : Geometry) (requests : List Request) {others : List Size} {a b : Running} {s s₁ : State} {x : Lists}
     {words answers census filter words′ answers′ given given′ : List ℕ} {answer : ℕ} {rec : Record}
-    → Begun g boundary (length requests) (length words) (length answers) (length given) s a s₁ census filter
+    → Begun g others (length requests) (length words) (length answers) s a s₁ census filter
     → Runs (serve-records g requests (length requests)) a s₁ words answers b (together x (b .rec)) words′ answers′
     → Finished b given answer rec given′
-    → Answers (run g (right-lengths boundary given) requests words answers s) given
+    → Answers (run g others requests words answers s) given
     (run-replied words′ answers′ answer) (together x rec) given′
 unfolding run
-run-answers g requests {boundary} {a} {b} {s} {x = x} {words} {answers} {words′ = words′} {answers′} {given} {given′}
+run-answers g requests {others} {a} {b} {s} {x = x} {words} {answers} {words′ = words′} {answers′} {given} {given′}
     {answer} begun ran finished =
     subst
-    (λ (r : Record). Answers (run g (right-lengths boundary given) requests words answers s) given
+    (λ (r : Record). Answers (run g others requests words answers s) given
     (run-replied words′ answers′ answer) (together x r) given′)
     (sym (finished .recorded))
-    (does-answers {m = run g (right-lengths boundary given) requests words answers} {s = s} (counts (b .counts))
+    (does-answers {m = run g others requests words answers} {s = s} (counts (b .counts))
     (same? (a .answer) DONE
     (λ e. rw (finished .answered ∙ ran .same-answer ∙ e)
     (admits _ (λ t. t) (run-replied words answers) (serve-records g requests (length requests) (run-replied words answers DONE))
@@ -198,14 +197,15 @@ run-answers g requests {boundary} {a} {b} {s} {x = x} {words} {answers} {words�
     (same .1) (same .2)))
     (finished .handed))
 
--- The same with lent requests.
-pub ran-answers : {g : Geometry} {asked : List Asked} {boundary : Bool} {a b : Running} {s s₁ : State} {x : Lists}
+-- The same with lent requests, which have no odd word.
+pub ran-answers : {g : Geometry} {asked : List Asked} {others : List Size} {a b : Running} {s s₁ : State} {x : Lists}
     {words answers census filter words′ answers′ census′ filter′ given given′ : List ℕ} {answer : ℕ} {rec : Record}
-    → Begun g boundary (length asked) (length words) (length answers) (length given) s a s₁ census filter
+    → Begun g (record { has = 0; should = 0 } ∷ others) (length asked) (length words) (length answers) s a s₁ census filter
     → Ran g asked (length asked) a s₁ words answers census filter b (together x (b .rec)) words′ answers′ census′ filter′
     → Finished b given answer rec given′
-    → Answers (run g (right-lengths boundary given) (map request asked) words answers s) given (run-replied words′ answers′ answer)
+    → Answers (run g others (map request asked) words answers s) given (run-replied words′ answers′ answer)
     (together x rec) given′
+unfolding run right-sizes
 ran-answers {g} {asked} begun ran finished =
     let n : length (map request asked) ≡ length asked = length-map asked request in
     run-answers g (map request asked) (rw (← n) at begun) (rw (← n) at (ran .runs)) finished

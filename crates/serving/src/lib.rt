@@ -30,12 +30,15 @@ ghost use Rattle.words.specs.Noted.{Noted};
 ghost use Rattle.running.specs.Serve.{Serving, Served};
 ghost use Rattle.lent.specs.Ready.{Does-all, Ready-for};
 ghost use Rattle.replies.specs.Model.{request};
+ghost use Rattle.replies.specs.Sizes.{beside-run};
 ghost use Rattle.running.specs.Ends.{Begun, Finished};
 
-// The tests of a run of n requests, with the lengths of its data buffer, its answers and its counts.
+// The tests of a run of n requests, with the lengths of all that it lends. `record_words` is as in crate calls; `odd_words` are the request words
+// that C lends beyond whole requests.
 pub fn begin(
     rec: Record,
-    boundary: bool,
+    record_words: usize,
+    odd_words: usize,
     n: usize,
     g: Geometry,
     words: usize,
@@ -48,12 +51,12 @@ pub fn begin(
     census: &mut [u32; CENSUS_WORDS],
     filter: &mut [u64; FILTER_WORDS],
 ) -> Running
-    ensures { λ r. ⌜ Begun (geometry g) boundary n words answers counts
+    ensures { λ r. ⌜ Begun (geometry g) (beside-run «odd_words» «record_words» counts) n words answers
         (state (now (chip .entry)) (now (spare .entry)) (now (directory .entry)) (now (cache .entry)) rec) r
         (state (now (chip .exit)) (now (spare .exit)) (now (directory .exit)) (now (cache .exit)) (r .rec))
         (now (census .exit)) (now (filter .exit)) ⌝ }
 {
-    let right = run_lengths_right(g, boundary, n, words, answers, counts);
+    let right = run_lengths_right(g, record_words, odd_words, n, words, answers, counts);
     let answer = state_answer(rec, right, g, chip, spare, directory, cache, census, filter);
     Running {
         answer,

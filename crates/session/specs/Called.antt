@@ -3,7 +3,6 @@ use Prim.Native.Nat.{ℕ, _<_}
 use native.Mathlib.Omega.{arith}
 use mathlib.Core.Path.{_≡_, refl, sym, ap, ap₂, _∙_, subst}
 use mathlib.Core.Logic.{_≢_}
-use mathlib.Core.Bool.{Bool, true, _&&_}
 use mathlib.Core.List.{List, [], _∷_}
 use lib.ListN.{length, getD, take, replicate}
 use borrow.Author.Tests.{eq-eqb, ne-eqb}
@@ -11,9 +10,9 @@ use Rattle.scope.specs.SmallRecord.{SmallRecord, record-words}
 use Rattle.scope.specs.Lent.{State, with-small}
 use Rattle.scope.specs.Operations.{Step, Outcome, counted}
 use Rattle.scope.specs.Requests.{Replied}
-use Rattle.scope.specs.Replies.{DONE}
+use Rattle.scope.specs.Replies.{DONE, Size, right-sizes}
 use Rattle.scope.specs.Calls.{read, write}
-use Rattle.scope.specs.Boundary.{counts-words, words-of-counts, put-counts, Words, InWords, from-words, to-words, right-words}
+use Rattle.scope.specs.Boundary.{counts-words, call-sizes, words-of-counts, put-counts, Words, InWords, from-words, to-words, word-sizes}
 use Rattle.scope.specs.Boundary.{in-words, tf-read, tf-write}
 use Rattle.scope.specs.Contracts.{Answers, Gives}
 use Rattle.scope.specs.Laws.SmallRecord.{record-stored}
@@ -24,28 +23,28 @@ use Rattle.lines.specs.Digits.{numbers, Prints}
 use Rattle.session.specs.Serves.{answered, shown, Serves}
 
 -- Where the record has all its words and the counts are three, a call in words is the call on numbers and lists.
-gives-answers : {A : Type 0} (call : Bool → Step A) (w w′ : Words) (x : A) → length (w .small) ≡ record-words
-    → length (w .counts) ≡ counts-words → Gives (in-words w (call (right-words w))) x w′
-    → Answers (call true (from-words w)) (w .counts) x (from-words w′) (w′ .counts)
+gives-answers : {A : Type 0} (call : List Size → Step A) (w w′ : Words) (x : A) → length (w .small) ≡ record-words
+    → length (w .counts) ≡ counts-words → Gives (in-words w (call (word-sizes w))) x w′
+    → Answers (call (call-sizes record-words counts-words) (from-words w)) (w .counts) x (from-words w′) (w′ .counts)
 unfolding in-words
 gives-answers {A = A} call w w′ x whole three gives =
     record {
-      value = ap (λ b. call b s .value) right ∙ gives .answer;
+      value = ap (λ zs. call zs s .value) right ∙ gives .answer;
       after =
           ap (λ (r : SmallRecord). with-small r (o .after)) (sym (record-stored (w .small) (o .after .small) whole))
-          ∙ ap (λ b. from-words (to-words w (call b s))) right
+          ∙ ap (λ zs. from-words (to-words w (call zs s))) right
           ∙ ap from-words (gives .lent);
-      counted = sym (ap (λ (v : Words). v .counts) (ap (λ b. to-words w (call b s)) right ∙ gives .lent));
+      counted = sym (ap (λ (v : Words). v .counts) (ap (λ zs. to-words w (call zs s)) right ∙ gives .lent));
     }
   where
     s : State
     s = from-words w
 
     o : Outcome A
-    o = call true s
+    o = call (call-sizes record-words counts-words) s
 
-    right : true ≡ right-words w
-    right = sym (ap₂ _&&_ (eq-eqb _ _ whole) (eq-eqb _ _ three))
+    right : call-sizes record-words counts-words ≡ word-sizes w
+    right = ap₂ call-sizes (sym whole) (sym three)
 
 -- The numbers that the program prints are those that the definitions print.
 as-printed : (l : Line) (o : Outcome Replied) {x : Replied} {s′ : State} {counts counts′ : List ℕ} → length counts ≡ counts-words
@@ -64,9 +63,9 @@ called (R page) w = tf-read G page w (replicate 2 0)
 
 called-answers : (l : Line) (w w′ : Words) (x : Replied) → length (w .small) ≡ record-words → length (w .counts) ≡ counts-words
     → Gives (called l w) x w′ → Answers (made G l (from-words w)) (w .counts) x (from-words w′) (w′ .counts)
-unfolding tf-read tf-write made
-called-answers (W page value) w w′ x = gives-answers (λ (b : Bool). write G b page (replicate 2 value)) w w′ x
-called-answers (R page) w w′ x = gives-answers (λ (b : Bool). read G b page (replicate 2 0)) w w′ x
+unfolding tf-read tf-write made read write right-sizes
+called-answers (W page value) w w′ x = gives-answers (λ (zs : List Size). write G zs page (replicate 2 value)) w w′ x
+called-answers (R page) w w′ x = gives-answers (λ (zs : List Size). read G zs page (replicate 2 0)) w w′ x
 
 -- A line whose call was made, and whose numbers were printed, is served.
 pub call-serves : (l : Line) (w w′ : Words) (x : Replied) {more out out′ : List ℕ} {n : ℕ} → length (w .small) ≡ record-words

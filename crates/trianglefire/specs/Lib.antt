@@ -1,3 +1,2 @@
 -- The modules of this crate.
 pub mod Numbers
-pub mod Outcomes

@@ -14,7 +14,7 @@ pub const SPARE_WORDS: usize = lent::SPARE_WORDS;
 
 pub const ENTRY_WORDS: usize = lent::ENTRY_WORDS;
 
-pub const RECORD_WORDS: usize = wording::record::RECORD_WORDS;
+pub const RECORD_WORDS: usize = lent::RECORD_WORDS;
 
 #[no_mangle]
 pub extern "C" fn tf_format(

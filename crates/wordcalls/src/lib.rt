@@ -3,7 +3,6 @@
 use lent::Geometry;
 use wording::record::load;
 use wording::record::store;
-use wording::record::whole_record;
 ghost use Rattle.lent.specs.Model.{geometry, words};
 ghost use Rattle.scope.specs.Boundary.{tf-format, tf-check};
 ghost use Rattle.scope.specs.Contracts.{Gives};
@@ -25,9 +24,9 @@ pub fn format(
         (words (now (chip .exit)) (now (spare .exit)) (now (directory .exit))
         (now (cache .exit)) (now («record» .exit)) (now (counts .exit))) ⌝ }
 {
-    let boundary = whole_record(record);
+    let record_words = record.len();
     let rec = load(record);
-    let formatted = calls::format(rec, boundary, g, chip, spare, directory, cache, counts);
+    let formatted = calls::format(rec, record_words, g, chip, spare, directory, cache, counts);
     store(record, formatted.rec);
     formatted.answer
 }
@@ -49,7 +48,7 @@ pub fn check(
         (words (now (chip .entry)) (now (spare .entry)) (now (directory .entry))
         (now (cache .entry)) (now («record» .entry)) (now (counts .exit))) ⌝ }
 {
-    let boundary = whole_record(record);
+    let record_words = record.len();
     let rec = load(record);
-    calls::check(rec, boundary, g, chip, spare, directory, cache, counts)
+    calls::check(rec, record_words, g, chip, spare, directory, cache, counts)
 }

@@ -2,17 +2,14 @@
 -- is stored. What comes back is what the call's definition in scope's Boundary.antt gives.
 use Prim.Native.Nat.{ℕ}
 use mathlib.Core.Path.{_≡_, ap, ap₂, sym, _∙_}
-use mathlib.Core.Bool.{Bool}
 use mathlib.Core.List.{List}
-use lib.Dec.{eqb}
-use lib.ListN.{length}
 use lib.Seq.{sets}
 use Rattle.lent.specs.Model.{lend, lists-of}
 use Rattle.scope.specs.Lent.{State, with-small}
-use Rattle.scope.specs.SmallRecord.{SmallRecord, record-words, record-of, words-from}
+use Rattle.scope.specs.SmallRecord.{SmallRecord, record-of, words-from}
 use Rattle.scope.specs.Operations.{Step}
-use Rattle.scope.specs.Boundary.{Words, from-words, to-words, right-words, in-words}
-use Rattle.scope.specs.Contracts.{Answers, Gives, right-lengths}
+use Rattle.scope.specs.Boundary.{Words, from-words, to-words, in-words}
+use Rattle.scope.specs.Contracts.{Answers, Gives}
 use Rattle.scope.specs.Laws.SmallRecord.{record-words-kept}
 
 -- Numbers that come back as they were loaded change no word.
@@ -34,9 +31,3 @@ module _ {A : Type 0} (w : Words) {w′ : Words} {r r′ : SmallRecord} {x : A} 
             ∙ ap₂ (λ (t : State) (k : List ℕ). lend (lists-of t) (sets (w .small) 0 (words-from (t .small))) k) (a .after) (sym (a .counted))
             ∙ ap (λ (l : List ℕ). lend (lists-of (from-words w′)) l (w′ .counts)) (sym stored);
       }
-
-  -- The same with the length of the record's words tested.
-  pub tested-in-words : (call : Bool → Step A) {boundary : Bool} → boundary ≡ eqb (length (w .small)) record-words → r ≡ record-of (w .small)
-      → Answers (call (right-lengths boundary (w .counts)) (with-small r (from-words w))) (w .counts) x (with-small r′ (from-words w′)) (w′ .counts)
-      → w′ .small ≡ sets (w .small) 0 (words-from r′) → Gives (in-words w (call (right-words w))) x w′
-  tested-in-words call tested loaded a stored = answers-in-words (call (right-words w)) loaded (rw tested at a) stored

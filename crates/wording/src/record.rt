@@ -1,20 +1,10 @@
 // The small record as words. Any number of words may come: what is not there reads as 0 and is not stored, and the call refuses.
 use lent::Record;
 ghost use mathlib.Core.Path.{_≡_};
-ghost use lib.Dec.{eqb};
-ghost use lib.ListN.{length, getD, set};
+ghost use lib.ListN.{getD, set};
 ghost use lib.Seq.{sets};
 ghost use Rattle.lent.specs.Model.{small};
-ghost use Rattle.scope.specs.SmallRecord.{record-words, record-of, words-from};
-
-// Words of the small record.
-pub const RECORD_WORDS: usize = 5;
-
-pub fn whole_record(record: &[u32]) -> bool
-    ensures { λ r. ⌜ r ≡ eqb (length (now («record» .entry))) record-words ⌝ }
-{
-    record.len() == RECORD_WORDS
-}
+ghost use Rattle.scope.specs.SmallRecord.{record-of, words-from};
 
 fn word(s: &[u32], i: usize) -> u32
     ensures { λ r. ⌜ r ≡ getD (now (s .entry)) i 0 ⌝ }

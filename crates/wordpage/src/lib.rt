@@ -2,7 +2,6 @@
 use lent::Geometry;
 use wording::record::load;
 use wording::record::store;
-use wording::record::whole_record;
 ghost use Rattle.lent.specs.Model.{geometry, words};
 ghost use Rattle.scope.specs.Requests.{replied};
 ghost use Rattle.scope.specs.Boundary.{tf-read, tf-write};
@@ -27,11 +26,11 @@ pub fn read(
         (words (now (chip .exit)) (now (spare .exit)) (now (directory .exit))
         (now (cache .exit)) (now («record» .exit)) (now (counts .exit))) ⌝ }
 {
-    let boundary = whole_record(record);
+    let record_words = record.len();
     let rec = load(record);
     let read = calls::read(
         rec,
-        boundary,
+        record_words,
         g,
         page,
         chip,
@@ -64,11 +63,11 @@ pub fn write(
         (words (now (chip .exit)) (now (spare .exit)) (now (directory .exit))
         (now (cache .exit)) (now («record» .exit)) (now (counts .exit))) ⌝ }
 {
-    let boundary = whole_record(record);
+    let record_words = record.len();
     let rec = load(record);
     let written = calls::write(
         rec,
-        boundary,
+        record_words,
         g,
         page,
         chip,

@@ -1,20 +1,18 @@
 -- A run over request words: the laws by which the loop through them and the run around it go from what the parts of a run ensure to what
 -- they ensure. They are the laws of a run in its parts, with the requests that the words are.
-use Prim.Native.Nat.{ℕ, _+_, _/_, _%_, _≤_, _<_, _^_}
-use mathlib.Core.Path.{_≡_, refl, sym, ap, subst, _∙_}
-use mathlib.Core.Bool.{Bool, true, false, _&&_}
+use Prim.Native.Nat.{ℕ, _+_, _/_, _≤_, _<_, _^_}
+use mathlib.Core.Path.{_≡_, sym, subst, _∙_}
 use mathlib.Core.List.{List}
 use native.Mathlib.Omega.{arith}
-use lib.Dec.{eqb}
 use lib.ListN.{length}
 use Rattle.lent.specs.declared.Record.{Record}
 use Rattle.lent.specs.Model.{Lists, together}
 use Rattle.scope.specs.Geometry.{Geometry}
 use Rattle.scope.specs.Lent.{State, Request}
-use Rattle.scope.specs.Replies.{DONE}
+use Rattle.scope.specs.Replies.{DONE, Size}
 use Rattle.scope.specs.Calls.{run-replied, serve-record, serve-records, run}
-use Rattle.scope.specs.Boundary.{counts-words, requests-of}
-use Rattle.scope.specs.Contracts.{right-lengths, Answers}
+use Rattle.scope.specs.Boundary.{requests-of}
+use Rattle.scope.specs.Contracts.{Answers}
 use Rattle.running.specs.declared.Running.{Running}
 use Rattle.running.specs.Ends.{Begun, Finished}
 use Rattle.words.specs.Noted.{Noted}
@@ -71,28 +69,14 @@ module _ {g : Geometry} {ws : List ℕ} {n : ℕ} {a : Running} {s : State} {wor
 
 -- ---- the run
 
--- The order of the tests of lengths is nothing to their outcome.
-last-first : (boundary whole three : Bool) → (boundary && whole) && three ≡ (boundary && three) && whole
-last-first true true true = refl
-last-first true true false = refl
-last-first true false true = refl
-last-first true false false = refl
-last-first false whole three = refl
-
 -- Begun, served to the last request and finished, with the record that is handed on, is the call.
-pub run-words-answers : (g : Geometry) (ws : List ℕ) (boundary : Bool) {whole : Bool} {n : ℕ} {a b : Running} {s s₁ : State} {x : Lists}
+pub run-words-answers : (g : Geometry) (ws : List ℕ) {others : List Size} {n : ℕ} {a b : Running} {s s₁ : State} {x : Lists}
     {words answers census filter words′ answers′ given given′ : List ℕ} {answer : ℕ} {rec : Record}
-    → whole ≡ (boundary && eqb (length ws % 2) 0) → n ≡ length ws / 2
-    → Begun g whole n (length words) (length answers) (length given) s a s₁ census filter
+    → n ≡ length ws / 2
+    → Begun g others n (length words) (length answers) s a s₁ census filter
     → Runs (serve-records g (requests-of ws) (length ws / 2)) a s₁ words answers b (together x (b .rec)) words′ answers′
     → Finished b given answer rec given′
-    → Answers (run g (right-lengths boundary given && eqb (length ws % 2) 0) (requests-of ws) words answers s) given
-    (run-replied words′ answers′ answer) (together x rec) given′
-run-words-answers g ws boundary {s = s} {x = x} {words} {answers} {words′ = words′} {answers′} {given} {given′} {answer} {rec}
-    tested half begun ran finished =
+    → Answers (run g others (requests-of ws) words answers s) given (run-replied words′ answers′ answer) (together x rec) given′
+run-words-answers g ws half begun ran finished =
     let many = half-as-many ws in
-    subst
-    (λ (right : Bool). Answers (run g right (requests-of ws) words answers s) given
-    (run-replied words′ answers′ answer) (together x rec) given′)
-    (ap (λ (b : Bool). b && eqb (length given) counts-words) tested ∙ last-first boundary (eqb (length ws % 2) 0) (eqb (length given) counts-words))
-    (run-answers g (requests-of ws) (rw (half ∙ sym many) at begun) (rw (sym many) at ran) finished)
+    run-answers g (requests-of ws) (rw (half ∙ sym many) at begun) (rw (sym many) at ran) finished

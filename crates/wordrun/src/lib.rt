@@ -11,18 +11,15 @@ use serving::finish;
 use serving::serve;
 use wording::record::load;
 use wording::record::store;
-use wording::record::whole_record;
 use wording::requests::REQUEST_WORDS;
 use wording::requests::request_at;
-use wording::requests::whole_requests;
 ghost use Prim.Native.Nat.{_/_, _%_};
-ghost use mathlib.Core.Bool.{_&&_};
-ghost use lib.Dec.{eqb};
 ghost use lib.ListN.{length};
 ghost use Rattle.lent.specs.Model.{geometry, state, words as lent-words};
 ghost use Rattle.scope.specs.Calls.{run-replied, serve-records, run};
 ghost use Rattle.scope.specs.Boundary.{requests-of, tf-run};
-ghost use Rattle.scope.specs.Contracts.{right-lengths, Answers, Gives};
+ghost use Rattle.scope.specs.Contracts.{Answers, Gives};
+ghost use Rattle.replies.specs.Sizes.{beside-run};
 ghost use Rattle.running.specs.Serve.{Runs};
 ghost use Rattle.running.specs.Ran.{Tested};
 
@@ -75,7 +72,7 @@ fn serve_words(
 // The run over the loaded record. The notes last as long as it does.
 fn run_words(
     rec: Record,
-    boundary: bool,
+    record_words: usize,
     g: Geometry,
     requests: &[u32],
     chip: &mut [u32],
@@ -87,20 +84,21 @@ fn run_words(
     counts: &mut [u32],
 ) -> Out
     ensures { λ o. ⌜ Answers
-        (run (geometry g) (right-lengths boundary (now (counts .entry)) && eqb (length (now (requests .entry)) % 2) 0)
+        (run (geometry g) (beside-run (length (now (requests .entry)) % 2) «record_words» (length (now (counts .entry))))
         (requests-of (now (requests .entry))) (now (words .entry)) (now (answers .entry))
         (state (now (chip .entry)) (now (spare .entry)) (now (directory .entry)) (now (cache .entry)) rec))
         (now (counts .entry)) (run-replied (now (words .exit)) (now (answers .exit)) (o .answer))
         (state (now (chip .exit)) (now (spare .exit)) (now (directory .exit)) (now (cache .exit)) (o .rec))
         (now (counts .exit)) ⌝ }
 {
-    let whole = whole_requests(boundary, requests.len());
+    let odd_words = requests.len() % REQUEST_WORDS;
     let n = requests.len() / REQUEST_WORDS;
     let mut census = [0u32; CENSUS_WORDS];
     let mut filter = [0u64; FILTER_WORDS];
     let first = begin(
         rec,
-        whole,
+        record_words,
+        odd_words,
         n,
         g,
         words.len(),
@@ -150,11 +148,11 @@ pub fn run(
         (lent-words (now (chip .exit)) (now (spare .exit)) (now (directory .exit))
         (now (cache .exit)) (now («record» .exit)) (now (counts .exit))) ⌝ }
 {
-    let boundary = whole_record(record);
+    let record_words = record.len();
     let rec = load(record);
     let ran = run_words(
         rec,
-        boundary,
+        record_words,
         g,
         requests,
         chip,

@@ -21,7 +21,7 @@ returns : tie.Need-returns
 returns c =
     let tested = c .before .before .before .before in
     let a = tested .before .before .before .before .before .before .before .args in
-    check-answers (geometry (a .g)) _ (tested .before .lengths-right .ensures) (tested .check-answer .ensures) (c .before .before .put-none .ensures)
+    check-answers (geometry (a .g)) _ _ (tested .before .lengths-right .ensures) (tested .check-answer .ensures) (c .before .before .put-none .ensures)
 
 pub check-spec : {M : Type 1} → statement M
 check-spec =

@@ -22,7 +22,7 @@ returns : tie.Need-returns
 returns c =
     let tested = c .before .before .before .before .before in
     let a = tested .before .before .before .before .before .before .before .args in
-    format-refused (geometry (a .g)) _
+    format-refused (geometry (a .g)) _ _
     (tested .before .lengths-right .ensures) (tested .size-answer .ensures) (c .before .before .before .before .if1 .taken)
     (c .before .before .put-none .ensures)
 
@@ -30,7 +30,7 @@ format-requires : tie.Need-format-requires
 format-requires c κs =
     let tested = c .before .before .before .before .before in
     let a = tested .before .before .before .before .before .before .before .args in
-    format-sized (geometry (a .g)) (state (now (a .chip)) (now (a .spare)) (now (a .directory)) (now (a .cache)) (a .rec))
+    format-sized (geometry (a .g)) (state (now (a .chip)) (now (a .spare)) (now (a .directory)) (now (a .cache)) (a .rec)) _
     (tested .before .lengths-right .ensures) (tested .size-answer .ensures) (c .before .before .before .before .if1 .left)
 
 put-counts-requires : tie.Need-put-counts-requires
@@ -57,7 +57,7 @@ returns-2 c =
     let admitted = done .before .before .before .before .before in
     let tested = admitted .before in
     let a = tested .before .before .before .before .before .before .before .args in
-    format-served (geometry (a .g)) _
+    format-served (geometry (a .g)) _ _
     (tested .before .lengths-right .ensures) (tested .size-answer .ensures) (counts (done .format .result .counts))
     (admitted .if1 .left) (done .format .ensures (a .rec)) (c .before .before .before .put-counts .ensures)
 

@@ -1,11 +1,9 @@
 -- `serving::begin` meets its contract.
 use mathlib.Core.Path.{refl}
-use mathlib.Core.Bool.{_&&_}
-use lib.Dec.{eqb}
 use borrow.Author.Needs.{needs}
 use denote.Ref.{now}
 use Rattle.lent.specs.Model.{geometry, state}
-use Rattle.scope.specs.Boundary.{counts-words}
+use Rattle.replies.specs.Sizes.{beside-run}
 use Rattle.running.specs.Ends.{run-tested}
 use Rattle.serving.proofs.begin.Statement.{statement}
 use Rattle.serving.proofs.begin.Tie as tie
@@ -34,7 +32,7 @@ returns c =
     let a = right .before .before .before .before .before .args in
     record {
       tested = run-tested (geometry (a .g)) (state (now (a .chip)) (now (a .spare)) (now (a .directory)) (now (a .cache)) (a .rec))
-          (a .n) (a .words) (a .answers) (a .boundary && eqb (a .counts) counts-words)
+          (a .n) (a .words) (a .answers) (beside-run (a .odd-words) (a .record-words) (a .counts))
           (right .run-lengths-right .ensures) (c .state-answer .ensures .0);
       uncounted = refl;
       kept = refl;

@@ -1,15 +1,9 @@
 -- `wordcalls::format` meets its contract: the call by value, between the record loaded and the record stored.
-use mathlib.Core.Bool.{Bool}
 use borrow.Author.Needs.{needs}
-use Rattle.lent.specs.Model.{geometry}
-use Rattle.scope.specs.Calls.{format}
 use Rattle.scope.specs.Boundary.{tf-format}
-use Rattle.wording.specs.Words.{tested-in-words}
+use Rattle.wording.specs.Words.{answers-in-words}
 use Rattle.wordcalls.proofs.format.Statement.{statement}
 use Rattle.wordcalls.proofs.format.Tie as tie
-
-whole-record-requires : tie.Need-whole-record-requires
-whole-record-requires c κs = search needs
 
 load-requires : tie.Need-load-requires
 load-requires c κs = search needs
@@ -43,16 +37,12 @@ unfolding tf-format
 returns c =
     let done = c .before .before .before .before .before .before .before .before .before .before .before .before .before .before in
     let loaded = done .before .before .before .before .before .before in
-    let tested = loaded .before .before in
-    let a = tested .before .before .before .before .before .before .before .before .args in
-    tested-in-words _ (λ (b : Bool). format (geometry (a .g)) b)
-    (tested .whole-record .ensures) (loaded .load .ensures) (done .format .ensures) (c .before .before .store .ensures)
+    answers-in-words _ _ (loaded .load .ensures) (done .format .ensures) (c .before .before .store .ensures)
 
 pub format-spec : {M : Type 1} → statement M
 format-spec =
     tie.close
     (tie.spec
-    whole-record-requires
     load-requires
     format-requires
     store-requires

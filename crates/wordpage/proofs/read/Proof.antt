@@ -1,16 +1,9 @@
 -- `wordpage::read` meets its contract: the call by value, between the record loaded and the record stored.
-use mathlib.Core.Bool.{Bool}
 use borrow.Author.Needs.{needs}
-use denote.Ref.{now}
-use Rattle.lent.specs.Model.{geometry}
-use Rattle.scope.specs.Calls.{read}
 use Rattle.scope.specs.Boundary.{tf-read}
-use Rattle.wording.specs.Words.{tested-in-words}
+use Rattle.wording.specs.Words.{answers-in-words}
 use Rattle.wordpage.proofs.read.Statement.{statement}
 use Rattle.wordpage.proofs.read.Tie as tie
-
-whole-record-requires : tie.Need-whole-record-requires
-whole-record-requires c κs = search needs
 
 load-requires : tie.Need-load-requires
 load-requires c κs = search needs
@@ -47,16 +40,12 @@ unfolding tf-read
 returns c =
     let done = c .before .before .before .before .before .before .before .before .before .before .before .before .before .before .before .before in
     let loaded = done .before .before .before .before .before .before .before in
-    let tested = loaded .before .before in
-    let a = tested .before .before .before .before .before .before .before .before .before .args in
-    tested-in-words _ (λ (b : Bool). read (geometry (a .g)) b (a .page) (now (a .buffer)))
-    (tested .whole-record .ensures) (loaded .load .ensures) (done .read .ensures) (c .before .before .store .ensures)
+    answers-in-words _ _ (loaded .load .ensures) (done .read .ensures) (c .before .before .store .ensures)
 
 pub read-spec : {M : Type 1} → statement M
 read-spec =
     tie.close
     (tie.spec
-    whole-record-requires
     load-requires
     read-requires
     store-requires

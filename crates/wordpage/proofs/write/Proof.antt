@@ -1,16 +1,9 @@
 -- `wordpage::write` meets its contract: the call by value, between the record loaded and the record stored.
-use mathlib.Core.Bool.{Bool}
 use borrow.Author.Needs.{needs}
-use denote.Ref.{now}
-use Rattle.lent.specs.Model.{geometry}
-use Rattle.scope.specs.Calls.{write}
 use Rattle.scope.specs.Boundary.{tf-write}
-use Rattle.wording.specs.Words.{tested-in-words}
+use Rattle.wording.specs.Words.{answers-in-words}
 use Rattle.wordpage.proofs.write.Statement.{statement}
 use Rattle.wordpage.proofs.write.Tie as tie
-
-whole-record-requires : tie.Need-whole-record-requires
-whole-record-requires c κs = search needs
 
 load-requires : tie.Need-load-requires
 load-requires c κs = search needs
@@ -44,16 +37,12 @@ unfolding tf-write
 returns c =
     let done = c .before .before .before .before .before .before .before .before .before .before .before .before .before .before in
     let loaded = done .before .before .before .before .before .before in
-    let tested = loaded .before .before in
-    let a = tested .before .before .before .before .before .before .before .before .before .args in
-    tested-in-words _ (λ (b : Bool). write (geometry (a .g)) b (a .page) (now (a .buffer)))
-    (tested .whole-record .ensures) (loaded .load .ensures) (done .write .ensures) (c .before .before .store .ensures)
+    answers-in-words _ _ (loaded .load .ensures) (done .write .ensures) (c .before .before .store .ensures)
 
 pub write-spec : {M : Type 1} → statement M
 write-spec =
     tie.close
     (tie.spec
-    whole-record-requires
     load-requires
     write-requires
     store-requires

@@ -1,19 +1,9 @@
 -- `wordrun::run` meets its contract: the run over the request words, between the record loaded and the record stored.
-use Prim.Native.Nat.{_%_}
-use mathlib.Core.Bool.{Bool, _&&_}
 use borrow.Author.Needs.{needs}
-use denote.Ref.{now}
-use lib.Dec.{eqb}
-use lib.ListN.{length}
-use Rattle.lent.specs.Model.{geometry}
-use Rattle.scope.specs.Calls.{run}
-use Rattle.scope.specs.Boundary.{requests-of, tf-run}
-use Rattle.wording.specs.Words.{tested-in-words}
+use Rattle.scope.specs.Boundary.{tf-run}
+use Rattle.wording.specs.Words.{answers-in-words}
 use Rattle.wordrun.proofs.run.Statement.{statement}
 use Rattle.wordrun.proofs.run.Tie as tie
-
-whole-record-requires : tie.Need-whole-record-requires
-whole-record-requires c κs = search needs
 
 load-requires : tie.Need-load-requires
 load-requires c κs = search needs
@@ -53,18 +43,12 @@ unfolding tf-run
 returns c =
     let done = c .before .before .before .before .before .before .before .before .before .before .before .before .before .before .before .before .before .before in
     let loaded = done .before .before .before .before .before .before .before .before in
-    let tested = loaded .before .before in
-    let a = tested .before .before .before .before .before .before .before .before .before .before .before .args in
-    let ws = now (a .requests) in
-    tested-in-words _ (λ (b : Bool). run (geometry (a .g))
-    (b && eqb (length ws % 2) 0) (requests-of ws) (now (a .words)) (now (a .answers)))
-    (tested .whole-record .ensures) (loaded .load .ensures) (done .run-words .ensures) (c .before .before .store .ensures)
+    answers-in-words _ _ (loaded .load .ensures) (done .run-words .ensures) (c .before .before .store .ensures)
 
 pub run-spec : {M : Type 1} → statement M
 run-spec =
     tie.close
     (tie.spec
-    whole-record-requires
     load-requires
     run-words-requires
     store-requires

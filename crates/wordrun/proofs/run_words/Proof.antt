@@ -1,15 +1,10 @@
 -- `wordrun::run_words` meets its contract: a run in its parts.
 use mathlib.Core.Path.{refl, _∙_}
 use borrow.Author.Needs.{needs}
-use denote.Ref.{now}
-use Rattle.lent.specs.Model.{geometry}
 use Rattle.running.specs.Ran.{begun-admits}
 use Rattle.wordrun.specs.Run.{run-words-answers}
 use Rattle.wordrun.proofs.run_words.Statement.{statement}
 use Rattle.wordrun.proofs.run_words.Tie as tie
-
-whole-requests-requires : tie.Need-whole-requests-requires
-whole-requests-requires c κs = search needs
 
 begin-requires : tie.Need-begin-requires
 begin-requires c κs = search needs
@@ -54,16 +49,13 @@ returns : tie.Need-returns
 returns c =
     let served = c .before .before .before .before .before .before .before .before .before .before .before .before .before .before .before .before in
     let begun = served .before .before .before .before .before .before .before .before .before .before .before .before .before .before .before .before .before in
-    let tested = begun .before .before .before .before .before .before .before in
-    let a = tested .before .before .before .before .before .before .before .before .before .args in
-    run-words-answers (geometry (a .g)) (now (a .requests)) (a .boundary) (tested .whole-requests .ensures) refl
+    run-words-answers _ _ refl
     (begun .begin .ensures) (served .serve-words .ensures) (c .before .before .finish .ensures)
 
 pub run-words-spec : {M : Type 1} → statement M
 run-words-spec =
     tie.close
     (tie.spec
-    whole-requests-requires
     begin-requires
     serve-words-requires
     finish-requires

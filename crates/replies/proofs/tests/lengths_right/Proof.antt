@@ -1,13 +1,15 @@
 -- `tests::lengths_right` meets its contract.
-use borrow.Author.Tests.{not-true, not-false}
+use mathlib.Core.Path.{_∙_}
+use Rattle.scope.specs.Boundary.{counts-words}
+use Rattle.replies.specs.Sizes.{size-wrong, size-right, last-size}
 use Rattle.replies.proofs.tests.lengths_right.Statement.{statement}
 use Rattle.replies.proofs.tests.lengths_right.Tie as tie
 
 returns : tie.Need-returns
-returns c = rw (not-true (c .before .args .boundary) (c .if1 .taken))
+returns c = size-wrong _ (c .if1 .taken)
 
 returns-2 : tie.Need-returns-2
-returns-2 c = rw (not-false (c .before .args .boundary) (c .if1 .left))
+returns-2 c = last-size (c .before .args .counts) counts-words ∙ size-right _ (c .if1 .left)
 
 pub lengths-right-spec : {M : Type 1} → statement M
 lengths-right-spec = tie.close (tie.spec returns returns-2)

@@ -1,21 +1,16 @@
 -- `tests::run_lengths_right` meets its contract.
 use mathlib.Core.Path.{_∙_}
-use mathlib.Core.Bool.{_&&_}
 use native.Mathlib.Nat.{mul-le-mul}
 use native.Mathlib.Omega.{arith}
-use lib.Dec.{eqb}
 use borrow.Author.Needs.{needs}
-use Rattle.lent.specs.Model.{geometry}
-use Rattle.scope.specs.Boundary.{counts-words}
+use borrow.Author.Tests.{lt-leb}
 use Rattle.scope.specs.Lent.{most-requests}
-use Rattle.replies.specs.Sizes.{too-many, words-wrong, answers-wrong, run-lengths}
+use Rattle.replies.specs.Sizes.{size-wrong, size-right, few-enough}
 use Rattle.replies.proofs.tests.run_lengths_right.Statement.{statement}
 use Rattle.replies.proofs.tests.run_lengths_right.Tie as tie
 
 returns : tie.Need-returns
-returns c =
-    let a = c .before .args in
-    too-many (geometry (a .g)) (a .n) (a .words) (a .answers) (a .boundary && eqb (a .counts) counts-words) (c .if1 .taken)
+returns c = rw (lt-leb (c .before .args .n) most-requests (c .if1 .taken))
 
 cast-if2 : tie.Need-cast-if2
 cast-if2 c = search needs
@@ -26,28 +21,29 @@ mul-if2 c =
     omega (arith, mul-le-mul {n₁ = a .n} {m₁ = a .g .w} {n₂ = most-requests} {m₂ = 4294967296} (c .before .if1 .left) (omega arith))
 
 returns-2 : tie.Need-returns-2
-returns-2 c =
-    let a = c .before .before .before .args in
-    words-wrong (geometry (a .g)) (a .n) (a .words) (a .answers) (a .boundary && eqb (a .counts) counts-words)
-    (c .before .before .if1 .left) (c .if2 .taken)
+returns-2 c = few-enough (c .before .before .if1 .left) (size-wrong _ (c .if2 .taken))
 
 returns-3 : tie.Need-returns-3
 returns-3 c =
-    let a = c .before .before .before .before .args in
-    answers-wrong (geometry (a .g)) (a .n) (a .words) (a .answers) (a .boundary && eqb (a .counts) counts-words)
-    (c .before .before .before .if1 .left) (c .before .if2 .left) (c .if3 .taken)
+    few-enough (c .before .before .before .if1 .left) (size-wrong _ (c .if3 .taken) ∙ size-right _ (c .before .if2 .left))
+
+returns-4 : tie.Need-returns-4
+returns-4 c =
+    few-enough (c .before .before .before .before .if1 .left)
+    (size-wrong _ (c .if4 .taken) ∙ size-right _ (c .before .if3 .left) ∙ size-right _ (c .before .before .if2 .left))
 
 lengths-right-requires : tie.Need-lengths-right-requires
 lengths-right-requires c κs = search needs
 
-returns-4 : tie.Need-returns-4
-returns-4 c =
-    let a = c .before .before .before .before .before .args in
-    c .lengths-right .ensures
-    ∙ run-lengths (geometry (a .g)) (a .n) (a .words) (a .answers) (a .boundary && eqb (a .counts) counts-words)
-    (c .before .before .before .before .if1 .left) (c .before .before .if2 .left) (c .before .if3 .left)
+returns-5 : tie.Need-returns-5
+returns-5 c =
+    few-enough (c .before .before .before .before .before .if1 .left)
+    (c .lengths-right .ensures
+    ∙ size-right _ (c .before .if4 .left)
+    ∙ size-right _ (c .before .before .if3 .left)
+    ∙ size-right _ (c .before .before .before .if2 .left))
 
 pub run-lengths-right-spec : {M : Type 1} → statement M
 run-lengths-right-spec =
     tie.close
-    (tie.spec returns cast-if2 mul-if2 returns-2 returns-3 lengths-right-requires returns-4)
+    (tie.spec returns cast-if2 mul-if2 returns-2 returns-3 returns-4 lengths-right-requires returns-5)

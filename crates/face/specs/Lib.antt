@@ -1,2 +1,0 @@
--- The modules of this crate.
-pub mod Outcomes
