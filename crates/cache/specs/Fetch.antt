@@ -5,7 +5,7 @@ use native.Mathlib.Nat.{mod-lt}
 use native.Mathlib.Omega.{arith}
 use mathlib.Core.Path.{_≡_, refl, ap}
 use mathlib.Core.List.{List, [], _∷_}
-use Rattle.flash.specs.Words.{words-at}
+use Rattle.flash.specs.Lengths.{words-at}
 use Rattle.scope.specs.Geometry.{Geometry}
 use Rattle.scope.specs.Lent.{Entry, Place, Nowhere, State, named, translation-page, translation-word}
 use Rattle.scope.specs.Operations.{Operation, Read, Outcome, apply, give, look, perform, set-cache, set-small, _>>=_}

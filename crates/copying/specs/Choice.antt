@@ -11,7 +11,7 @@ use Rattle.scope.specs.SmallRecord.{SmallRecord, next-offset, opened}
 use Rattle.scope.specs.Lent.{State, Mapping, with-flash}
 use Rattle.scope.specs.Operations.{Counts, Erase, Step, look, perform, set-small, _>>=_}
 use Rattle.scope.specs.Room.{Following, erased-blocks, lowest-erased, victim, open-lowest, move-pages, collect, open-or-collect, make-room}
-use Rattle.flash.specs.Words.{blank}
+use Rattle.flash.specs.Lengths.{blank}
 use Rattle.region.specs.Apart.{waits-all, copies-keep-used, follow-each, Apart, copies-then-follow, follow-one-more}
 use Rattle.region.specs.Starts.{opened-lowest}
 use Rattle.lent.specs.declared.Work.{Work}

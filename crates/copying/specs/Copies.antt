@@ -18,7 +18,7 @@ use Rattle.scope.specs.Operations.{Operation, Step, give}
 use Rattle.scope.specs.Room.{move-if-valid, move-pages}
 use Rattle.flash.specs.Bounded.{Region-bounded}
 use Rattle.scope.specs.Laws.Applied.{flash-as}
-use Rattle.flash.specs.Words.{blank}
+use Rattle.flash.specs.Lengths.{blank}
 use Rattle.flash.specs.Heads.{head-same}
 use Rattle.flash.specs.Counting.{count-upto}
 use Rattle.flash.specs.Places.{page-on-chip, page-in-region}

@@ -13,7 +13,7 @@ use Rattle.scope.specs.Room.{open-lowest, move-pages}
 use Rattle.flash.specs.Bounded.{Region-bounded}
 use Rattle.flash.specs.Listed.{cost-none}
 use Rattle.flash.specs.Places.{block-on-chip}
-use Rattle.flash.specs.Words.{Lengths, lengths-with-flash, blank, blank-lengths}
+use Rattle.flash.specs.Lengths.{Lengths, lengths-with-flash, blank, blank-lengths}
 use Rattle.region.specs.Holds.{Region-holds}
 use Rattle.region.specs.Apart.{waits-all}
 use Rattle.region.specs.Starts.{Starts, opened-lowest, collection-starts}

@@ -13,7 +13,7 @@ use Rattle.scope.specs.Lent.{none, erased, invalid, State, spare-words, state-o
 use Rattle.scope.specs.Operations.{Operation, Read, Program, Mark, Erase, apply}
 use Rattle.flash.specs.Cases.{same?}
 use Rattle.flash.specs.Stores.{block-kept}
-use Rattle.flash.specs.Words.{Lengths}
+use Rattle.flash.specs.Lengths.{Lengths}
 use Rattle.flash.specs.Kept.{apply-keeps-lengths}
 use Rattle.flash.specs.Pages.{claimed-state, claimed-others}
 use Rattle.flash.specs.Moments.{Allows, Allowed, Only-clears, Clears, Clears-each}

@@ -8,7 +8,7 @@ use Rattle.scope.specs.Geometry.{Geometry}
 use Rattle.scope.specs.Lent.{erased, invalid, State, spare-words, cache-size, claim-words}
 use Rattle.scope.specs.Operations.{Operation, Read, Program, Mark, Erase, apply, apply-all}
 use Rattle.scope.specs.Laws.Applied.{Same-flash}
-use Rattle.flash.specs.Words.{Lengths, lengths-with-flash}
+use Rattle.flash.specs.Lengths.{Lengths, lengths-with-flash}
 
 pub apply-keeps-lengths : (g : Geometry) (o : Operation) (s : State) → Lengths g s → Lengths g (apply g o s)
 unfolding apply

@@ -6,7 +6,7 @@ pub mod Counting
 pub mod Tests
 pub mod Searching
 pub mod Stores
-pub mod Words
+pub mod Lengths
 pub mod Pages
 pub mod Kept
 pub mod Places

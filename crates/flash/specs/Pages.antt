@@ -13,7 +13,7 @@ use Rattle.scope.specs.Lent.{none, erased, valid, invalid, State, spare-words, 
 use Rattle.scope.specs.Regions.{page-in}
 use Rattle.scope.specs.Operations.{Read, Program, Mark, Erase, apply}
 use Rattle.flash.specs.Stores.{getD-sets-inside, slot-below, slot-kept, block-filled, block-kept}
-use Rattle.flash.specs.Words.{Lengths, words-are, words-same, word-same}
+use Rattle.flash.specs.Lengths.{Lengths, words-are, words-same, word-same}
 use Rattle.flash.specs.Moments.{Page-erased, Outside}
 
 -- ---- pages as before

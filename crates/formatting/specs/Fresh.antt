@@ -17,7 +17,7 @@ use Rattle.scope.specs.SmallRecord.{fresh}
 use Rattle.scope.specs.Operations.{Counts, no-counts, Erase, apply, perform, for}
 use Rattle.scope.specs.Replies.{DONE}
 use Rattle.scope.specs.Requests.{format-steps}
-use Rattle.flash.specs.Words.{Lengths-fit, Lengths}
+use Rattle.flash.specs.Lengths.{Lengths-fit, Lengths}
 
 -- What format asks: an accepted geometry, and lists of its lengths.
 pub record Sized (g : Geometry) (chip spare directory cache : List ℕ) : Type 0 where

@@ -13,7 +13,7 @@ use Rattle.scope.specs.Lent.{State, chip-size, spare-size, directory-size, cach
 use Rattle.scope.specs.Replies.{Size, right-sizes}
 use Rattle.scope.specs.Calls.{state-sizes}
 use Rattle.flash.specs.Cases.{and-true}
-use Rattle.flash.specs.Words.{Lengths}
+use Rattle.flash.specs.Lengths.{Lengths}
 
 -- Four lengths and the sizes that they should be: scope's `state-sizes` of any state with lists of these lengths.
 abbrev pub sizes : Geometry → ℕ → ℕ → ℕ → ℕ → List Size

@@ -10,7 +10,7 @@ use Rattle.scope.specs.Regions.{Translation}
 use Rattle.scope.specs.Lent.{State, Mapping, with-flash, with-directory, chip-size, spare-size, directory-size}
 use Rattle.scope.specs.Operations.{Step}
 use Rattle.flash.specs.Bounded.{accepted-bounded}
-use Rattle.flash.specs.Words.{Lengths, lengths-with-flash, lengths-with-directory, blank, blank-lengths}
+use Rattle.flash.specs.Lengths.{Lengths, lengths-with-flash, lengths-with-directory, blank, blank-lengths}
 use Rattle.region.specs.Holds.{Region-holds}
 use Rattle.region.specs.DirectoryFollows.{in-directory}
 use Rattle.cache.specs.Waiting.{Waits}

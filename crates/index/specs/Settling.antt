@@ -13,7 +13,7 @@ use Rattle.scope.specs.Lent.{State, Mapping}
 use Rattle.scope.specs.Operations.{for}
 use Rattle.scope.specs.Steps.{of-page, update, update-touched, update-all}
 use Rattle.flash.specs.Bounded.{accepted-region, owners-few}
-use Rattle.flash.specs.Words.{Lengths, blank}
+use Rattle.flash.specs.Lengths.{Lengths, blank}
 use Rattle.cache.specs.Waiting.{Waits, of-page-waits, waiting-below, waiting-below-le}
 use Rattle.promises.specs.Parts.{Index-holds, Index-fits}
 use Rattle.promises.specs.Update.{update-bound, Updated, update-law}

@@ -13,7 +13,7 @@ use Rattle.scope.specs.Geometry.{most-pages-in-block, Geometry, pages}
 use Rattle.scope.specs.Lent.{Mapping, words-of, translation-page, translation-word}
 use Rattle.scope.specs.Steps.{of-page, set-words}
 use Rattle.flash.specs.Cases.{below?}
-use Rattle.flash.specs.Words.{length-words-of}
+use Rattle.flash.specs.Lengths.{length-words-of}
 use Rattle.words.specs.Runs.{sets-own}
 use Rattle.promises.specs.Stored.{length-set-words}
 use Rattle.steps.specs.Lies.{Chip-lent, words-lie}

@@ -14,7 +14,7 @@ use Rattle.scope.specs.Sound.{Names}
 use Rattle.scope.specs.Room.{make-room}
 use Rattle.scope.specs.Steps.{set-words, directory-names-it, directory-follows, update}
 use Rattle.flash.specs.Places.{page-on-chip}
-use Rattle.flash.specs.Words.{Lengths, blank}
+use Rattle.flash.specs.Lengths.{Lengths, blank}
 use Rattle.region.specs.Holds.{Region-holds, Holds}
 use Rattle.region.specs.DirectoryFollows.{in-directory, translation-room-law}
 use Rattle.promises.specs.Index.{page-below}

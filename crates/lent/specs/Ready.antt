@@ -7,7 +7,7 @@ use Rattle.scope.specs.Geometry.{Geometry, Accepted}
 use Rattle.scope.specs.Lent.{State}
 use Rattle.scope.specs.Sound.{Sound}
 use Rattle.scope.specs.Operations.{Step, Counts}
-use Rattle.flash.specs.Words.{Lengths}
+use Rattle.flash.specs.Lengths.{Lengths}
 use Rattle.flash.specs.Moments.{cost}
 use Rattle.lent.specs.declared.Counts.{Counts as Counted}
 use Rattle.lent.specs.declared.Work.{Work}

@@ -19,7 +19,7 @@ use Rattle.scope.specs.Sound.{in-page, stored, Unchanged-agree}
 use Rattle.flash.specs.Cases.{below?}
 use Rattle.flash.specs.Counting.{all-each, each-all}
 use Rattle.flash.specs.Tests.{same-test, decides-by}
-use Rattle.flash.specs.Words.{some-state}
+use Rattle.flash.specs.Lengths.{some-state}
 
 -- A state of which a test looks at these parts alone.
 abbrev pub parts : List ℕ → List ℕ → List ℕ → List ℕ → ℕ → State

@@ -10,7 +10,7 @@ ghost use Rattle.scope.specs.Lent.{chip-size, spare-size, directory-size, spare
 ghost use Rattle.scope.specs.Laws.Decides.{Decides};
 ghost use Rattle.scope.specs.Regions.{Data};
 ghost use Rattle.scope.specs.Sound.{Owners-differ, Directory-names, Entries-fit, Places-hold, Past-L};
-ghost use Rattle.flash.specs.Words.{Lengths-fit};
+ghost use Rattle.flash.specs.Lengths.{Lengths-fit};
 ghost use Rattle.flash.specs.Owners.{Owners-fit, valid-in};
 ghost use Rattle.lent.specs.Model.{geometry};
 ghost use Rattle.words.specs.Erased.{only-erased};

@@ -11,7 +11,7 @@ use Rattle.scope.specs.Regions.{Data, Translation, Has-page}
 use Rattle.scope.specs.Operations.{Outcome}
 use Rattle.scope.specs.Steps.{cache-or-wait, update-all, cache-follows}
 use Rattle.scope.specs.Sound.{current}
-use Rattle.flash.specs.Words.{Lengths}
+use Rattle.flash.specs.Lengths.{Lengths}
 use Rattle.flash.specs.Kept.{lengths-still}
 use Rattle.region.specs.Carried.{holds-same, contents-same}
 use Rattle.region.specs.Elsewhere.{Same-elsewhere}

@@ -21,7 +21,7 @@ use Rattle.scope.specs.Requests.{format-steps}
 use Rattle.flash.specs.Cases.{last, and-true}
 use Rattle.promises.specs.Index.{page-below}
 use Rattle.flash.specs.Searching.{Is-lowest, lowest-cases}
-use Rattle.flash.specs.Words.{Lengths, lengths-with-directory, lengths-with-cache}
+use Rattle.flash.specs.Lengths.{Lengths, lengths-with-directory, lengths-with-cache}
 use Rattle.flash.specs.Kept.{apply-keeps-lengths}
 use Rattle.flash.specs.Pages.{erased-same, erase-block}
 use Rattle.flash.specs.Places.{in-block, block-on-chip, page-in-region, outside-block}

@@ -8,7 +8,7 @@ use Rattle.scope.specs.Geometry.{Geometry, Accepted}
 use Rattle.scope.specs.Lent.{chip-size, Entry, Place, Nowhere, decode, State, words-of}
 use Rattle.scope.specs.Regions.{Data}
 use Rattle.scope.specs.Sound.{Names, current, Sound}
-use Rattle.flash.specs.Words.{Lengths, length-words-of}
+use Rattle.flash.specs.Lengths.{Lengths, length-words-of}
 use Rattle.flash.specs.Places.{page-on-chip}
 use Rattle.region.specs.Holds.{contents}
 use Rattle.promises.specs.Remembered.{Holding, words-at, held}

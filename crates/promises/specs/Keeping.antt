@@ -10,7 +10,7 @@ use Rattle.scope.specs.Operations.{Operation, Outcome, apply, apply-all}
 use Rattle.scope.specs.Laws.Applied.{Same-flash, flash-as}
 use Rattle.scope.specs.Sound.{current, Sound}
 use Rattle.flash.specs.Moments.{cost}
-use Rattle.flash.specs.Words.{Lengths}
+use Rattle.flash.specs.Lengths.{Lengths}
 use Rattle.flash.specs.Kept.{lengths-still}
 use Rattle.flash.specs.Heads.{Same-head}
 use Rattle.flash.specs.SamePages.{Same-pages, same-refl, same-trans}

@@ -9,7 +9,7 @@ use Rattle.scope.specs.Regions.{Region, Data, Translation}
 use Rattle.scope.specs.SmallRecord.{open-block, next-offset}
 use Rattle.scope.specs.Sound.{Pages-fit, Owners-differ, Blocks-fit, Entries-fit, Unchanged-agree, current, Sound}
 use Rattle.region.specs.Holds.{Region-fits, Region-holds, Holds, rules-fit, fits-blocks}
-use Rattle.flash.specs.Words.{Lengths}
+use Rattle.flash.specs.Lengths.{Lengths}
 use Rattle.flash.specs.Heads.{Same-head}
 use Rattle.scope.specs.Laws.Applied.{Same-flash}
 use Rattle.cache.specs.Holds.{Found, lookup, holds-lookup}

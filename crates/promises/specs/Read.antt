@@ -12,7 +12,7 @@ use Rattle.scope.specs.Steps.{translate}
 use Rattle.scope.specs.Requests.{Replied, read-place, read-steps}
 use Rattle.scope.specs.Sound.{current, Sound}
 use Rattle.scope.specs.Laws.Applied.{flash-as}
-use Rattle.flash.specs.Words.{Lengths}
+use Rattle.flash.specs.Lengths.{Lengths}
 use Rattle.flash.specs.SamePages.{same-refl}
 use Rattle.region.specs.Done.{done-none, done-read}
 use Rattle.cache.specs.Ranks.{Has-rank}

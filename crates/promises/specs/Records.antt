@@ -15,7 +15,7 @@ use Rattle.scope.specs.Requests.{Replied}
 use Rattle.scope.specs.Calls.{RunReplied, run-replied, part, no-request, answer-record, serve-record, serve-records}
 use Rattle.flash.specs.Cases.{last, below?}
 use Rattle.flash.specs.Stores.{getD-sets-outside, slot-same}
-use Rattle.flash.specs.Words.{words-same}
+use Rattle.flash.specs.Lengths.{words-same}
 use Rattle.promises.specs.EachRecord.{before-record, record-outcome}
 use Rattle.promises.specs.Serve.{serve-hands-back}
 use Rattle.promises.specs.Refusals.{record-by-grounds}

@@ -18,7 +18,7 @@ use Rattle.scope.specs.Replies.{DONE, UNWRITTEN}
 use Rattle.scope.specs.Requests.{Replied, read-place, read-steps, write-steps}
 use Rattle.scope.specs.Calls.{kinds, serve}
 use Rattle.flash.specs.Cases.{on, same?}
-use Rattle.flash.specs.Words.{Lengths}
+use Rattle.flash.specs.Lengths.{Lengths}
 use Rattle.flash.specs.Moments.{cost}
 use Rattle.region.specs.Done.{Done}
 use Rattle.promises.specs.Remembered.{Store, with-words, noted-record, held, Tells}

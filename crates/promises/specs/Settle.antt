@@ -12,7 +12,7 @@ use Rattle.scope.specs.Steps.{of-page, update-touched, update-all}
 use Rattle.scope.specs.Laws.Applied.{flash-as}
 use Rattle.flash.specs.Moments.{cost}
 use Rattle.flash.specs.Cases.{last}
-use Rattle.flash.specs.Words.{Lengths}
+use Rattle.flash.specs.Lengths.{Lengths}
 use Rattle.flash.specs.Listed.{cost-++, cost-none}
 use Rattle.region.specs.Done.{Done, done-none, done-then}
 use Rattle.region.specs.DirectoryFollows.{Translation-only}

@@ -17,7 +17,7 @@ use Rattle.scope.specs.Requests.{replied, format-steps}
 use Rattle.scope.specs.Calls.{state-sizes, read-of, write-of, serve, format, check, read, write}
 use Rattle.scope.specs.Sound.{Sound}
 use Rattle.flash.specs.Cases.{on, below?}
-use Rattle.flash.specs.Words.{Lengths}
+use Rattle.flash.specs.Lengths.{Lengths}
 use Rattle.scope.specs.Laws.Applied.{flash-refl}
 use Rattle.scope.specs.Laws.AppliedSteps.{format-steps-applied}
 use Rattle.region.specs.Done.{Done, done-none}

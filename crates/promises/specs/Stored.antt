@@ -13,7 +13,7 @@ use Rattle.scope.specs.Lent.{none, Entry, Place, Nowhere, Mapping, named, trans
 use Rattle.scope.specs.Sound.{stored, Past-L}
 use Rattle.scope.specs.Steps.{set-words}
 use Rattle.flash.specs.Cases.{same?}
-use Rattle.flash.specs.Words.{words-at}
+use Rattle.flash.specs.Lengths.{words-at}
 use Rattle.region.specs.Holds.{contents}
 use Rattle.region.specs.Stored.{word-in}
 use Rattle.cache.specs.Waiting.{latest, Waits}

@@ -16,7 +16,7 @@ use Rattle.scope.specs.Steps.{write-back, drop-entry, drop-if-full, fetch, tran
 use Rattle.scope.specs.Sound.{rank-of, Sound}
 use Rattle.flash.specs.Moments.{cost}
 use Rattle.flash.specs.Cases.{on, same?, below?}
-use Rattle.flash.specs.Words.{Lengths}
+use Rattle.flash.specs.Lengths.{Lengths}
 use Rattle.flash.specs.Heads.{head-trans}
 use Rattle.scope.specs.Laws.Applied.{flash-refl}
 use Rattle.flash.specs.SamePages.{same-trans}

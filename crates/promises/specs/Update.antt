@@ -19,7 +19,7 @@ use Rattle.flash.specs.Moments.{cost}
 use Rattle.flash.specs.Bounded.{accepted-region}
 use Rattle.scope.specs.Laws.Applied.{flash-as}
 use Rattle.flash.specs.Cases.{same?}
-use Rattle.flash.specs.Words.{Lengths, lengths-with-directory, length-words-of}
+use Rattle.flash.specs.Lengths.{Lengths, lengths-with-directory, length-words-of}
 use Rattle.flash.specs.Places.{page-on-chip}
 use Rattle.flash.specs.Heads.{rest-same, rest-trans}
 use Rattle.flash.specs.SamePages.{same-refl, same-trans}

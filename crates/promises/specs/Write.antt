@@ -19,7 +19,7 @@ use Rattle.scope.specs.Requests.{Replied, replied, write-steps}
 use Rattle.scope.specs.Sound.{current, Sound}
 use Rattle.flash.specs.Moments.{cost}
 use Rattle.flash.specs.Bounded.{accepted-region}
-use Rattle.flash.specs.Words.{Lengths, lengths-with-cache}
+use Rattle.flash.specs.Lengths.{Lengths, lengths-with-cache}
 use Rattle.scope.specs.Laws.Applied.{flash-as}
 use Rattle.flash.specs.Listed.{cost-++, cost-none}
 use Rattle.region.specs.Holds.{Holds, Renames, contents}

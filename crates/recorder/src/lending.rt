@@ -6,13 +6,15 @@ use lent::Geometry;
 use lent::Record;
 use replies::Out;
 use replies::Request;
-ghost use mathlib.Core.Bool.{true};
 ghost use mathlib.Core.List.{map};
+ghost use lib.ListN.{length};
 ghost use Rattle.lent.specs.Model.{geometry, state};
 ghost use Rattle.replies.specs.Model.{request};
 ghost use Rattle.scope.specs.Requests.{replied};
 ghost use Rattle.scope.specs.Calls.{run-replied, format, check, read, write, run};
-ghost use Rattle.scope.specs.Contracts.{Answers, right-lengths};
+ghost use Rattle.scope.specs.SmallRecord.{record-words};
+ghost use Rattle.scope.specs.Boundary.{call-sizes};
+ghost use Rattle.scope.specs.Contracts.{Answers};
 
 // The requests of document 01's session.
 pub const REQUESTS: usize = 8;
@@ -27,7 +29,7 @@ pub fn format(
     counts: &mut [u32],
 ) -> Out
     ensures { λ o. ⌜ Answers
-        (format (geometry g) (right-lengths true (now (counts .entry)))
+        (format (geometry g) (call-sizes record-words (length (now (counts .entry))))
         (state (now (chip .entry)) (now (spare .entry)) (now (directory .entry)) (now (cache .entry)) rec))
         (now (counts .entry)) (o .answer)
         (state (now (chip .exit)) (now (spare .exit)) (now (directory .exit)) (now (cache .exit)) (o .rec))
@@ -47,7 +49,7 @@ pub fn check(
     counts: &mut [u32],
 ) -> u32
     ensures { λ r. ⌜ Answers
-        (check (geometry g) (right-lengths true (now (counts .entry)))
+        (check (geometry g) (call-sizes record-words (length (now (counts .entry))))
         (state (now (chip .entry)) (now (spare .entry)) (now (directory .entry)) (now (cache .entry)) rec))
         (now (counts .entry)) r
         (state (now (chip .entry)) (now (spare .entry)) (now (directory .entry)) (now (cache .entry)) rec)
@@ -68,7 +70,7 @@ pub fn read(
     counts: &mut [u32],
 ) -> Out
     ensures { λ o. ⌜ Answers
-        (read (geometry g) (right-lengths true (now (counts .entry))) page (now (buffer .entry))
+        (read (geometry g) (call-sizes record-words (length (now (counts .entry)))) page (now (buffer .entry))
         (state (now (chip .entry)) (now (spare .entry)) (now (directory .entry)) (now (cache .entry)) rec))
         (now (counts .entry)) (replied (now (buffer .exit)) (o .answer))
         (state (now (chip .exit)) (now (spare .exit)) (now (directory .exit)) (now (cache .exit)) (o .rec))
@@ -100,7 +102,7 @@ pub fn write(
     counts: &mut [u32],
 ) -> Out
     ensures { λ o. ⌜ Answers
-        (write (geometry g) (right-lengths true (now (counts .entry))) page (now (buffer .entry))
+        (write (geometry g) (call-sizes record-words (length (now (counts .entry)))) page (now (buffer .entry))
         (state (now (chip .entry)) (now (spare .entry)) (now (directory .entry)) (now (cache .entry)) rec))
         (now (counts .entry)) (replied (now (buffer .entry)) (o .answer))
         (state (now (chip .exit)) (now (spare .exit)) (now (directory .exit)) (now (cache .exit)) (o .rec))
@@ -133,7 +135,7 @@ pub fn run(
     counts: &mut [u32],
 ) -> Out
     ensures { λ o. ⌜ Answers
-        (run (geometry g) (right-lengths true (now (counts .entry))) (map request requests) (now (words .entry)) (now (answers .entry))
+        (run (geometry g) (call-sizes record-words (length (now (counts .entry)))) (map request requests) (now (words .entry)) (now (answers .entry))
         (state (now (chip .entry)) (now (spare .entry)) (now (directory .entry)) (now (cache .entry)) rec))
         (now (counts .entry)) (run-replied (now (words .exit)) (now (answers .exit)) (o .answer))
         (state (now (chip .exit)) (now (spare .exit)) (now (directory .exit)) (now (cache .exit)) (o .rec))

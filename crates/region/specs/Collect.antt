@@ -16,7 +16,7 @@ use Rattle.scope.specs.Room.{Following, erased-blocks, victim, move-pages, open
 use Rattle.scope.specs.Laws.Applied.{Same-flash, flash-as}
 use Rattle.flash.specs.Moments.{cost}
 use Rattle.flash.specs.Bounded.{Region-bounded}
-use Rattle.flash.specs.Words.{Lengths}
+use Rattle.flash.specs.Lengths.{Lengths}
 use Rattle.flash.specs.Pages.{erase-block}
 use Rattle.flash.specs.Kept.{apply-keeps-lengths, apply-keeps-beside}
 use Rattle.flash.specs.Places.{block-on-chip, page-in-region}

@@ -16,7 +16,7 @@ use Rattle.scope.specs.Steps.{directory-names-it, directory-follows}
 use Rattle.scope.specs.Laws.Applied.{flash-refl, flash-as}
 use Rattle.flash.specs.Moments.{cost}
 use Rattle.flash.specs.Bounded.{accepted-region}
-use Rattle.flash.specs.Words.{Lengths, lengths-with-directory}
+use Rattle.flash.specs.Lengths.{Lengths, lengths-with-directory}
 use Rattle.flash.specs.Heads.{head-same, Same-rest, rest-same, rest-trans}
 use Rattle.flash.specs.SamePages.{Same-pages, same-refl, same-trans}
 use Rattle.flash.specs.Listed.{cost-none}

@@ -13,7 +13,7 @@ use Rattle.scope.specs.Lent.{State, Mapping, decode}
 use Rattle.scope.specs.Operations.{Outcome}
 use Rattle.scope.specs.Room.{Following}
 use Rattle.scope.specs.Laws.Applied.{Same-flash}
-use Rattle.flash.specs.Words.{Lengths}
+use Rattle.flash.specs.Lengths.{Lengths}
 use Rattle.flash.specs.Heads.{Same-head}
 use Rattle.flash.specs.SamePages.{Same-pages}
 use Rattle.flash.specs.Moments.{cost}

@@ -15,7 +15,7 @@ use Rattle.scope.specs.Room.{Following, erased-blocks, lowest-erased, open-lowe
 use Rattle.scope.specs.Laws.Applied.{flash-refl, flash-as}
 use Rattle.flash.specs.Bounded.{Region-bounded}
 use Rattle.flash.specs.Cases.{on, below?}
-use Rattle.flash.specs.Words.{Lengths}
+use Rattle.flash.specs.Lengths.{Lengths}
 use Rattle.flash.specs.Listed.{cost-none}
 use Rattle.region.specs.Holds.{Besides, Holds}
 use Rattle.region.specs.Room.{lowest-is-erased, two-erased}

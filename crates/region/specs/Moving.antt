@@ -18,7 +18,7 @@ use Rattle.scope.specs.Laws.Applied.{flash-refl}
 use Rattle.flash.specs.Moments.{cost}
 use Rattle.flash.specs.Bounded.{Region-bounded}
 use Rattle.flash.specs.Cases.{on, same?}
-use Rattle.flash.specs.Words.{Lengths, length-words-of}
+use Rattle.flash.specs.Lengths.{Lengths, length-words-of}
 use Rattle.flash.specs.Places.{page-on-chip, page-in-region}
 use Rattle.flash.specs.Listed.{cost-none, cost-first, cost-++}
 use Rattle.region.specs.Holds.{Region-fits, Maps, Renames, contents, valid-page-named}

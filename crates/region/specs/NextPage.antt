@@ -16,7 +16,7 @@ use Rattle.scope.specs.Steps.{mark-old}
 use Rattle.scope.specs.Sound.{Names}
 use Rattle.scope.specs.Laws.Applied.{flash-refl, flash-as}
 use Rattle.flash.specs.Bounded.{Region-bounded}
-use Rattle.flash.specs.Words.{Lengths}
+use Rattle.flash.specs.Lengths.{Lengths}
 use Rattle.flash.specs.Pages.{page-trans, Programmed, Marked, program-page, mark-page}
 use Rattle.flash.specs.Places.{page-on-chip, page-in-region}
 use Rattle.flash.specs.Heads.{Same-rest, advanced-block, advanced-offset, advanced-rest}

@@ -12,7 +12,7 @@ use Rattle.scope.specs.Blocks.{valid-pages}
 use Rattle.scope.specs.Sound.{Wholly-erased}
 use Rattle.scope.specs.Room.{Following, erased-blocks, lowest-erased, victim, move-pages}
 use Rattle.flash.specs.Bounded.{Region-bounded}
-use Rattle.flash.specs.Words.{Lengths}
+use Rattle.flash.specs.Lengths.{Lengths}
 use Rattle.flash.specs.Heads.{opened-rest}
 use Rattle.flash.specs.SamePages.{same-refl}
 use Rattle.region.specs.Holds.{Region-fits, Maps, Holds, contents}

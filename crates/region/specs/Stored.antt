@@ -9,7 +9,7 @@ use Rattle.scope.specs.Geometry.{Geometry, M}
 use Rattle.scope.specs.Lent.{none, Entry, Place, Nowhere, decode, named, translation-page, translation-word}
 use Rattle.scope.specs.Sound.{in-page, stored}
 use Rattle.flash.specs.Cases.{below?}
-use Rattle.flash.specs.Words.{words-at}
+use Rattle.flash.specs.Lengths.{words-at}
 use Rattle.region.specs.Holds.{contents}
 
 -- Word i of the page that an entry names; *none* where it names none.

@@ -16,7 +16,7 @@ use Rattle.scope.specs.Replies.{DONE, UNWRITTEN}
 use Rattle.scope.specs.Requests.{Replied, replied, read-place, read-steps, write-steps}
 use Rattle.flash.specs.Bounded.{accepted-bounded, accepted-region}
 use Rattle.flash.specs.Places.{page-on-chip}
-use Rattle.flash.specs.Words.{Lengths}
+use Rattle.flash.specs.Lengths.{Lengths}
 use Rattle.cache.specs.Ranks.{Has-rank}
 use Rattle.region.specs.Follower.{Room-made}
 use Rattle.region.specs.MakeRoom.{make-room-law}

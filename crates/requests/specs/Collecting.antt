@@ -14,7 +14,7 @@ use Rattle.scope.specs.Room.{open-lowest, move-pages, make-room}
 use Rattle.scope.specs.Steps.{update-all, cache-follows}
 use Rattle.flash.specs.Bounded.{accepted-region}
 use Rattle.flash.specs.Moments.{cost}
-use Rattle.flash.specs.Words.{Lengths}
+use Rattle.flash.specs.Lengths.{Lengths}
 use Rattle.cache.specs.Waiting.{Waits}
 use Rattle.region.specs.Apart.{waits-all, follow-each, cache-apart}
 use Rattle.region.specs.Copied.{Copied, few-moved}

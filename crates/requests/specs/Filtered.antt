@@ -12,7 +12,7 @@ use Rattle.scope.specs.Operations.{Counts, Erase, apply, give, look, perform, s
 use Rattle.scope.specs.Room.{read-page, program-next}
 use Rattle.scope.specs.Cache.{touch, forget, set-entry}
 use Rattle.scope.specs.Requests.{Replied, read-place}
-use Rattle.flash.specs.Words.{some-state}
+use Rattle.flash.specs.Lengths.{some-state}
 use Rattle.cache.specs.Ranks.{rank-found}
 use Rattle.lent.specs.declared.Work.{Work}
 use Rattle.lent.specs.Does.{Does}

@@ -16,7 +16,7 @@ use Rattle.scope.specs.Room.{read-page}
 use Rattle.scope.specs.Cache.{dropped, touch, enter, forget, is-changed, written-back}
 use Rattle.scope.specs.Steps.{update, write-back, drop-entry, drop-if-full, word-for, fetch, translate}
 use Rattle.flash.specs.Places.{page-on-chip}
-use Rattle.flash.specs.Words.{Lengths, blank}
+use Rattle.flash.specs.Lengths.{Lengths, blank}
 use Rattle.promises.specs.Index.{page-below}
 use Rattle.promises.specs.Parts.{Index-fits, index-of}
 use Rattle.promises.specs.Update.{update-bound}

@@ -4,7 +4,7 @@ use Prim.Native.Nat.{ℕ, _+_, _≤_}
 use mathlib.Core.Path.{subst}
 use mathlib.Core.List.{List}
 use Rattle.flash.specs.Moments.{cost}
-use Rattle.flash.specs.Words.{Lengths}
+use Rattle.flash.specs.Lengths.{Lengths}
 use Rattle.scope.specs.Geometry.{Geometry}
 use Rattle.scope.specs.Lent.{State}
 use Rattle.scope.specs.Sound.{Sound}

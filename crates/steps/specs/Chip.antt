@@ -14,7 +14,7 @@ use Rattle.scope.specs.Operations.{Step, Mark, Erase, Counts, apply, give, look
 use Rattle.scope.specs.Room.{Following, read-page, program-next, move-page, open-lowest, lowest-erased}
 use Rattle.scope.specs.Sound.{in-page}
 use Rattle.scope.specs.Steps.{begun, set-words, mark-old, word-for}
-use Rattle.flash.specs.Words.{words-at, length-words-of}
+use Rattle.flash.specs.Lengths.{words-at, length-words-of}
 use Rattle.lent.specs.declared.Counts.{Counts as Counted}
 use Rattle.lent.specs.declared.Record.{Record}
 use Rattle.lent.specs.declared.Work.{Work}

@@ -1,3 +1,3 @@
 -- The modules of this crate.
-pub mod Words
+pub mod Stored
 pub mod Asked

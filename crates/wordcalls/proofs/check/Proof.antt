@@ -1,7 +1,7 @@
 -- `wordcalls::check` meets its contract: the call by value, over the record loaded, which isn't stored as nothing changes it.
 use borrow.Author.Needs.{needs}
 use Rattle.scope.specs.Boundary.{tf-check}
-use Rattle.wording.specs.Words.{answers-in-words, stored-back}
+use Rattle.wording.specs.Stored.{answers-in-words, stored-back}
 use Rattle.wordcalls.proofs.check.Statement.{statement}
 use Rattle.wordcalls.proofs.check.Tie as tie
 

@@ -1,7 +1,7 @@
 -- `wordcalls::format` meets its contract: the call by value, between the record loaded and the record stored.
 use borrow.Author.Needs.{needs}
 use Rattle.scope.specs.Boundary.{tf-format}
-use Rattle.wording.specs.Words.{answers-in-words}
+use Rattle.wording.specs.Stored.{answers-in-words}
 use Rattle.wordcalls.proofs.format.Statement.{statement}
 use Rattle.wordcalls.proofs.format.Tie as tie
 

@@ -1,7 +1,7 @@
 -- `wordpage::read` meets its contract: the call by value, between the record loaded and the record stored.
 use borrow.Author.Needs.{needs}
 use Rattle.scope.specs.Boundary.{tf-read}
-use Rattle.wording.specs.Words.{answers-in-words}
+use Rattle.wording.specs.Stored.{answers-in-words}
 use Rattle.wordpage.proofs.read.Statement.{statement}
 use Rattle.wordpage.proofs.read.Tie as tie
 

@@ -1,7 +1,7 @@
 -- `wordpage::write` meets its contract: the call by value, between the record loaded and the record stored.
 use borrow.Author.Needs.{needs}
 use Rattle.scope.specs.Boundary.{tf-write}
-use Rattle.wording.specs.Words.{answers-in-words}
+use Rattle.wording.specs.Stored.{answers-in-words}
 use Rattle.wordpage.proofs.write.Statement.{statement}
 use Rattle.wordpage.proofs.write.Tie as tie
 

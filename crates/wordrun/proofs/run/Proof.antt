@@ -1,7 +1,7 @@
 -- `wordrun::run` meets its contract: the run over the request words, between the record loaded and the record stored.
 use borrow.Author.Needs.{needs}
 use Rattle.scope.specs.Boundary.{tf-run}
-use Rattle.wording.specs.Words.{answers-in-words}
+use Rattle.wording.specs.Stored.{answers-in-words}
 use Rattle.wordrun.proofs.run.Statement.{statement}
 use Rattle.wordrun.proofs.run.Tie as tie
 

@@ -1,6 +1,5 @@
 -- Printed by `python3 tools/walks recorder check`; do not edit. `recorder::lending::check` meets its contract: a walk of its MIR. Assumes nothing.
 use mathlib.Core.Path.{_≡_, refl, ap}
-use mathlib.Core.Bool.{true}
 use Prim.Native.Nat.{ℕ}
 use mathlib.Core.List.{[], _∷_, List}
 use lib.ListN.{length}
@@ -56,7 +55,9 @@ use Rattle.recorder.proofs.lending.check.Code.Mir as piece
 use Rattle.walks.specs.Rules.{slice, to-one, as-raw, as-named, shares-local, shared-back, holds, frees-all}
 use Rattle.lent.specs.Model.{geometry, state}
 use Rattle.scope.specs.Calls.{check}
-use Rattle.scope.specs.Contracts.{Answers, right-lengths}
+use Rattle.scope.specs.SmallRecord.{record-words}
+use Rattle.scope.specs.Boundary.{call-sizes}
+use Rattle.scope.specs.Contracts.{Answers}
 
 abbrev stayed : Stays (walked·.ended .signature .params) (walked·.ended .kept)
 stayed = (stay-none (λ _. T·Record.the-row) yes, (stay-none (λ _. T·Geometry.the-row) yes, (stay-none-slice (0 ∷ []) tt (plain (λ _. u32)) yes, (stay-none-slice (1 ∷ []) tt (plain (λ _. u32)) yes, (stay-none-slice (2 ∷ []) tt (plain (λ _. u32)) yes, (stay-none-slice (3 ∷ []) tt (plain (λ _. u32)) yes, (gave-slice (4 ∷ []) tt (plain (λ _. u32)), tt)))))))
@@ -75,7 +76,7 @@ module _ {M : Type 1} (𝓤 : URA M) (H : Heap 𝓤) (A : Atoms 𝓤) (W : Given
   Post = walkOf 𝓤 H A walked·.ended stayed (walked·.clauses 𝓤 H A mm rn) .post (((κ·chip, (κ·spare, (κ·directory, (κ·cache, (κ·counts, tt))))), (q·chip, (q·spare, (q·directory, (q·cache, (q·counts, tt))))), tt, a, vals), tt)
 
   abbrev Did·1 : (r·1 : ℕ) (zs·1 : Unit {0} × (Unit {0} × (Unit {0} × (Unit {0} × (Unit {0} × (Unit {0} × (List ℕ × (Unit {0})))))))) → Type 0
-  Did·1 r·1 zs·1 = Answers (check (geometry v·g) (right-lengths true (l·counts)) (state (l·chip) (l·spare) (l·directory) (l·cache) (v·rec))) (l·counts) r·1 (state (l·chip) (l·spare) (l·directory) (l·cache) (v·rec)) ((zs·1 .1 .1 .1 .1 .1 .1 .0))
+  Did·1 r·1 zs·1 = Answers (check (geometry v·g) (call-sizes record-words (length (l·counts))) (state (l·chip) (l·spare) (l·directory) (l·cache) (v·rec))) (l·counts) r·1 (state (l·chip) (l·spare) (l·directory) (l·cache) (v·rec)) ((zs·1 .1 .1 .1 .1 .1 .1 .0))
 
   abbrev ca·1 : (ν·1·rec : ℕ) (δ·1·rec : GName) (l·8 : ℕ) → RefT D·Record × (D·Geometry × (RefT (List ℕ) × (RefT (List ℕ) × (RefT (List ℕ) × (RefT (List ℕ) × (RefT (List ℕ) × (Unit {0})))))))
   ca·1 ν·1·rec δ·1·rec l·8 = (to-one T·Record.the-row l·8 0 δ·1·rec v·rec, (v·g, (slice u32 b·chip o·chip γ·chip l·chip, (slice u32 b·spare o·spare γ·spare l·spare, (slice u32 b·directory o·directory γ·directory l·directory, (slice u32 b·cache o·cache γ·cache l·cache, (slice u32 b·counts o·counts γ·counts l·counts, tt)))))))

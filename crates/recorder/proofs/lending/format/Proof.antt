@@ -1,6 +1,5 @@
 -- Printed by `python3 tools/walks recorder format`; do not edit. `recorder::lending::format` meets its contract: a walk of its MIR. Assumes nothing.
 use mathlib.Core.Path.{_≡_, refl, ap}
-use mathlib.Core.Bool.{true}
 use Prim.Native.Nat.{ℕ}
 use mathlib.Core.List.{[], _∷_, List}
 use lib.ListN.{length}
@@ -59,7 +58,9 @@ use Rattle.recorder.proofs.lending.format.Code.Mir as piece
 use Rattle.walks.specs.Rules.{slice, to-one, lends-local, local-back, as-raw, as-named, holds, frees-all}
 use Rattle.lent.specs.Model.{geometry, state}
 use Rattle.scope.specs.Calls.{format}
-use Rattle.scope.specs.Contracts.{Answers, right-lengths}
+use Rattle.scope.specs.SmallRecord.{record-words}
+use Rattle.scope.specs.Boundary.{call-sizes}
+use Rattle.scope.specs.Contracts.{Answers}
 
 abbrev stayed : Stays (walked·.ended .signature .params) (walked·.ended .kept)
 stayed = (stay-none (λ _. T·Record.the-row) yes, (stay-none (λ _. T·Geometry.the-row) yes, (gave-slice (0 ∷ []) tt (plain (λ _. u32)), (gave-slice (1 ∷ []) tt (plain (λ _. u32)), (gave-slice (2 ∷ []) tt (plain (λ _. u32)), (gave-slice (3 ∷ []) tt (plain (λ _. u32)), (gave-slice (4 ∷ []) tt (plain (λ _. u32)), tt)))))))
@@ -81,7 +82,7 @@ module _ {M : Type 1} (𝓤 : URA M) (H : Heap 𝓤) (A : Atoms 𝓤) (W : Given
   made r·1 zs·1 = record { answer = r·1; rec = (zs·1 .0) }
 
   abbrev Did·1 : (r·1 : ℕ) (zs·1 : D·Record × (Unit {0} × (List ℕ × (List ℕ × (List ℕ × (List ℕ × (List ℕ × (Unit {0})))))))) → Type 0
-  Did·1 r·1 zs·1 = Answers (format (geometry v·g) (right-lengths true (l·counts)) (state (l·chip) (l·spare) (l·directory) (l·cache) (v·rec))) (l·counts) r·1 (state ((zs·1 .1 .1 .0)) ((zs·1 .1 .1 .1 .0)) ((zs·1 .1 .1 .1 .1 .0)) ((zs·1 .1 .1 .1 .1 .1 .0)) ((zs·1 .0))) ((zs·1 .1 .1 .1 .1 .1 .1 .0))
+  Did·1 r·1 zs·1 = Answers (format (geometry v·g) (call-sizes record-words (length (l·counts))) (state (l·chip) (l·spare) (l·directory) (l·cache) (v·rec))) (l·counts) r·1 (state ((zs·1 .1 .1 .0)) ((zs·1 .1 .1 .1 .0)) ((zs·1 .1 .1 .1 .1 .0)) ((zs·1 .1 .1 .1 .1 .1 .0)) ((zs·1 .0))) ((zs·1 .1 .1 .1 .1 .1 .1 .0))
 
   abbrev ca·1 : (ν·1·rec : ℕ) (δ·1·rec : GName) (l·8 : ℕ) → RefT D·Record × (D·Geometry × (RefT (List ℕ) × (RefT (List ℕ) × (RefT (List ℕ) × (RefT (List ℕ) × (RefT (List ℕ) × (Unit {0})))))))
   ca·1 ν·1·rec δ·1·rec l·8 = (to-one T·Record.the-row l·8 0 δ·1·rec v·rec, (v·g, (slice u32 b·chip o·chip γ·chip l·chip, (slice u32 b·spare o·spare γ·spare l·spare, (slice u32 b·directory o·directory γ·directory l·directory, (slice u32 b·cache o·cache γ·cache l·cache, (slice u32 b·counts o·counts γ·counts l·counts, tt)))))))

@@ -1,6 +1,5 @@
 -- Printed by `python3 tools/walks recorder run`; do not edit. `recorder::lending::run` meets its contract: a walk of its MIR. Assumes nothing.
 use mathlib.Core.Path.{_≡_, refl, ap, subst}
-use mathlib.Core.Bool.{true}
 use Prim.Native.Nat.{ℕ}
 use mathlib.Core.List.{[], _∷_, List}
 use lib.ListN.{length}
@@ -65,7 +64,9 @@ use Rattle.walks.specs.Rules.{slice, to-one, lends-local, local-back, as-raw, a
 use mathlib.Core.List.{map}
 use Rattle.lent.specs.Model.{geometry, state}
 use Rattle.scope.specs.Calls.{run-replied, run}
-use Rattle.scope.specs.Contracts.{Answers, right-lengths}
+use Rattle.scope.specs.SmallRecord.{record-words}
+use Rattle.scope.specs.Boundary.{call-sizes}
+use Rattle.scope.specs.Contracts.{Answers}
 use Rattle.replies.specs.Model.{request}
 
 abbrev stayed : Stays (walked·.ended .signature .params) (walked·.ended .kept)
@@ -88,7 +89,7 @@ module _ {M : Type 1} (𝓤 : URA M) (H : Heap 𝓤) (A : Atoms 𝓤) (W : Given
   made r·1 zs·1 = record { answer = r·1; rec = (zs·1 .0) }
 
   abbrev Did·1 : (r·1 : ℕ) (zs·1 : D·Record × (Unit {0} × (Unit {0} × (List ℕ × (List ℕ × (List ℕ × (List ℕ × (List ℕ × (List ℕ × (List ℕ × (Unit {0}))))))))))) → Type 0
-  Did·1 r·1 zs·1 = Answers (run (geometry v·g) (right-lengths true (l·counts)) (map request (v·requests)) (l·words) (l·answers) (state (l·chip) (l·spare) (l·directory) (l·cache) (v·rec))) (l·counts) (run-replied ((zs·1 .1 .1 .1 .1 .1 .1 .1 .0)) ((zs·1 .1 .1 .1 .1 .1 .1 .1 .1 .0)) r·1) (state ((zs·1 .1 .1 .1 .0)) ((zs·1 .1 .1 .1 .1 .0)) ((zs·1 .1 .1 .1 .1 .1 .0)) ((zs·1 .1 .1 .1 .1 .1 .1 .0)) ((zs·1 .0))) ((zs·1 .1 .1 .1 .1 .1 .1 .1 .1 .1 .0))
+  Did·1 r·1 zs·1 = Answers (run (geometry v·g) (call-sizes record-words (length (l·counts))) (map request (v·requests)) (l·words) (l·answers) (state (l·chip) (l·spare) (l·directory) (l·cache) (v·rec))) (l·counts) (run-replied ((zs·1 .1 .1 .1 .1 .1 .1 .1 .0)) ((zs·1 .1 .1 .1 .1 .1 .1 .1 .1 .0)) r·1) (state ((zs·1 .1 .1 .1 .0)) ((zs·1 .1 .1 .1 .1 .0)) ((zs·1 .1 .1 .1 .1 .1 .0)) ((zs·1 .1 .1 .1 .1 .1 .1 .0)) ((zs·1 .0))) ((zs·1 .1 .1 .1 .1 .1 .1 .1 .1 .1 .0))
 
   abbrev ca·1 : (ν·1·rec : ℕ) (δ·1·rec : GName) (l·11 : ℕ) (ν·1·requests : ℕ) (δ·1·requests : GName) (l·12 : ℕ) → RefT D·Record × (D·Geometry × (RefT (List D·Request) × (RefT (List ℕ) × (RefT (List ℕ) × (RefT (List ℕ) × (RefT (List ℕ) × (RefT (List ℕ) × (RefT (List ℕ) × (RefT (List ℕ) × (Unit {0}))))))))))
   ca·1 ν·1·rec δ·1·rec l·11 ν·1·requests δ·1·requests l·12 = (to-one T·Record.the-row l·11 0 δ·1·rec v·rec, (v·g, (slice T·Request.the-row l·12 0 δ·1·requests v·requests, (slice u32 b·chip o·chip γ·chip l·chip, (slice u32 b·spare o·spare γ·spare l·spare, (slice u32 b·directory o·directory γ·directory l·directory, (slice u32 b·cache o·cache γ·cache l·cache, (slice u32 b·words o·words γ·words l·words, (slice u32 b·answers o·answers γ·answers l·answers, (slice u32 b·counts o·counts γ·counts l·counts, tt))))))))))

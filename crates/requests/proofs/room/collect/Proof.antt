@@ -1,7 +1,7 @@
 -- `requests::room::collect` meets its contract: each part asks for what the law of the parts before it gives.
 use mathlib.Core.Path.{refl, _∙_}
 use native.Mathlib.Omega.{arith}
-use Rattle.flash.specs.Words.{some-state}
+use Rattle.flash.specs.Lengths.{some-state}
 use Rattle.lent.specs.Model.{geometry}
 use Rattle.copying.specs.Choice.{start-keeps-used}
 use Rattle.index.specs.Index.{flash-does, chip-of, spare-of}

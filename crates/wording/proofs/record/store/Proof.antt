@@ -42,8 +42,8 @@ returns c =
     let second = third .before .before .before .before in
     let first = second .before .before .before .before in
     let a = first .before .before .before .args in
-    in-order (a .«record» .now) (small (a .rec)) (first .put .ensures) (second .put2 .ensures) (third .put3 .ensures) (fourth .put4 .ensures)
-    (fifth .put5 .ensures)
+    in-order (a .«record» .now) (small (a .rec)) (first .set-word .ensures) (second .set-word2 .ensures) (third .set-word3 .ensures) (fourth .set-word4 .ensures)
+    (fifth .set-word5 .ensures)
 
 pub store-spec : {M : Type 1} → statement M
 store-spec =
