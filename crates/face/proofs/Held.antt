@@ -1,5 +1,6 @@
--- Format and check for Rattle are held to the contracts of which the demands speak (crate contracts): each asks nothing of its caller, and what it
--- tells is, by proof, that the call was made as its contract allows. An `ensures` that says less, or a `requires`, is refused here.
+-- Format and check for Rattle are held to the contracts of which the demands speak (crate contracts): the code of each meets a contract that asks
+-- nothing of its caller, and what it tells is that the call was made as the demands have it. An `ensures` that says less, or a `requires`,
+-- is refused here.
 use mathlib.Core.Path.{refl}
 use mathlib.Core.List.{List}
 use Prim.Native.Nat.{ℕ}
@@ -20,9 +21,13 @@ use Rattle.scope.specs.Contracts.{Answers}
 use Rattle.promises.specs.Call.{Format, Check}
 use Rattle.contracts.specs.Made.{Numbers as In-numbers, Contract-allows}
 use Rattle.contracts.specs.Ensured.{by-number, format-made, check-made}
-use Rattle.contracts.specs.Held.{Held-to}
+use Rattle.contracts.specs.Held.{code-of, Held-to}
 use Rattle.face.proofs.format as format′
+use Rattle.face.proofs.format.Symbol as format-symbol
+use Rattle.face.proofs.format.Met as format-met
 use Rattle.face.proofs.check as check′
+use Rattle.face.proofs.check.Symbol as check-symbol
+use Rattle.face.proofs.check.Met as check-met
 
 -- Each contract, at a model of the prover's logic.
 abbrev format-contract : (m : World) → Clauses (m .𝓤) format′.ended
@@ -44,16 +49,30 @@ module _ (g : Numbers) (rec rec′ : RefT Record) (chip spare directory cache co
   left = state (now chip′) (now spare′) (now directory′) (now cache′) (now rec′)
 
   pub format-held : (κs : Lfts 6) →
-      Held-to format′.ended format-contract κs
+      Held-to format′.ended (code-of format-symbol.routine) format-contract κs
       (rec, (g, (chip, (spare, (directory, (cache, (counts, tt))))))) r
       (rec′, (g, (chip′, (spare′, (directory′, (cache′, (counts′, tt)))))))
       (Contract-allows (geometry g) (Format sizes) (by-number r) (In-numbers lent (now counts) left (now counts′)))
-  format-held κs = record { asks-nothing = λ m x. refl; Told = Answers (format (geometry g) sizes lent) (now counts) r left (now counts′); tells-it = λ m x. refl; gives = format-made (geometry g) sizes lent }
+  format-held κs =
+      record {
+        meets = λ m. format-met.met (m .𝓤) (m .H) (m .𝓜) (m .𝓖) (m .𝓡);
+        asks-nothing = λ m x. refl;
+        Told = Answers (format (geometry g) sizes lent) (now counts) r left (now counts′);
+        tells-it = λ m x. refl;
+        gives = format-made (geometry g) sizes lent;
+      }
 
   -- Nothing but the counts is lent to be changed.
   pub check-held : (κs : Lfts 6) →
-      Held-to check′.ended check-contract κs
+      Held-to check′.ended (code-of check-symbol.routine) check-contract κs
       (rec, (g, (chip, (spare, (directory, (cache, (counts, tt))))))) r
       (rec′, (g, (chip′, (spare′, (directory′, (cache′, (counts′, tt)))))))
       (Contract-allows (geometry g) (Check sizes) (by-number r) (In-numbers lent (now counts) lent (now counts′)))
-  check-held κs = record { asks-nothing = λ m x. refl; Told = Answers (check (geometry g) sizes lent) (now counts) r lent (now counts′); tells-it = λ m x. refl; gives = check-made (geometry g) sizes lent }
+  check-held κs =
+      record {
+        meets = λ m. check-met.met (m .𝓤) (m .H) (m .𝓜) (m .𝓖) (m .𝓡);
+        asks-nothing = λ m x. refl;
+        Told = Answers (check (geometry g) sizes lent) (now counts) r lent (now counts′);
+        tells-it = λ m x. refl;
+        gives = check-made (geometry g) sizes lent;
+      }

@@ -1,5 +1,5 @@
--- The run for Rattle is held to the contracts of which the demands speak (crate contracts): it asks nothing of its caller, and what it
--- tells is, by proof, that the call was made as its contract allows. An `ensures` that says less, or a `requires`, is refused here.
+-- The run for Rattle is held to the contract of which the demands speak (crate contracts): its code meets a contract that asks nothing of its
+-- caller, and what it tells is that the call was made as the demands have it. An `ensures` that says less, or a `requires`, is refused here.
 use mathlib.Core.Path.{refl}
 use mathlib.Core.List.{List, map}
 use Prim.Native.Nat.{ℕ}
@@ -22,8 +22,10 @@ use Rattle.replies.specs.Model.{request}
 use Rattle.promises.specs.Call.{Run}
 use Rattle.contracts.specs.Made.{Numbers as In-numbers, Contract-allows}
 use Rattle.contracts.specs.Ensured.{by-run, run-made}
-use Rattle.contracts.specs.Held.{Held-to}
+use Rattle.contracts.specs.Held.{code-of, Held-to}
 use Rattle.facerun.proofs.run as run′
+use Rattle.facerun.proofs.run.Symbol as run-symbol
+use Rattle.facerun.proofs.run.Met as run-met
 
 -- Its contract, at a model of the prover's logic.
 abbrev run-contract : (m : World) → Clauses (m .𝓤) run′.ended
@@ -41,9 +43,16 @@ module _ (g : Numbers) (rec rec′ : RefT Record) (chip spare directory cache co
   abbrev left : State
   left = state (now chip′) (now spare′) (now directory′) (now cache′) (now rec′)
 
-  pub run-held : (κs : Lfts 8) →
-      Held-to run′.ended run-contract κs
+  pub run-held : (κs : Lfts 9) →
+      Held-to run′.ended (code-of run-symbol.routine) run-contract κs
       (rec, (g, (requests, (chip, (spare, (directory, (cache, (words, (answers, (counts, tt)))))))))) r
       (rec′, (g, (requests′, (chip′, (spare′, (directory′, (cache′, (words′, (answers′, (counts′, tt))))))))))
       (Contract-allows (geometry g) (Run sizes (map request (now requests)) (now words) (now answers)) (by-run (run-replied (now words′) (now answers′) r)) (In-numbers lent (now counts) left (now counts′)))
-  run-held κs = record { asks-nothing = λ m x. refl; Told = Answers (run (geometry g) sizes (map request (now requests)) (now words) (now answers) lent) (now counts) (run-replied (now words′) (now answers′) r) left (now counts′); tells-it = λ m x. refl; gives = run-made (geometry g) sizes lent (map request (now requests)) (now words) (now answers) }
+  run-held κs =
+      record {
+        meets = λ m. run-met.met (m .𝓤) (m .H) (m .𝓜) (m .𝓖) (m .𝓡);
+        asks-nothing = λ m x. refl;
+        Told = Answers (run (geometry g) sizes (map request (now requests)) (now words) (now answers) lent) (now counts) (run-replied (now words′) (now answers′) r) left (now counts′);
+        tells-it = λ m x. refl;
+        gives = run-made (geometry g) sizes lent (map request (now requests)) (now words) (now answers);
+      }
