@@ -1,7 +1,6 @@
 -- A call that was made, the three demands of it, and their proofs.
 pub mod Made
 pub mod Ensured
-pub mod Held
 pub mod Demands
 pub mod Outcomes
 pub mod Demand1

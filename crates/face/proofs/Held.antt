@@ -21,7 +21,7 @@ use Rattle.scope.specs.Contracts.{Answers}
 use Rattle.promises.specs.Call.{Format, Check}
 use Rattle.contracts.specs.Made.{Numbers as In-numbers, Contract-allows}
 use Rattle.contracts.specs.Ensured.{by-number, format-made, check-made}
-use Rattle.contracts.specs.Held.{code-of, Held-to}
+use Rattle.held.specs.Held.{code-of, Held-to}
 use Rattle.face.proofs.format as format′
 use Rattle.face.proofs.format.Symbol as format-symbol
 use Rattle.face.proofs.format.Met as format-met

@@ -22,7 +22,7 @@ use Rattle.scope.specs.Contracts.{Answers}
 use Rattle.promises.specs.Call.{Read-page, Write-page}
 use Rattle.contracts.specs.Made.{Numbers as In-numbers, Contract-allows}
 use Rattle.contracts.specs.Ensured.{by-page, read-made, write-made}
-use Rattle.contracts.specs.Held.{code-of, Held-to}
+use Rattle.held.specs.Held.{code-of, Held-to}
 use Rattle.facepage.proofs.read as read′
 use Rattle.facepage.proofs.read.Symbol as read-symbol
 use Rattle.facepage.proofs.read.Met as read-met

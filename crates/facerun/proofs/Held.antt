@@ -22,7 +22,7 @@ use Rattle.replies.specs.Model.{request}
 use Rattle.promises.specs.Call.{Run}
 use Rattle.contracts.specs.Made.{Numbers as In-numbers, Contract-allows}
 use Rattle.contracts.specs.Ensured.{by-run, run-made}
-use Rattle.contracts.specs.Held.{code-of, Held-to}
+use Rattle.held.specs.Held.{code-of, Held-to}
 use Rattle.facerun.proofs.run as run′
 use Rattle.facerun.proofs.run.Symbol as run-symbol
 use Rattle.facerun.proofs.run.Met as run-met

@@ -17,7 +17,7 @@ use Rattle.scope.specs.Contracts.{Gives}
 use Rattle.promises.specs.Call.{Format, Check, Read-page, Write-page, Run}
 use Rattle.contracts.specs.Made.{In-words, Contract-allows}
 use Rattle.contracts.specs.Ensured.{by-number, by-page, by-run, run-word-sizes, tf-format-made, tf-check-made, tf-read-made, tf-write-made, tf-run-made}
-use Rattle.contracts.specs.Held.{code-of, Held-to}
+use Rattle.held.specs.Held.{code-of, Held-to}
 use Rattle.trianglefire.specs.Numbers.{geometry-of}
 use Rattle.trianglefire.proofs.tf_format
 use Rattle.trianglefire.proofs.tf_format.Symbol as format-symbol

@@ -1,6 +1,6 @@
--- That a function, as it is proved, meets a contract of which the demands speak. The prover makes of a function's `requires` and `ensures` its
--- `clauses`, at every model of its logic, and proves of its code that it meets them; both stand in generated modules of the function's
--- name, which a proof may cite.
+-- That a function, as it is proved, meets a contract, and that this contract gives a fact: that of which the demands speak, or what is
+-- promised of the settings record. The prover makes of a function's `requires` and `ensures` its `clauses`, at every model of its logic, and
+-- proves of its code that it meets them; both stand in generated modules of the function's name, which a proof may cite.
 use mathlib.Core.Path.{_≡_}
 use base.Logic.{emp}
 use borrow.Fn.World.{World}

@@ -1,0 +1,1 @@
+// What it is for a function to be held to a fact. No code.
