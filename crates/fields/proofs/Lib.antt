@@ -1,0 +1,2 @@
+-- The modules of this folder beside the printed proofs.
+pub mod Held
