@@ -11,8 +11,10 @@
  *      directory, cache, record.  Their sizes are below.
  *   2. Call tf_format once.
  *   3. From then on call tf_read, tf_write and tf_run with the same geometry and the same slices.
+ *   4. Keep the geometry with the node, as the bytes that tf_settings_write makes of it: they, and
+ *      tf_settings_read, say years later what to call it with.
  *
- * What every call has in common:
+ * What every call on a node has in common:
  *
  * - A slice is a pointer to 32-bit words, aligned as uint32_t, and then its count of words.  Behind
  *   the pointer there must be that many words.  An empty slice may be given as NULL, 0.  The slices
@@ -221,7 +223,7 @@ extern "C" {
 #endif
 
 /*
- * ---- The five calls ---------------------------------------------------------------------------
+ * ---- The five calls on a node -----------------------------------------------------------------
  *
  * p, w, d, t, l, c are the geometry; counts takes the three counts.
  */
@@ -327,6 +329,61 @@ uint32_t tf_run(uint32_t p, uint32_t w, uint32_t d, uint32_t t, uint32_t l, uint
                 uint32_t *data, size_t data_words,
                 uint32_t *answers, size_t answers_words,
                 uint32_t *counts, size_t counts_words);
+
+/*
+ * ---- Settings: the geometry kept with the node ------------------------------------------------
+ *
+ * A settings record holds the six numbers as bytes, for a node that is opened years later.  It is
+ * the caller's to keep, outside the lent chip: no call above looks for it there.  These two calls
+ * are lent bytes and words of their own and nothing of the node, take no counts, and have answers
+ * of their own, which are not those of enum tf_reply.
+ *
+ * A record is a row of fields: a tag of one byte, the length of the value in two, the value.  All
+ * numbers are big-endian.  Version 1 is these seven fields, in this order, 36 bytes:
+ *
+ *   tag      1         2   3   4   5   6   7
+ *   length   1         2   2   2   2   4   2
+ *   value    1         p   w   d   t   l   c
+ *
+ * and any number of whole fields of higher tags after them, which the reader skips and the writer
+ * does not write.  For each accepted geometry there is one record of 36 bytes, and no other.
+ */
+#define TF_SETTINGS_BYTES 36  /* what tf_settings_write makes */
+#define TF_SETTINGS_NUMBERS 6 /* p, w, d, t, l, c: what tf_settings_read hands back */
+
+/* The reader goes field by field and gives the first of these that applies, the version's right
+ * after its field. */
+enum tf_settings {
+    TF_SETTINGS_ACCEPTED = 0, /* read, or written */
+    TF_SETTINGS_SHORT = 1,    /* fewer bytes than the field needs, whatever they are */
+    TF_SETTINGS_TAG = 2,      /* the field has another tag */
+    TF_SETTINGS_LENGTH = 3,   /* the field has another length */
+    TF_SETTINGS_VERSION = 4,  /* a version that this library does not know */
+    TF_SETTINGS_AFTER = 5,    /* after tag 7, bytes that are not whole fields of higher tags */
+    TF_SETTINGS_GEOMETRY = 6, /* the geometry is not accepted */
+    TF_SETTINGS_PLACE = 7     /* the slice to be written has another length than it should */
+};
+
+/*
+ * Reads a settings record of bytes_n bytes into numbers, TF_SETTINGS_NUMBERS words.
+ *
+ *   TF_SETTINGS_ACCEPTED   numbers holds p, w, d, t, l, c, which the calls above accept
+ *   1 to 6                 refused; numbers holds six zeros
+ *   TF_SETTINGS_PLACE      numbers_n is not TF_SETTINGS_NUMBERS, whatever the bytes are: nothing is
+ *                          written
+ */
+uint32_t tf_settings_read(const uint8_t *bytes, size_t bytes_n,
+                          uint32_t *numbers, size_t numbers_n);
+
+/*
+ * Writes the settings record of a geometry to place, TF_SETTINGS_BYTES bytes, as version 1.
+ *
+ *   TF_SETTINGS_ACCEPTED   place holds the record, from which tf_settings_read gives the six numbers
+ *   TF_SETTINGS_GEOMETRY   refused, nothing changed
+ *   TF_SETTINGS_PLACE      place_n is not TF_SETTINGS_BYTES: refused, nothing changed
+ */
+uint32_t tf_settings_write(uint32_t p, uint32_t w, uint32_t d, uint32_t t, uint32_t l, uint32_t c,
+                           uint8_t *place, size_t place_n);
 
 #ifdef __cplusplus
 }

@@ -42,7 +42,7 @@ def c_arguments_of(function, argument):
         return [f"{NUMBERS[kind]} {name}"]
     if colon and slice_of and slice_of[2] in NUMBERS:
         shared = "" if slice_of[1] else "const "
-        return [f"{shared}{NUMBERS[slice_of[2]]} *{name}", f"size_t {name}_words"]
+        return [f"{shared}{NUMBERS[slice_of[2]]} *{name}", f"size_t {name}_n"]
     raise Unreadable(f"{function}: the source's argument '{argument}' is neither a number nor a slice of numbers")
 
 
@@ -65,6 +65,16 @@ def spaced(declaration):
     return re.sub(r"\s*\*\s*", " *", " ".join(declaration.split()))
 
 
+def counted(arguments):
+    """C arguments with `NAME_n` for `NAME_words`, which a count may be called behind a slice of 32-bit words and nowhere else."""
+    named = list(arguments)
+    for i, (before, argument) in enumerate(zip(arguments, arguments[1:]), start=1):
+        words = re.fullmatch(r"(?:const )?uint32_t \*(\w+)", before)
+        if words and argument == f"size_t {words[1]}_words":
+            named[i] = f"size_t {words[1]}_n"
+    return named
+
+
 def declared(header):
     """The functions that a header declares and does not define: name to (result, arguments)."""
     header = re.sub(r"/\*.*?\*/|//[^\n]*", " ", header, flags=re.S)
@@ -78,7 +88,7 @@ def declared(header):
         prototype = re.fullmatch(r"\s*([\w\s*]+?)\b(\w+)\s*\(([^()]*)\)\s*", statement)
         if prototype:
             result, name, arguments = prototype.groups()
-            given = [spaced(argument) for argument in split_arguments(arguments)]
+            given = counted([spaced(argument) for argument in split_arguments(arguments)])
             found[name] = (spaced(result), [] if given == ["void"] else given)
     return found
 
@@ -125,6 +135,8 @@ pub extern "C" fn tf_sum(p: u32, w: u32, chip: &mut [u32], buffer: &[u32]) -> u3
     inner(p)
 }
 #[no_mangle]
+pub extern "C" fn tf_bytes(bytes: &[u8], numbers: &mut [u32], place: &mut [u8]) -> u32 { 0 }
+#[no_mangle]
 pub extern "C" fn tf_none() {}
 """
 SAMPLE_HEADER = """
@@ -140,6 +152,9 @@ extern "C" {
 uint32_t tf_sum(uint32_t p, uint32_t w,
                 uint32_t *chip, size_t chip_words,
                 const uint32_t *buffer, size_t buffer_words);
+uint32_t tf_bytes(const uint8_t *bytes, size_t bytes_n,
+                  uint32_t *numbers, size_t numbers_n,
+                  uint8_t *place, size_t place_n);
 void tf_none(void);
 #ifdef __cplusplus
 }
@@ -156,14 +171,23 @@ SAMPLES = [
     ("pointer and count swapped", "header", "uint32_t *chip, size_t chip_words", "size_t chip_words, uint32_t *chip",
      ["argument 3", "argument 4"]),
     ("number dropped", "header", "uint32_t p, ", "", ["'uint32_t p', is not in the header"]),
-    ("count dropped", "header", ", size_t chip_words", "", ["'size_t chip_words', is not in the header"]),
-    ("slice dropped", "source", ", buffer: &[u32]", "", ["'const uint32_t *buffer'", "'size_t buffer_words'"]),
+    ("count dropped", "header", ", size_t chip_words", "", ["'size_t chip_n', is not in the header"]),
+    ("slice dropped", "source", ", buffer: &[u32]", "", ["'const uint32_t *buffer'", "'size_t buffer_n'"]),
     ("argument added", "header", "uint32_t p,", "uint32_t p, uint32_t page,", ["'uint32_t page', is not in the source"]),
     ("const lost", "header", "const uint32_t *buffer", "uint32_t *buffer", ["argument 5"]),
     ("const added", "header", "uint32_t *chip", "const uint32_t *chip", ["argument 3"]),
     ("made mutable", "source", "buffer: &[u32]", "buffer: &mut [u32]", ["argument 5"]),
     ("another width", "source", "w: u32", "w: u64", ["argument 2"]),
     ("another name", "header", "size_t buffer_words", "size_t length", ["argument 6"]),
+    ("words counted as n", "header", "size_t buffer_words", "size_t buffer_n", []),
+    ("n counted as words", "header", "size_t numbers_n", "size_t numbers_words", []),
+    ("bytes counted as words", "header", "size_t bytes_n", "size_t bytes_words", ["argument 2"]),
+    ("the count of another slice", "header", "size_t place_n", "size_t numbers_n", ["argument 6"]),
+    ("bytes for words", "header", "uint8_t *place", "uint32_t *place", ["argument 5"]),
+    ("words for bytes", "source", "bytes: &[u8]", "bytes: &[u32]", ["argument 1"]),
+    ("const lost of bytes", "header", "const uint8_t *bytes", "uint8_t *bytes", ["argument 1"]),
+    ("bytes made mutable", "source", "bytes: &[u8]", "bytes: &mut [u8]", ["argument 1"]),
+    ("bytes dropped", "source", ", place: &mut [u8]", "", ["'uint8_t *place'", "'size_t place_n'"]),
     ("another result", "header", "uint32_t tf_sum", "uint64_t tf_sum", ["returns 'uint32_t'"]),
     ("no prototype", "header", "void tf_none(void);", "", ["not declared in the header"]),
     ("not exported", "source", "#[no_mangle]\npub extern \"C\" fn tf_none", "pub extern \"C\" fn tf_none",

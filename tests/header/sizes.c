@@ -1,6 +1,6 @@
 /*
- * The header's numbers and sizes, held to document 01 by value.  Compiled as C11 and as C++17, with
- * warnings as errors: that this file compiles is half of the test.
+ * The header's numbers and sizes, held to documents 01 and 02 by value.  Compiled as C11 and as
+ * C++17, with warnings as errors: that this file compiles is half of the test.
  */
 #include "trianglefire.h"
 
@@ -38,6 +38,22 @@ static_assert(TF_SPARE_STATE == 0 && TF_SPARE_OWNER == 1 && TF_WORDS_IN_SPARE ==
 static_assert(TF_ENTRY_LOGICAL == 0 && TF_ENTRY_PHYSICAL == 1, "cache");
 static_assert(TF_ENTRY_CHANGED == 2 && TF_WORDS_IN_ENTRY == 3, "cache");
 static_assert(TF_KIND_READ == 0 && TF_KIND_WRITE == 1 && TF_WORDS_IN_REQUEST == 2, "requests");
+
+/* 02's settings record: heads and numbers of seven fields; refusals "numbered from 1". */
+static_assert(TF_SETTINGS_BYTES == 7 * 3 + 1 + 2 + 2 + 2 + 2 + 4 + 2, "settings");
+static_assert(TF_SETTINGS_BYTES == 36 && TF_SETTINGS_NUMBERS == 6, "settings");
+static_assert(TF_SETTINGS_ACCEPTED == 0 && TF_SETTINGS_SHORT == 1, "settings");
+static_assert(TF_SETTINGS_TAG == 2 && TF_SETTINGS_LENGTH == 3, "settings");
+static_assert(TF_SETTINGS_VERSION == 4 && TF_SETTINGS_AFTER == 5, "settings");
+static_assert(TF_SETTINGS_GEOMETRY == 6 && TF_SETTINGS_PLACE == 7, "settings");
+static_assert(sizeof(enum tf_settings) == sizeof(int), "an enum of small numbers");
+
+/* Arrays for both calls. */
+struct settings {
+    uint8_t place[TF_SETTINGS_BYTES];
+    uint32_t numbers[TF_SETTINGS_NUMBERS];
+};
+static_assert(sizeof(struct settings) == 60, "a settings record and its numbers");
 
 static int failures = 0;
 

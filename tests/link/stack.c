@@ -12,12 +12,13 @@
         record, TF_RECORD_WORDS
 #define COUNTS counts, TF_COUNTS_WORDS
 
-enum { LOGICAL = 14, W = 2, REQUESTS = 512, STACK_WORDS = 64 * 1024, PAINT = 0x5eabed };
+enum { LOGICAL = 14, W = 2, REQUESTS = 512, FIELDS = 64, STACK_WORDS = 64 * 1024, PAINT = 0x5eabed };
 
 static uint32_t chip[TF_CHIP_WORDS(NODE)], spare[TF_SPARE_WORDS(NODE)];
 static uint32_t directory[TF_DIRECTORY_WORDS(NODE)], cache[TF_CACHE_WORDS(NODE)], record[TF_RECORD_WORDS];
 static uint32_t counts[TF_COUNTS_WORDS], page[W];
 static uint32_t requests[REQUESTS * TF_WORDS_IN_REQUEST], data[REQUESTS * W], answers[REQUESTS];
+static uint8_t settings[TF_SETTINGS_BYTES + FIELDS * 4];
 static uint32_t stack[STACK_WORDS];
 static ucontext_t here, there;
 static bool refused, erased;
@@ -52,6 +53,18 @@ static void read_all(void)
         refused |= tf_read(NODE, i * 5 % LOGICAL, STATE, page, W, COUNTS) != TF_DONE;
 }
 
+static void settings_write(void)
+{
+    refused |= tf_settings_write(NODE, settings, TF_SETTINGS_BYTES) != TF_SETTINGS_ACCEPTED;
+}
+
+/* With fields of a higher tag to skip, of one byte each. */
+static void settings_read(void)
+{
+    uint32_t numbers[TF_SETTINGS_NUMBERS];
+    refused |= tf_settings_read(settings, sizeof settings, numbers, TF_SETTINGS_NUMBERS) != TF_SETTINGS_ACCEPTED;
+}
+
 /* Makes the calls on the painted stack; says how many bytes of it they used. */
 static size_t depth(void (*calls)(void))
 {
@@ -75,8 +88,13 @@ int main(void)
         requests[2 * i] = i % 3 == 0 ? TF_KIND_READ : TF_KIND_WRITE;
         requests[2 * i + 1] = i * 5 % LOGICAL;
     }
+    for (size_t at = TF_SETTINGS_BYTES; at < sizeof settings; at += 4) {
+        settings[at] = 8;
+        settings[at + 2] = 1;
+    }
     const struct { const char *name; void (*calls)(void); } made[] = {
-        {"format", format}, {"write", write_all}, {"read", read_all}, {"run", run}, {"check", check}};
+        {"format", format}, {"write", write_all}, {"read", read_all}, {"run", run}, {"check", check},
+        {"settings write", settings_write}, {"settings read", settings_read}};
     size_t most = 0;
     printf("link: bytes of stack:");
     for (size_t i = 0; i < sizeof made / sizeof *made; i++) {

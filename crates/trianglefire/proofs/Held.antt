@@ -19,6 +19,7 @@ use Rattle.contracts.specs.Made.{In-words, Contract-allows}
 use Rattle.contracts.specs.Ensured.{by-number, by-page, by-run, run-word-sizes, tf-format-made, tf-check-made, tf-read-made, tf-write-made, tf-run-made}
 use Rattle.held.specs.Held.{code-of, Held-to}
 use Rattle.trianglefire.specs.Numbers.{geometry-of}
+use Rattle.settings.specs.Kept.{Read-made, Write-made}
 use Rattle.trianglefire.proofs.tf_format
 use Rattle.trianglefire.proofs.tf_format.Symbol as format-symbol
 use Rattle.trianglefire.proofs.tf_format.Met as format-met
@@ -34,6 +35,12 @@ use Rattle.trianglefire.proofs.tf_write.Met as write-met
 use Rattle.trianglefire.proofs.tf_run
 use Rattle.trianglefire.proofs.tf_run.Symbol as run-symbol
 use Rattle.trianglefire.proofs.tf_run.Met as run-met
+use Rattle.trianglefire.proofs.tf_settings_read
+use Rattle.trianglefire.proofs.tf_settings_read.Symbol as settings-read-symbol
+use Rattle.trianglefire.proofs.tf_settings_read.Met as settings-read-met
+use Rattle.trianglefire.proofs.tf_settings_write
+use Rattle.trianglefire.proofs.tf_settings_write.Symbol as settings-write-symbol
+use Rattle.trianglefire.proofs.tf_settings_write.Met as settings-write-met
 
 -- Each contract, at a model of the prover's logic.
 abbrev format-contract : (m : World) → Clauses (m .𝓤) tf_format.ended
@@ -50,6 +57,12 @@ write-contract m = tf_write.clauses (m .𝓤) (m .H) (m .𝓖 .A) (m .𝓜 .mem)
 
 abbrev run-contract : (m : World) → Clauses (m .𝓤) tf_run.ended
 run-contract m = tf_run.clauses (m .𝓤) (m .H) (m .𝓖 .A) (m .𝓜 .mem) (m .𝓡 .run)
+
+abbrev settings-read-contract : (m : World) → Clauses (m .𝓤) tf_settings_read.ended
+settings-read-contract m = tf_settings_read.clauses (m .𝓤) (m .H) (m .𝓖 .A) (m .𝓜 .mem) (m .𝓡 .run)
+
+abbrev settings-write-contract : (m : World) → Clauses (m .𝓤) tf_settings_write.ended
+settings-write-contract m = tf_settings_write.clauses (m .𝓤) (m .H) (m .𝓖 .A) (m .𝓜 .mem) (m .𝓡 .run)
 
 module _ (p w d t l c : ℕ) (chip spare directory cache small counts chip′ spare′ directory′ cache′ small′ counts′ : RefT (List ℕ))
     (r : ℕ) where
@@ -140,3 +153,31 @@ module _ (p w d t l c : ℕ) (chip spare directory cache small counts chip′ sp
           tells-it = λ m x. refl;
           gives = tf-run-made g lent (now requests) (now words₀) (now answers);
         }
+
+-- The settings record: what its promises (settings/Kept.antt) speak of.
+module _ (bytes bytes′ numbers numbers′ : RefT (List ℕ)) (r : ℕ) where
+  pub tf-settings-read-held : (κs : Lfts 2) →
+      Held-to tf_settings_read.ended (code-of settings-read-symbol.routine) settings-read-contract κs (bytes, (numbers, tt)) r (bytes′, (numbers′, tt))
+      (Read-made (now bytes) (now numbers) r (now numbers′))
+  tf-settings-read-held κs =
+      record {
+        meets = λ m. settings-read-met.met (m .𝓤) (m .H) (m .𝓜) (m .𝓖) (m .𝓡);
+        asks-nothing = λ m x. refl;
+        Told = Read-made (now bytes) (now numbers) r (now numbers′);
+        tells-it = λ m x. refl;
+        gives = λ h. h;
+      }
+
+module _ (p w d t l c : ℕ) (place place′ : RefT (List ℕ)) (r : ℕ) where
+  pub tf-settings-write-held : (κs : Lfts 1) →
+      Held-to tf_settings_write.ended (code-of settings-write-symbol.routine) settings-write-contract κs
+      (p, (w, (d, (t, (l, (c, (place, tt))))))) r (p, (w, (d, (t, (l, (c, (place′, tt)))))))
+      (Write-made (geometry-of p w d t l c) (now place) r (now place′))
+  tf-settings-write-held κs =
+      record {
+        meets = λ m. settings-write-met.met (m .𝓤) (m .H) (m .𝓜) (m .𝓖) (m .𝓡);
+        asks-nothing = λ m x. refl;
+        Told = Write-made (geometry-of p w d t l c) (now place) r (now place′);
+        tells-it = λ m x. refl;
+        gives = λ h. h;
+      }

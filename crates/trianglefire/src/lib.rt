@@ -1,4 +1,4 @@
-// The five calls for C. Numbers come first, then slices, each a pointer and a count of words; the reply number is returned. No call has a
+// The calls for C. Numbers come first, then slices, each a pointer and a count of its elements; the reply number is returned. No call has a
 // `requires`, for nothing checks one from C: each contract gives, for every input, the reply and every lent word by the call's definition in
 // words. All that an export does is to hand on: the numbers of the geometry as one, and every slice as it is.
 use lent::Geometry;
@@ -6,6 +6,7 @@ ghost use Rattle.scope.specs.Requests.{replied};
 ghost use Rattle.scope.specs.Calls.{run-replied};
 ghost use Rattle.scope.specs.Boundary.{tf-format, tf-check, tf-read, tf-write, tf-run};
 ghost use Rattle.scope.specs.Contracts.{Gives};
+ghost use Rattle.settings.specs.Kept.{Read-made, Write-made};
 ghost use Rattle.lent.specs.Model.{words};
 ghost use Rattle.trianglefire.specs.Numbers.{geometry-of};
 
@@ -194,4 +195,26 @@ pub extern "C" fn tf_run(
         answers,
         counts,
     )
+}
+
+#[no_mangle]
+pub extern "C" fn tf_settings_read(bytes: &[u8], numbers: &mut [u32]) -> u32
+    ensures { λ r. ⌜ Read-made (now (bytes .entry)) (now (numbers .entry)) r (now (numbers .exit)) ⌝ }
+{
+    fields::words::read_settings(bytes, numbers)
+}
+
+#[no_mangle]
+pub extern "C" fn tf_settings_write(
+    p: u32,
+    w: u32,
+    d: u32,
+    t: u32,
+    l: u32,
+    c: u32,
+    place: &mut [u8],
+) -> u32
+    ensures { λ r. ⌜ Write-made (geometry-of p w d t l c) (now (place .entry)) r (now (place .exit)) ⌝ }
+{
+    fields::words::write_settings(Geometry { p, w, d, t, l, c }, place)
 }
