@@ -1,24 +1,13 @@
 /*
- * Which geometries are accepted, and the lengths that the five slices of the
- * state must then have.
+ * The accepted geometry as the calls use it, and the lengths that the five
+ * slices of the state must then have.
  */
 #include "ind_internal.h"
 
-/*
- * Every product is of numbers already bounded, or is taken in 64 bits: "No
- * product may wrap, also where the geometry is refused."
- */
 bool ind_accept(struct ind_geometry *g, uint32_t p, uint32_t w, uint32_t d, uint32_t t,
                 uint32_t l, uint32_t c)
 {
-    if (p < 1 || p > IND_MAX_P || w < 1 || w > IND_MAX_W || c < 1 || c > IND_MAX_C)
-        return false;
-    if (d < 2 || t < 2 || (uint64_t)d + t > IND_MAX_BLOCKS)
-        return false;
-    uint64_t m = ((uint64_t)l + w - 1) / w;
-    uint64_t most_l = (uint64_t)(d - 1) * p - 1;
-    uint64_t most_m = (uint64_t)(t - 1) * p - 1;
-    if (l < 1 || l > most_l || m < 1 || m > most_m)
+    if (!ind_accepted(p, w, d, t, l, c))
         return false;
     g->p = p;
     g->w = w;
@@ -26,7 +15,7 @@ bool ind_accept(struct ind_geometry *g, uint32_t p, uint32_t w, uint32_t d, uint
     g->t = t;
     g->l = l;
     g->c = c;
-    g->m = (uint32_t)m;
+    g->m = (l + w - 1) / w;
     return true;
 }
 

@@ -69,6 +69,24 @@ struct ind_work {
     struct ind_summary s;
 };
 
+/*
+ * Whether a geometry is accepted.  Every product is of numbers already bounded,
+ * and the sum before them is taken in 64 bits: "No product may wrap, also where
+ * the geometry is refused."  M is at most (T-1)*P - 1 exactly when L is at most W
+ * times that, so no division is needed.
+ */
+static inline bool ind_accepted(uint32_t p, uint32_t w, uint32_t d, uint32_t t, uint32_t l,
+                                uint32_t c)
+{
+    if (p < 1 || p > IND_MAX_P || w < 1 || w > IND_MAX_W || c < 1 || c > IND_MAX_C)
+        return false;
+    if (d < 2 || t < 2 || (uint64_t)d + t > IND_MAX_BLOCKS)
+        return false;
+    uint32_t most_l = (d - 1) * p - 1;
+    uint32_t most_m = (t - 1) * p - 1;
+    return l >= 1 && l <= most_l && l <= most_m * w;
+}
+
 static inline uint32_t ind_first_block(const struct ind_geometry *g, int region)
 {
     return region == IND_DATA ? 0 : g->d;

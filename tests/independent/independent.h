@@ -1,10 +1,10 @@
 /*
- * A demand-cached flash translation layer: the five public calls, and one
- * helper for tests.
+ * A demand-cached flash translation layer: the five public calls, the settings
+ * record, and two helpers for tests.
  *
- * Every slice is a pointer to 32-bit words followed by its count of words; an
- * empty slice may come as NULL, 0.  Slices do not overlap.  Nothing is kept
- * between calls: the whole state is the lent memory.
+ * Every slice is a pointer to 32-bit words followed by its count of words (bytes
+ * in the settings record); an empty slice may come as NULL, 0.  Slices do not
+ * overlap.  Nothing is kept between calls: the whole state is the lent memory.
  *
  * The geometry is six numbers: p pages in a block, w words in a page, d data
  * blocks, t translation blocks, l logical pages, c cache entries.
@@ -93,5 +93,44 @@ int ind_first_broken_rule(uint32_t p, uint32_t w, uint32_t d, uint32_t t, uint32
                           const uint32_t *directory, size_t directory_n,
                           const uint32_t *cache, size_t cache_n,
                           const uint32_t *record, size_t record_n, uint32_t *where);
+
+/* The answers of the settings record, tried in this order but for PLACE. */
+enum {
+    IND_SETTINGS_DONE = 0,
+    IND_SETTINGS_SHORT = 1,   /* fewer bytes left than the field needs */
+    IND_SETTINGS_TAG = 2,     /* another tag than the field's */
+    IND_SETTINGS_LENGTH = 3,  /* another length than the field's */
+    IND_SETTINGS_VERSION = 4, /* no such version */
+    IND_SETTINGS_AFTER = 5,   /* after the last field, not whole fields of higher tags */
+    IND_SETTINGS_GEOMETRY = 6,
+    IND_SETTINGS_PLACE = 7 /* not six numbers to read into, or not 36 bytes to write to */
+};
+
+enum { IND_SETTINGS_NUMBERS = 6, IND_SETTINGS_BYTES = 36 };
+
+/*
+ * Hands back p, w, d, t, l, c, or six zeros with a refusal.  PLACE is tested
+ * first, and then nothing is written.
+ */
+uint32_t ind_settings_read(const uint8_t *bytes, size_t bytes_n, uint32_t *numbers,
+                           size_t numbers_n);
+
+/* GEOMETRY, then PLACE; a refusal changes nothing. */
+uint32_t ind_settings_write(uint32_t p, uint32_t w, uint32_t d, uint32_t t, uint32_t l, uint32_t c,
+                            uint8_t *place, size_t place_n);
+
+/*
+ * For tests and tools: the reader's answer again, with the numbers of the fields
+ * that were read, whatever geometry they make, and zeros for the others.  *where
+ * tells the byte at which a refusal stands:
+ *   SHORT     the first of the field that is cut (bytes_n if nothing of it is there)
+ *   TAG       the tag
+ *   LENGTH    the first of the length
+ *   VERSION   the version's value
+ *   AFTER     the first of the field that is cut or has a low tag
+ * and is 0 with GEOMETRY and DONE.
+ */
+uint32_t ind_settings_where(const uint8_t *bytes, size_t bytes_n,
+                            uint32_t numbers[IND_SETTINGS_NUMBERS], size_t *where);
 
 #endif

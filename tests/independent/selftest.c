@@ -1,7 +1,8 @@
 /*
  * The self-test: the session in full with the state it leaves, the six marked
- * cases, then the random parts.  Usage: selftest [seed [effort]]; the seed is 1
- * and the effort 1 by default, so that a plain run is always the same.
+ * cases, the random parts, then the settings record.  Usage: selftest [seed
+ * [effort]]; the seed is 1 and the effort 1 by default, so that a plain run is
+ * always the same.
  */
 #include "selftest.h"
 
@@ -126,6 +127,10 @@ static void print_coverage(const struct coverage *seen)
            (unsigned long long)seen->broken[0]);
     for (int rule = 1; rule <= 7; rule++)
         printf(" %d: %llu", rule, (unsigned long long)seen->broken[rule]);
+    printf("\nsettings written %llu, not written %llu; records read by answer:",
+           (unsigned long long)seen->writes[0], (unsigned long long)seen->writes[1]);
+    for (int answer = 0; answer <= 6; answer++)
+        printf(" %d: %llu", answer, (unsigned long long)seen->records[answer]);
     printf("\n");
 }
 
@@ -150,9 +155,12 @@ int main(int argc, char **argv)
     test_medium(base + 5, 300 * effort, &seen);
     test_many_pages(base + 6, 6 * effort, &seen);
     test_damage(base + 7, 1200 * effort, &seen);
+    test_settings(base + 8, 16 * effort, &seen);
     print_coverage(&seen);
     for (int rule = 0; rule <= 7; rule++)
         REQUIRE(seen.broken[rule] > 0);
+    for (int answer = 0; answer <= 6; answer++)
+        REQUIRE(seen.records[answer] > 1000);
     printf("all passed\n");
     return 0;
 }

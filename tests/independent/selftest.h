@@ -8,6 +8,7 @@
 struct coverage {
     uint64_t calls, runs, unwritten, erases, full_bound_writes, full_bound_reads;
     uint64_t states, corruptions, broken[8]; /* broken[0]: still sound */
+    uint64_t records[7], writes[2]; /* settings: by the reader's answer; written, refused */
 };
 
 /* test_sessions.c */
@@ -27,8 +28,13 @@ void test_many_pages(uint64_t seed, uint32_t runs, struct coverage *seen);
 void test_damage(uint64_t seed, uint32_t states, struct coverage *seen);
 
 /* test_refusals.c */
+bool accepted(const uint32_t g[6]); /* the table of the geometry, in 64 bits */
+void edge_geometry(uint32_t g[6], uint64_t *seed);
 void test_geometry_edges(uint64_t seed, uint32_t tries);
 void test_lengths(uint64_t seed, uint32_t worlds);
 void test_arbitrary_input(uint64_t seed, uint32_t tries);
+
+/* test_settings.c */
+void test_settings(uint64_t seed, uint32_t records, struct coverage *seen);
 
 #endif

@@ -33,8 +33,7 @@ static uint32_t call(int which, const uint32_t g[6], uint32_t page, uint32_t *s[
 #undef FIVE
 }
 
-/* The table of the geometry, in 64 bits. */
-static bool accepted(const uint32_t g[6])
+bool accepted(const uint32_t g[6])
 {
     uint64_t p = g[0], w = g[1], d = g[2], t = g[3], l = g[4], c = g[5];
     if (!(1 <= p && p <= 64 && 1 <= w && w <= 512 && 2 <= d && 2 <= t && d + t <= 1024))
@@ -49,7 +48,7 @@ static uint32_t near(uint32_t edge, uint64_t *seed)
     return edge + random_below(seed, 3) - 1;
 }
 
-static void edge_geometry(uint32_t g[6], uint64_t *seed)
+void edge_geometry(uint32_t g[6], uint64_t *seed)
 {
     g[0] = random_below(seed, 2) ? near(64, seed) : 1 + random_below(seed, 64);
     g[1] = random_below(seed, 2) ? near(512, seed) : 1 + random_below(seed, 512);
