@@ -5,9 +5,9 @@ use lent::Geometry;
 use lent::SPARE_WORDS;
 ghost use mathlib.Core.Path.{_≡_};
 ghost use mathlib.Core.Bool.{_&&_};
-ghost use Prim.Native.Nat.{_+_, _-_, _*_, _≤_, _<_};
+ghost use Prim.Native.Nat.{_+_, _-_, _*_, _/_, _≤_, _<_};
 ghost use lib.Dec.{leb};
-ghost use Rattle.scope.specs.Geometry.{Accepted, accepted, within, most-blocks, most-pages-in-block, M, pages};
+ghost use Rattle.scope.specs.Geometry.{Accepted, accepted, within, most-blocks, most-pages-in-block, most-pages, M, pages};
 ghost use Rattle.scope.specs.Replies.{right-sizes};
 ghost use Rattle.lent.specs.Model.{geometry};
 ghost use Rattle.geometry.specs.Sizes.{sizes};
@@ -45,12 +45,20 @@ fn blocks_within(d: usize, t: usize) -> bool
     d + t <= MOST_BLOCKS
 }
 
-// The rows of L and M: a number of owners from 1 to what a region of so many blocks of p pages has room for.
-fn owners_within(blocks: usize, p: usize, owners: usize) -> bool
+// The most owners that a region of so many blocks of p pages has room for.
+fn most_owners(blocks: usize, p: usize) -> usize
     requires { ⌜ (2 ≤ blocks) × (blocks ≤ most-blocks) × (1 ≤ p) × (p ≤ most-pages-in-block) ⌝ }
-    ensures { λ r. ⌜ r ≡ within 1 owners ((blocks - 1) * p - 1) ⌝ }
+    ensures { λ r. ⌜ (r ≡ (blocks - 1) * p - 1) × (r < most-pages) ⌝ }
 {
-    within(1, owners, (blocks - 1) * p - 1)
+    (blocks - 1) * p - 1
+}
+
+// The row of M, without a division: that many pages of w words have a word for each of l logical pages.
+fn words_within(most: usize, w: usize, l: usize) -> bool
+    requires { ⌜ (most < most-pages) × (1 ≤ w) × (w ≤ 512) × (1 ≤ l) ⌝ }
+    ensures { λ r. ⌜ r ≡ within 1 ((l + (w - 1)) / w) most ⌝ }
+{
+    l <= most * w
 }
 
 // M, the number of translation pages.
@@ -77,10 +85,10 @@ pub fn accepts(g: Geometry) -> bool
     if !blocks_within(d, t) {
         return false;
     }
-    if !owners_within(d, p, g.l as usize) {
+    if !within(1, g.l as usize, most_owners(d, p)) {
         return false;
     }
-    if !owners_within(t, p, translation_pages(g)) {
+    if !words_within(most_owners(t, p), g.w as usize, g.l as usize) {
         return false;
     }
     within(1, g.c as usize, MOST_ENTRIES)
