@@ -1,12 +1,13 @@
 #!/usr/bin/env python3
-"""Holds the definitions of document 01 to the independent program.
+"""Holds the definitions of documents 01 and 02 to the independent program.
 
 Random sessions on tiny geometries are played by the independent program; what
 it printed and the whole state it left are then stated of the definitions, one
 closed instance a session, and proved by computation in a scratch repository.
 A session on which the two differ is refused by the prover with both values.
+So are records and geometries that are read and written as settings.
 
-usage: compare.py [--seed N] [--sessions N]
+usage: compare.py [--seed N] [--sessions N] [--settings N]
 """
 import argparse
 import pathlib
@@ -15,6 +16,8 @@ import shutil
 import subprocess
 import sys
 import tempfile
+
+import settings
 
 HERE = pathlib.Path(__file__).resolve().parent
 ROOT = HERE.parent.parent
@@ -67,37 +70,61 @@ def instance(driver, number, geometry, lines):
             f"unfolding computed\nsession-{number} = refl\n\n")
 
 
+def crates_under(names):
+    """The crates that these stand on, themselves among them, as lines of crates.txt in its order."""
+    lines = [x for x in (ROOT / "crates.txt").read_text().splitlines() if ":" in x and not x.startswith("#")]
+    wanted = set(names)
+    for name, under in reversed([x.split(":", 1) for x in lines]):
+        if name in wanted:
+            wanted.update(under.split())
+    return [x for x in lines if x.split(":", 1)[0] in wanted]
+
+
+def compiled(scratch, source):
+    """A driver over the independent program."""
+    program = scratch / pathlib.Path(source).stem
+    core = sorted((ROOT / "tests/independent").glob("ind*.c"))
+    subprocess.run(["cc", "-std=c11", "-O1", "-o", program, HERE / source, *core], check=True)
+    return program
+
+
 def main():
     arguments = argparse.ArgumentParser(description=__doc__, formatter_class=argparse.RawDescriptionHelpFormatter)
     arguments.add_argument("--seed", type=int, default=1)
     arguments.add_argument("--sessions", type=int, default=100)
+    arguments.add_argument("--settings", type=int, default=200)
     asked = arguments.parse_args()
     rng = random.Random(asked.seed)
     choice = list(geometries())
     with tempfile.TemporaryDirectory() as scratch:
         scratch = pathlib.Path(scratch)
-        driver = scratch / "driver"
-        sources = sorted((ROOT / "tests/independent").glob("ind*.c"))
-        subprocess.run(["cc", "-std=c11", "-O1", "-o", driver, HERE / "driver.c", *sources], check=True)
+        driver = compiled(scratch, "driver.c")
         crate = scratch / "crates/compared"
         for folder in ("src", "specs"):
             (crate / folder).mkdir(parents=True)
-        shutil.copytree(ROOT / "crates/scope", scratch / "crates/scope")
-        (scratch / "crates.txt").write_text("scope:\ncompared: scope\n")
-        (crate / "src/lib.rt").write_text("// Sessions of the independent program. No code.\n")
-        (crate / "specs/Lib.antt").write_text("pub mod Sessions\n")
+        under = crates_under(["scope", "settings"])
+        for line in under:
+            name = line.split(":", 1)[0]
+            shutil.copytree(ROOT / "crates" / name, scratch / "crates" / name)
+        (scratch / "crates.txt").write_text("\n".join(under) + "\ncompared: scope settings\n")
+        (crate / "src/lib.rt").write_text("// Sessions and settings of the independent program. No code.\n")
+        (crate / "specs/Lib.antt").write_text("pub mod Sessions\npub mod Settings\n")
         text = HEAD
         for number in range(asked.sessions):
             geometry = rng.choice(choice)
             text += instance(driver, number, geometry, session(rng, geometry[4]))
         (crate / "specs/Sessions.antt").write_text(text)
-        print(f"definitions: {asked.sessions} random sessions of the independent program, seed {asked.seed} ..", flush=True)
+        text, answers = settings.instances(rng, compiled(scratch, "settings.c"), asked.settings)
+        (crate / "specs/Settings.antt").write_text(text)
+        print(f"definitions: {asked.sessions} random sessions of the independent program and {asked.settings} settings, "
+              f"seed {asked.seed} ..", flush=True)
         proved = subprocess.run(["rt", "check", "compared"], cwd=scratch, text=True, capture_output=True)
         if proved.returncode != 0:
             sys.stderr.write(proved.stdout + proved.stderr)
             sys.exit(f"error: the definitions and the independent program differ; replay with --seed {asked.seed} "
-                     f"--sessions {asked.sessions}")
+                     f"--sessions {asked.sessions} --settings {asked.settings}")
     print(f"definitions: {asked.sessions} sessions agree in every printed line and every word of the state")
+    print(f"definitions: {asked.settings} settings read or written agree: {answers}")
 
 
 if __name__ == "__main__":

@@ -1,24 +1,11 @@
-/* Calls as data, and the signals that stop them: see call.h. */
-#define _DEFAULT_SOURCE
+/* Calls as data: see call.h. */
 #include "call.h"
 
 #include "independent.h"
+#include "stop.h"
 #include "trianglefire.h"
 
-#include <setjmp.h>
-#include <signal.h>
-#include <stdio.h>
-#include <string.h>
-#include <sys/time.h>
-
 const char *const call_name[CALLS] = {"format", "check", "read", "write", "run"};
-
-/* Seconds of processor time after which a call is said not to return. */
-enum { PATIENCE = 20 };
-
-static sigjmp_buf way_out;
-static volatile sig_atomic_t inside, seconds_inside, stopped_by;
-static void *volatile stopped_at;
 
 bool call_takes(int which, int slice)
 {
@@ -55,36 +42,6 @@ bool call_shares(int which, int slice)
 SERVE(tf)
 SERVE(ind)
 
-static void stop(int signal, siginfo_t *info, void *context)
-{
-    (void)context;
-    if (signal == SIGVTALRM && (!inside || ++seconds_inside < PATIENCE))
-        return;
-    if (!inside) {
-        /* An error of the test program itself: it ends as it would have. */
-        struct sigaction usual = {.sa_handler = SIG_DFL};
-        sigaction(signal, &usual, NULL);
-        return;
-    }
-    stopped_by = signal;
-    stopped_at = info->si_addr;
-    siglongjmp(way_out, 1);
-}
-
-void call_prepare(void)
-{
-    static char stack[1 << 16];
-    static const int signals[] = {SIGSEGV, SIGBUS, SIGILL, SIGFPE, SIGABRT, SIGTRAP, SIGVTALRM};
-    const stack_t own = {.ss_sp = stack, .ss_size = sizeof stack};
-    const struct itimerval second = {{1, 0}, {1, 0}};
-    struct sigaction action = {.sa_sigaction = stop,
-                               .sa_flags = SA_SIGINFO | SA_NODEFER | SA_ONSTACK | SA_RESTART};
-    REQUIRE(sigaltstack(&own, NULL) == 0);
-    for (size_t i = 0; i < sizeof signals / sizeof *signals; i++)
-        REQUIRE(sigaction(signals[i], &action, NULL) == 0);
-    REQUIRE(setitimer(ITIMER_VIRTUAL, &second, NULL) == 0);
-}
-
 static void slices_of(const struct call *c, const struct lent *x, uint32_t *s[ALL])
 {
     for (int i = 0; i < ALL; i++)
@@ -98,15 +55,6 @@ static void protect_shared(const struct call *c, const struct lent *x, bool read
             lent_protect(x, i, c->n[i], read_only);
 }
 
-static void say_stopped(const struct lent *x, char *text, size_t size)
-{
-    if (stopped_by == SIGVTALRM)
-        snprintf(text, size, "does not return");
-    else if (stopped_by != SIGSEGV || !lent_place(x, stopped_at, text, size))
-        snprintf(text, size, "stopped by signal %d (%s)", (int)stopped_by,
-                 strsignal((int)stopped_by));
-}
-
 uint32_t call_independent(const struct call *c, const struct lent *x)
 {
     uint32_t *s[ALL];
@@ -114,32 +62,33 @@ uint32_t call_independent(const struct call *c, const struct lent *x)
     return ind_serve(c, s);
 }
 
+/* A call of the archive, as it is made under watch. */
+struct watched {
+    const struct call *call;
+    uint32_t *const *slices;
+    uint32_t reply;
+};
+
+static void serve_watched(void *with)
+{
+    struct watched *x = with;
+    x->reply = tf_serve(x->call, x->slices);
+}
+
 bool call_archive(const struct call *c, const struct lent *x, bool read_only, uint32_t *reply,
                   char *text, size_t size)
 {
     uint32_t *s[ALL];
-    bool returned = false;
+    struct watched made = {c, s, 0};
     slices_of(c, x, s);
     if (read_only)
         protect_shared(c, x, true);
-    stopped_by = 0;
-    seconds_inside = 0;
-    if (sigsetjmp(way_out, 0) == 0) {
-        inside = 1;
-        *reply = tf_serve(c, s);
-        inside = 0;
-        returned = true;
-    } else {
-        inside = 0;
-        returned = false;
-        say_stopped(x, text, size);
-    }
+    bool returned = stop_watch(serve_watched, &made);
+    if (returned)
+        *reply = made.reply;
+    else if (stop_address() == NULL || !lent_place(x, stop_address(), text, size))
+        stop_say(text, size);
     if (read_only)
         protect_shared(c, x, false);
     return returned;
-}
-
-bool call_hung(void)
-{
-    return stopped_by == SIGVTALRM;
 }

@@ -26,9 +26,6 @@ struct call {
 bool call_takes(int which, int slice);
 bool call_shares(int which, int slice);
 
-/* To be called once, before the first call. */
-void call_prepare(void);
-
 /* The independent program's reply to the call on this memory. */
 uint32_t call_independent(const struct call *c, const struct lent *x);
 
@@ -38,8 +35,5 @@ uint32_t call_independent(const struct call *c, const struct lent *x);
  */
 bool call_archive(const struct call *c, const struct lent *x, bool read_only, uint32_t *reply,
                   char *text, size_t size);
-
-/* Whether the last stopped call was one that did not return. */
-bool call_hung(void);
 
 #endif

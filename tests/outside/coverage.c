@@ -1,6 +1,8 @@
 /* What the sessions met: see coverage.h. */
 #include "coverage.h"
 
+#include "tell.h"
+
 #include <inttypes.h>
 #include <stdio.h>
 
@@ -91,15 +93,6 @@ void coverage_step(struct coverage *v, const struct play *p, const struct step *
     count_collections(v, p, step);
 }
 
-static void print_row(const char *head, const char *const name[], const uint64_t n[], int from,
-                      int to)
-{
-    printf("  %s:", head);
-    for (int i = from; i < to; i++)
-        printf("%s %s %" PRIu64, i == from ? "" : ",", name[i], n[i]);
-    printf("\n");
-}
-
 static const char *const reply_name[REPLIES] = {"DONE",    "UNWRITTEN", "GEOMETRY", "LENGTH",
                                                 "DAMAGED", "KIND",      "PAGE"};
 static const char *const rule_name[RULES + 1] = {"", "1", "2", "3", "4", "5", "6", "7"};
@@ -111,22 +104,15 @@ void coverage_print(const struct coverage *v)
            " translation, and %" PRIu64 " erases in runs\n",
            v->sessions, v->calls, v->records, v->collections[0], v->collections[1], v->erases);
     for (int which = 0; which < CALLS; which++)
-        print_row(call_name[which], reply_name, v->replies[which], 0, REPLIES);
-    print_row("records", reply_name, v->answers, 0, REPLIES);
-    print_row("wrong length of", slice_name, v->wrong_length, 0, ALL);
-    print_row("first rule broken", rule_name, v->broken, 1, RULES + 1);
-    print_row("sessions with", corner_name, v->corners, 0, CORNERS);
+        tell_row(call_name[which], reply_name, v->replies[which], 0, REPLIES);
+    tell_row("records", reply_name, v->answers, 0, REPLIES);
+    tell_row("wrong length of", slice_name, v->wrong_length, 0, ALL);
+    tell_row("first rule broken", rule_name, v->broken, 1, RULES + 1);
+    tell_row("sessions with", corner_name, v->corners, 0, CORNERS);
     printf("  changed words that left a sound state %" PRIu64 ", odd words %" PRIu64
            "; writes that found the open block at offset P %" PRIu64
            "; calls with NULL, 0 %" PRIu64 "\n",
            v->still_sound, v->odd, v->full_offset, v->null);
-}
-
-static bool met(const char *head, const char *name, uint64_t n)
-{
-    if (n == 0)
-        printf("never met: %s %s\n", head, name);
-    return n > 0;
 }
 
 bool coverage_whole(const struct coverage *v)
@@ -144,20 +130,20 @@ bool coverage_whole(const struct coverage *v)
     for (int reply = 0; reply < REPLIES; reply++) {
         for (int which = 0; which < CALLS; which++)
             if (replies[which][reply])
-                whole &= met(call_name[which], reply_name[reply], v->replies[which][reply]);
+                whole &= tell_met(call_name[which], reply_name[reply], v->replies[which][reply]);
         if (replies[CALLS][reply])
-            whole &= met("a record", reply_name[reply], v->answers[reply]);
+            whole &= tell_met("a record", reply_name[reply], v->answers[reply]);
     }
     for (int i = 0; i < ALL; i++)
-        whole &= met("a wrong length of", slice_name[i], v->wrong_length[i]);
+        whole &= tell_met("a wrong length of", slice_name[i], v->wrong_length[i]);
     for (int i = 1; i <= RULES; i++)
-        whole &= met("a state that first breaks rule", rule_name[i], v->broken[i]);
+        whole &= tell_met("a state that first breaks rule", rule_name[i], v->broken[i]);
     for (int i = 0; i < CORNERS; i++)
-        whole &= met("a geometry with", corner_name[i], v->corners[i]);
-    whole &= met("a collection of", "data", v->collections[0]);
-    whole &= met("a collection of", "translation", v->collections[1]);
-    whole &= met("a changed word that leaves", "a sound state", v->still_sound);
-    whole &= met("words changed that", "no rule binds", v->odd);
-    whole &= met("an empty slice as", "NULL, 0", v->null);
-    return whole & met("a write at", "offset P", v->full_offset);
+        whole &= tell_met("a geometry with", corner_name[i], v->corners[i]);
+    whole &= tell_met("a collection of", "data", v->collections[0]);
+    whole &= tell_met("a collection of", "translation", v->collections[1]);
+    whole &= tell_met("a changed word that leaves", "a sound state", v->still_sound);
+    whole &= tell_met("words changed that", "no rule binds", v->odd);
+    whole &= tell_met("an empty slice as", "NULL, 0", v->null);
+    return whole & tell_met("a write at", "offset P", v->full_offset);
 }

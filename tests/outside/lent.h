@@ -1,14 +1,11 @@
 /*
- * Lent memory between pages without access.
- *
- * Each of the ten slices that a call can take has a stretch of its own, mapped
- * once and large enough for any geometry, with such a page before and behind.  A
- * slice of n words ends at the page behind it or begins at the one before it, so
- * that a read or a write past that side stops the call.
+ * The lent memory of the calls on a node: each of the ten slices that a call can
+ * take has a stretch of its own, mapped once and large enough for any geometry.
  */
 #ifndef LENT_H
 #define LENT_H
 
+#include "stretch.h"
 #include "test_world.h"
 
 /* The slices of every call in one order; the first five are the state. */
@@ -17,10 +14,8 @@ extern const char *const slice_name[ALL];
 
 enum { MOST_REQUESTS = 1024, RECORD_WORDS = 5, COUNTS_WORDS = 3 };
 
-enum placing { ENDING, BEGINNING };
-
 struct lent {
-    uint32_t *low[ALL], *high[ALL]; /* the accessible words of each stretch */
+    struct stretch stretch[ALL];
     enum placing placing;
 };
 

@@ -5,12 +5,15 @@
  *           [--percent N] [--calls N]
  *
  * The parts are small, damage, middle and largest (random sessions, compared
- * after every call), bounds and soak; all of them without a name.  --session
- * plays one session of a part, as a failure names it; --percent plays fewer or
- * more sessions; --calls is for soak.
+ * after every call), bounds, soak and settings; all of them without a name.
+ * --session plays one session of a part, or one case of settings, as a failure
+ * names it; --percent plays fewer or more sessions and random cases; --calls is
+ * for soak.
  */
 #include "coverage.h"
+#include "settings.h"
 #include "soak.h"
+#include "stop.h"
 #include "tell.h"
 
 #include <inttypes.h>
@@ -19,7 +22,7 @@
 #include <string.h>
 
 struct options {
-    bool part[PARTS], bounds, soak;
+    bool part[PARTS], bounds, soak, settings;
     bool all; /* no part was named */
     uint64_t seed;
     int64_t session; /* one session alone, or -1 */
@@ -84,10 +87,19 @@ static bool play_parts(const struct options *o)
     return !o->all || o->percent < 100 || coverage_whole(&v);
 }
 
+/* Ten million random cases. */
+static bool play_settings(const struct options *o)
+{
+    const struct settings_asked asked = {o->seed, UINT64_C(100000) * o->percent, o->session,
+                                         o->placing};
+    return settings(&asked);
+}
+
 static void usage(void)
 {
-    fprintf(stderr, "usage: outside [small|damage|middle|largest|bounds|soak ..] [--seed N] "
-                    "[--session N] [--placing ending|beginning] [--percent N] [--calls N]\n");
+    fprintf(stderr, "usage: outside [small|damage|middle|largest|bounds|soak|settings ..]\n"
+                    "               [--seed N] [--session N] [--placing ending|beginning] "
+                    "[--percent N] [--calls N]\n");
     exit(2);
 }
 
@@ -111,9 +123,11 @@ static void take_number(struct options *o, const char *name, const char *text)
 
 static bool take_part(struct options *o, const char *name)
 {
-    bool taken = strcmp(name, "bounds") == 0 || strcmp(name, "soak") == 0;
-    o->bounds |= strcmp(name, "bounds") == 0;
-    o->soak |= strcmp(name, "soak") == 0;
+    bool bounds = strcmp(name, "bounds") == 0, soak = strcmp(name, "soak") == 0;
+    bool settings = strcmp(name, "settings") == 0, taken = bounds || soak || settings;
+    o->bounds |= bounds;
+    o->soak |= soak;
+    o->settings |= settings;
     for (int i = 0; i < PARTS; i++)
         if (strcmp(name, part_name[i]) == 0)
             taken = o->part[i] = true;
@@ -141,6 +155,7 @@ static struct options take_options(int argc, char **argv)
         o.part[i] = true;
     o.bounds |= o.all;
     o.soak |= o.all;
+    o.settings |= o.all;
     return o;
 }
 
@@ -148,10 +163,11 @@ int main(int argc, char **argv)
 {
     struct options o = take_options(argc, argv);
     printf("seed %" PRIu64 "\n", o.seed);
-    call_prepare();
+    stop_prepare();
     bool good = play_parts(&o);
     good = good && (!o.bounds || bounds(o.seed));
     good = good && (!o.soak || soak(o.seed, o.calls));
+    good = good && (!o.settings || play_settings(&o));
     printf(good ? "all agree\n" : "not all agree\n");
     return good ? 0 : 1;
 }

@@ -13,3 +13,6 @@
 #define ind_sound tf_sound
 #define ind_step_read tf_step_read
 #define ind_step_write tf_step_write
+#define ind_settings_read tf_settings_read
+#define ind_settings_write tf_settings_write
+#define ind_settings_where tf_settings_where

@@ -1,6 +1,8 @@
 /* The shortest session that still shows a difference: see shrink.h. */
 #include "shrink.h"
 
+#include "stop.h"
+
 #include <stdio.h>
 #include <stdlib.h>
 #include <string.h>
@@ -118,7 +120,7 @@ bool session_shrink(struct session *s)
     int start = s->start;
     if (!differs(s))
         return false;
-    if (call_hung())
+    if (stop_hung())
         return true; /* each try would wait for the watch again */
     fix_changes(s);
     drop_steps(s, since);

@@ -41,3 +41,18 @@ void tell_failure(const char *part, uint64_t seed, uint32_t number, uint64_t cal
     session_list(s);
     fflush(stdout);
 }
+
+void tell_row(const char *head, const char *const name[], const uint64_t n[], int from, int to)
+{
+    printf("  %s:", head);
+    for (int i = from; i < to; i++)
+        printf("%s %s %" PRIu64, i == from ? "" : ",", name[i], n[i]);
+    printf("\n");
+}
+
+bool tell_met(const char *head, const char *name, uint64_t n)
+{
+    if (n == 0)
+        printf("never met: %s %s\n", head, name);
+    return n > 0;
+}

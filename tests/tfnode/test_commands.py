@@ -189,7 +189,7 @@ translation blocks 3 to 5
     def test_looks_need_no_right_to_write(self):
         self.session()
         self.node.chmod(0o444)
-        for words in ["info"], ["check"], ["map"], ["read", 0], ["dump", 0, 3]:
+        for words in ["info"], ["settings"], ["check"], ["map"], ["read", 0], ["dump", 0, 3]:
             self.tool(words[0], self.node, *words[1:])
 
 
@@ -197,7 +197,7 @@ class Help(ToolTest):
     def test_every_command_has_help_with_an_example(self):
         overview = self.tool("--help").stdout.decode()
         commands = re.findall(r"^  (\w+) ", overview, re.MULTILINE)
-        self.assertEqual(len(commands), 9)
+        self.assertEqual(len(commands), 10)
         for command in commands:
             text = self.tool(command, "--help").stdout.decode()
             self.assertTrue(text.startswith(f"usage: tfnode {command} FILE"), text)

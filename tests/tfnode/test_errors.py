@@ -98,7 +98,7 @@ class Usage(ToolTest):
 
 
 class Files(ToolTest):
-    LOOKS = [["info"], ["check"], ["map"], ["read", 0], ["dump", 0, 1]]
+    LOOKS = [["info"], ["settings"], ["check"], ["map"], ["read", 0], ["dump", 0, 1]]
     CHANGES = [["write", 0], ["load", 0], ["replay"]]
 
     def each(self, says, commands=LOOKS + CHANGES, status=FILE):
@@ -107,7 +107,8 @@ class Files(ToolTest):
                 self.refused(command, self.node, *rest, data=b"W 0 1\n", says=says, status=status)
 
     def test_no_file(self):
-        self.each("does not exist; make a node by `tfnode new`")
+        self.each("does not exist; make a node by `tfnode new`", [words for words in self.LOOKS + self.CHANGES if words != ["settings"]])
+        self.each("No such file or directory; see that it exists and may be read", [["settings"]])
 
     def test_a_file_that_is_there(self):
         self.new()
@@ -175,7 +176,7 @@ class Disks(ToolTest):
     def test_output_that_is_full_or_closed(self):
         self.session()
         before = self.contents()
-        for words in ["info"], ["check"], ["map"], ["read", 0], ["dump", 0, 3], ["--help"]:
+        for words in ["info"], ["settings"], ["check"], ["map"], ["read", 0], ["dump", 0, 3], ["--help"]:
             words = words if words[0] == "--help" else [words[0], self.node, *words[1:]]
             with open("/dev/full", "wb") as full:
                 run = subprocess.run([self.program, *map(str, words)], stdout=full, stderr=subprocess.PIPE)

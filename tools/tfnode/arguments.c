@@ -13,7 +13,8 @@ struct known {
 static const struct known options[] = {
     {"--json", OPTION_JSON, false},     {"--geometry", OPTION_GEOMETRY, true},
     {"--preset", OPTION_PRESET, true},  {"--lines", OPTION_LINES, false},
-    {"--svg", OPTION_SVG, true},        {"--help", OPTION_HELP, false},
+    {"--svg", OPTION_SVG, true},        {"--settings", OPTION_SETTINGS, true},
+    {"--write", OPTION_WRITE, true},    {"--help", OPTION_HELP, false},
 };
 
 /* Geometries worth a name.  docs/TFNODE.md says what each is for. */
@@ -45,6 +46,10 @@ static void keep_value(struct arguments *arguments, enum option option, const ch
         arguments->preset = value;
     else if (option == OPTION_SVG)
         arguments->svg = value;
+    else if (option == OPTION_SETTINGS)
+        arguments->settings = value;
+    else if (option == OPTION_WRITE)
+        arguments->write = value;
 }
 
 /* Takes the option at words[0], and its value there or in the next word; the words taken. */
@@ -130,24 +135,29 @@ static bool parse_geometry(const char *text, struct geometry *geometry)
     return true;
 }
 
-void geometry_option(const struct arguments *arguments, struct geometry *geometry)
+static void find_preset(const char *name, struct geometry *geometry)
 {
-    if ((arguments->geometry == NULL) == (arguments->preset == NULL))
-        fail(STATUS_USAGE, "give either --geometry P,W,D,T,L,C or --preset small|recorder|largest");
-    if (arguments->geometry != NULL) {
-        if (!parse_geometry(arguments->geometry, geometry))
-            fail(STATUS_USAGE, "`%s` is no geometry; give six numbers P,W,D,T,L,C with commas only",
-                 arguments->geometry);
-        return;
-    }
     for (size_t i = 0; i < sizeof presets / sizeof *presets; i++) {
-        if (strcmp(presets[i].name, arguments->preset) == 0) {
+        if (strcmp(presets[i].name, name) == 0) {
             *geometry = presets[i].geometry;
             return;
         }
     }
-    fail(STATUS_USAGE, "there is no preset `%s`; use small, recorder or largest",
-         arguments->preset);
+    fail(STATUS_USAGE, "there is no preset `%s`; use small, recorder or largest", name);
+}
+
+bool geometry_option(const struct arguments *arguments, struct geometry *geometry)
+{
+    if ((arguments->geometry != NULL) + (arguments->preset != NULL) +
+            (arguments->settings != NULL) != 1)
+        fail(STATUS_USAGE, "give either --geometry P,W,D,T,L,C, --preset small|recorder|largest or "
+             "--settings IN");
+    if (arguments->geometry != NULL && !parse_geometry(arguments->geometry, geometry))
+        fail(STATUS_USAGE, "`%s` is no geometry; give six numbers P,W,D,T,L,C with commas only",
+             arguments->geometry);
+    if (arguments->preset != NULL)
+        find_preset(arguments->preset, geometry);
+    return arguments->settings == NULL;
 }
 
 void demand_pages(const struct node *node, uint32_t first, uint64_t count)

@@ -18,13 +18,15 @@ enum option {
     OPTION_PRESET = 4,
     OPTION_LINES = 8,
     OPTION_SVG = 16,
-    OPTION_HELP = 32
+    OPTION_SETTINGS = 32,
+    OPTION_WRITE = 64,
+    OPTION_HELP = 128
 };
 
 struct arguments {
     const char *operands[MOST_OPERANDS];
     unsigned given; /* the options that were */
-    const char *geometry, *preset, *svg;
+    const char *geometry, *preset, *svg, *settings, *write;
 };
 
 struct command {
@@ -50,8 +52,9 @@ bool parse_number(const char *text, uint32_t *number);
 /* The same for an operand; fails, and names it, if it is no such number. */
 uint32_t number_operand(const char *text, const char *name);
 
-/* The geometry that --geometry or --preset gives. */
-void geometry_option(const struct arguments *arguments, struct geometry *geometry);
+/* The geometry that --geometry or --preset gives; false if --settings names a file that has it.
+ * Fails unless one of the three is given. */
+bool geometry_option(const struct arguments *arguments, struct geometry *geometry);
 
 /* Fails unless `count` pages from `first` are logical pages of the node. */
 void demand_pages(const struct node *node, uint32_t first, uint64_t count);

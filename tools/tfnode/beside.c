@@ -108,6 +108,15 @@ void beside_begin(const char *path)
         fail_to("empty", beside);
 }
 
+void beside_begin_new(const char *path)
+{
+    struct stat there;
+    beside_begin(path);
+    /* Asked under the lock, since another tool may just have made it. */
+    if (lstat(path, &there) == 0)
+        fail(STATUS_FILE, "%s exists; choose another name or remove it first", path);
+}
+
 void beside_write(const void *bytes, size_t n)
 {
     const char *rest = bytes;

@@ -19,6 +19,9 @@
 /* Takes the lock on `path`, which need not exist yet. */
 void beside_begin(const char *path);
 
+/* The same for a file that must not exist yet, so that nothing is replaced. */
+void beside_begin_new(const char *path);
+
 /* Adds bytes to the new contents. */
 void beside_write(const void *bytes, size_t n);
 

@@ -8,15 +8,16 @@ const char overview[] =
     "\n"
     "A Trianglefire node in a file: see its storage without firmware around it.\n"
     "\n"
-    "  new     make an image of an empty node\n"
-    "  info    geometry, sizes, and what is used\n"
-    "  check   whether the node is sound, and if not, a hint where\n"
-    "  write   write one page from standard input\n"
-    "  read    read one page to standard output\n"
-    "  load    write many pages from standard input\n"
-    "  dump    read many pages to standard output\n"
-    "  replay  serve a trace of requests and say what it cost\n"
-    "  map     a picture of every block\n"
+    "  new       make an image of an empty node\n"
+    "  info      geometry, sizes, and what is used\n"
+    "  settings  the record that says its geometry years later\n"
+    "  check     whether the node is sound, and if not, a hint where\n"
+    "  write     write one page from standard input\n"
+    "  read      read one page to standard output\n"
+    "  load      write many pages from standard input\n"
+    "  dump      read many pages to standard output\n"
+    "  replay    serve a trace of requests and say what it cost\n"
+    "  map       a picture of every block\n"
     "\n"
     "`tfnode COMMAND --help` says more of each.  A command that changes the image\n"
     "replaces it whole or leaves it as it was; the others never change it.\n"
@@ -25,10 +26,13 @@ const char overview[] =
 static const char help_new[] =
     "usage: tfnode new FILE --geometry P,W,D,T,L,C [--json]\n"
     "       tfnode new FILE --preset small|recorder|largest [--json]\n"
+    "       tfnode new FILE --settings IN [--json]\n"
     "\n"
     "Makes FILE, which must not exist, an image of an empty node: P pages in a\n"
     "block, W words in a page, D data and T translation blocks, L logical pages,\n"
-    "C cache entries.\n"
+    "C cache entries.  With --settings these are the numbers of the settings record\n"
+    "in the file IN, of up to 1048576 bytes; fields of higher tags after them are\n"
+    "skipped.  A record that is refused is told by the refusal's number and place.\n"
     "\n"
     "example: tfnode new node.img --geometry 2,2,3,3,3,1\n";
 
@@ -39,6 +43,17 @@ static const char help_info[] =
     "pages are written, and how much of the cache is used.\n"
     "\n"
     "example: tfnode info node.img --json | jq .written\n";
+
+static const char help_settings[] =
+    "usage: tfnode settings FILE [--json] [--write OUT]\n"
+    "\n"
+    "Shows the settings record of a node, the 36 bytes that say its geometry to\n"
+    "whoever opens it years later.  FILE is an image, or a settings record itself.\n"
+    "With --write the 36 bytes also go to the file OUT, which must not exist, so\n"
+    "that no record is lost.  Keep it outside the node's chip; `tfnode new\n"
+    "--settings` makes an empty node of it.\n"
+    "\n"
+    "example: tfnode settings node.img --write node.settings\n";
 
 static const char help_check[] =
     "usage: tfnode check FILE [--json]\n"
@@ -102,8 +117,10 @@ static const char help_map[] =
     "example: tfnode map node.img --svg node.svg\n";
 
 static const struct command commands[] = {
-    {"new", {"FILE"}, OPTION_JSON | OPTION_GEOMETRY | OPTION_PRESET, command_new, help_new},
+    {"new", {"FILE"}, OPTION_JSON | OPTION_GEOMETRY | OPTION_PRESET | OPTION_SETTINGS, command_new,
+     help_new},
     {"info", {"FILE"}, OPTION_JSON, command_info, help_info},
+    {"settings", {"FILE"}, OPTION_JSON | OPTION_WRITE, command_settings, help_settings},
     {"check", {"FILE"}, OPTION_JSON, command_check, help_check},
     {"write", {"FILE", "PAGE"}, OPTION_JSON, command_write, help_write},
     {"read", {"FILE", "PAGE"}, 0, command_read, help_read},

@@ -8,6 +8,8 @@
 enum status command_new(const struct arguments *arguments);
 /* info.c */
 enum status command_info(const struct arguments *arguments);
+/* settings.c */
+enum status command_settings(const struct arguments *arguments);
 /* check.c */
 enum status command_check(const struct arguments *arguments);
 /* page.c */

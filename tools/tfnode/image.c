@@ -81,6 +81,11 @@ static void take_sizes(struct image *image, const uint32_t header[HEADER_WORDS])
              image_bytes(image->node.words));
 }
 
+bool image_marked(const unsigned char *bytes, size_t n)
+{
+    return n >= MARK_BYTES && memcmp(bytes, mark, MARK_BYTES) == 0;
+}
+
 static void take_header(struct image *image, int fd)
 {
     unsigned char bytes[HEADER_BYTES] = {0};
@@ -88,7 +93,7 @@ static void take_header(struct image *image, int fd)
     ssize_t got = pread(fd, bytes, sizeof bytes, 0);
     if (got < 0)
         fail_open(image->path);
-    if (memcmp(bytes, mark, MARK_BYTES) != 0)
+    if (!image_marked(bytes, (size_t)got))
         fail(STATUS_FILE, "%s is no node image: it lacks the mark of one; name another file",
              image->path);
     if ((size_t)got < sizeof bytes)
@@ -167,16 +172,12 @@ void image_open(struct image *image, const char *path, enum purpose purpose)
 
 void image_create(struct image *image, const char *path, const struct geometry *geometry)
 {
-    struct stat there;
     image->path = path;
     image->on_disk = false;
     image->node.geometry = *geometry;
     slice_sizes(geometry, image->node.words);
     image->bytes = image_bytes(image->node.words);
-    beside_begin(path);
-    /* Asked under the lock, since another tool may just have made it. */
-    if (lstat(path, &there) == 0)
-        fail(STATUS_FILE, "%s exists; choose another name or remove it first", path);
+    beside_begin_new(path);
     uint32_t *words = mmap(NULL, (size_t)image->bytes, PROT_READ | PROT_WRITE,
                            MAP_PRIVATE | MAP_ANONYMOUS, -1, 0);
     if (words == MAP_FAILED)

@@ -30,6 +30,9 @@ struct image {
     struct stat file; /* the old file's, if on_disk */
 };
 
+/* Whether the n bytes that a file begins with have the mark of an image. */
+bool image_marked(const unsigned char *bytes, size_t n);
+
 /* What a command wants of an image. */
 enum purpose { LOOK, CHANGE };
 

@@ -2,16 +2,29 @@
 #include "commands.h"
 #include "image.h"
 #include "report.h"
+#include "settings.h"
 
 #include <inttypes.h>
 #include <stdio.h>
+
+/* The geometry that was asked for; how many bytes of a settings record were skipped. */
+static size_t take_geometry(const struct arguments *arguments, struct geometry *geometry)
+{
+    const char *path = arguments->settings;
+    size_t skipped = 0;
+    if (!geometry_option(arguments, geometry) &&
+        !settings_from_file(path, "", geometry, &skipped))
+        fail(STATUS_FILE, "%s is a node image, and no settings record; `tfnode settings --write` "
+             "makes one of it", path);
+    return skipped;
+}
 
 enum status command_new(const struct arguments *arguments)
 {
     struct geometry geometry;
     struct image image;
     struct totals totals = {0};
-    geometry_option(arguments, &geometry);
+    size_t skipped = take_geometry(arguments, &geometry);
     if (!geometry_accepted(&geometry)) {
         const char *fault = geometry_fault(&geometry);
         fail(STATUS_USAGE, "this geometry is not accepted: %s; see docs/TFNODE.md for the limits",
@@ -22,6 +35,7 @@ enum status command_new(const struct arguments *arguments)
     if (reply != TF_DONE)
         fail_refused(reply, image.path);
     image_commit(&image);
+    note_skipped(arguments->settings, skipped);
     bool json = given(arguments, OPTION_JSON);
     if (json) {
         printf("{\"geometry\": {");

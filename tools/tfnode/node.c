@@ -120,11 +120,28 @@ uint32_t node_run(struct node *node, const uint32_t *requests, uint32_t *data, u
     return reply;
 }
 
+uint32_t settings_read(const uint8_t *bytes, size_t n, struct geometry *geometry)
+{
+    return tf_settings_read(bytes, n, geometry->numbers, NUMBERS);
+}
+
+uint32_t settings_write(const struct geometry *geometry, uint8_t record[TF_SETTINGS_BYTES])
+{
+    return tf_settings_write(GEOMETRY_OF(geometry), record, TF_SETTINGS_BYTES);
+}
+
 const char *reply_name(uint32_t reply)
 {
     static const char *const names[] = {"DONE",    "UNWRITTEN", "GEOMETRY", "LENGTH",
                                         "DAMAGED", "KIND",      "PAGE"};
     return reply < sizeof names / sizeof *names ? names[reply] : "unknown";
+}
+
+const char *settings_answer_name(uint32_t answer)
+{
+    static const char *const names[] = {"ACCEPTED", "SHORT", "TAG",      "LENGTH",
+                                        "VERSION",  "AFTER", "GEOMETRY", "PLACE"};
+    return answer < sizeof names / sizeof *names ? names[answer] : "unknown";
 }
 
 void fail_refused(uint32_t reply, const char *path)

@@ -63,8 +63,15 @@ uint32_t node_write(struct node *node, uint32_t page, const uint32_t *buffer,
 uint32_t node_run(struct node *node, const uint32_t *requests, uint32_t *data, uint32_t *answers,
                   size_t n, struct totals *totals);
 
+/* The library's calls on the settings record, which return its answer, of enum tf_settings. */
+uint32_t settings_read(const uint8_t *bytes, size_t n, struct geometry *geometry);
+uint32_t settings_write(const struct geometry *geometry, uint8_t record[TF_SETTINGS_BYTES]);
+
 /* 01's name of a reply. */
 const char *reply_name(uint32_t reply);
+
+/* The header's name of an answer of the settings record. */
+const char *settings_answer_name(uint32_t answer);
 
 /* Ends the command because the library refused it.  `path` is the image, to be named. */
 _Noreturn void fail_refused(uint32_t reply, const char *path);
