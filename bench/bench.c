@@ -3,7 +3,8 @@
  *
  *   bench time    prints a line for each chip and case, fields separated by tabs:
  *                 CHIP WORDS CASE OURS THEIRS SWEEP ROUNDS
- *                 the times in nanoseconds a call; SWEEP is 0 where there is none
+ *                 the times in nanoseconds a call; SWEEP is 0 where there is none;
+ *                 for the settings record CHIP is "settings", and WORDS are bytes
  *   bench count   under callgrind, started with --instr-atstart=no: one round of each case, with a
  *                 dump of its instructions for each side, labelled CHIP, CASE, side and calls
  *
@@ -14,24 +15,12 @@
  */
 #define _POSIX_C_SOURCE 200809L
 #include "cases.h"
+#include "measure.h"
+#include "settings.h"
 
 #include <stdio.h>
 #include <stdlib.h>
 #include <string.h>
-#include <time.h>
-
-#if __has_include(<valgrind/callgrind.h>)
-#include <valgrind/callgrind.h>
-#else
-#define CALLGRIND_START_INSTRUMENTATION (void)0
-#define CALLGRIND_STOP_INSTRUMENTATION (void)0
-#define CALLGRIND_ZERO_STATS (void)0
-#define CALLGRIND_DUMP_STATS_AT(label) (void)(label)
-#endif
-
-enum { FEWEST_ROUNDS = 75, MOST_ROUNDS = 3000 };
-static const double BUDGET = 5e9; /* nanoseconds for a case, once it has its fewest rounds */
-static const double NEVER = 1e18;
 
 /* One case on one chip, with a node and an exchange for each side. */
 struct match {
@@ -42,23 +31,6 @@ struct match {
     double best[SIDES][SINGLE_CALLS];
     double best_sweep;
 };
-
-/*
- * The time by the clock, in nanoseconds.  Not the processor's time spent here, which on a
- * shared machine was told a quarter too short for some calls: the least must not be one of these.
- */
-static double now(void)
-{
-    struct timespec t;
-    clock_gettime(CLOCK_MONOTONIC, &t);
-    return (double)t.tv_sec * 1e9 + (double)t.tv_nsec;
-}
-
-static void keep_least(double *best, double time)
-{
-    if (time < *best)
-        *best = time;
-}
 
 /* A plain sweep is set beside the one call that has to read every lent word. */
 static bool has_sweep(const struct test_case *c)
@@ -160,11 +132,10 @@ static void time_case(struct match *m, const struct chip *chip)
 
 static void count_case(struct match *m, const struct chip *chip)
 {
-    static const char *const side_names[SIDES] = {"ours", "theirs"};
     char label[128];
     for (int s = 0; s < SIDES; s++) {
         reset(m, s);
-        snprintf(label, sizeof label, "%s\t%s\t%s\t%zu", chip->name, m->c->name, side_names[s],
+        snprintf(label, sizeof label, "%s\t%s\t%s\t%zu", chip->name, m->c->name, side_name(s),
                  case_calls(m->c));
         CALLGRIND_START_INSTRUMENTATION;
         CALLGRIND_ZERO_STATS;
@@ -217,5 +188,6 @@ int main(int argc, char **argv)
     }
     for (size_t i = 0; i < chip_count; i++)
         run_chip(&chips[i], count);
+    settings_run(count);
     return 0;
 }

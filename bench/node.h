@@ -6,6 +6,8 @@
 #ifndef BENCH_NODE_H
 #define BENCH_NODE_H
 
+#include "side.h"
+
 #include <stdbool.h>
 #include <stddef.h>
 #include <stdint.h>
@@ -25,9 +27,6 @@ struct node {
     size_t chip_words, spare_words, directory_words, cache_words;
     uint32_t counts[COUNTS_WORDS];
 };
-
-/* Which of the two answers. */
-enum side { OURS, THEIRS, SIDES };
 
 /* Memory for a node of this geometry, not formatted; ends the program if there is none. */
 struct node node_new(struct geometry g);

@@ -1,6 +1,6 @@
-"""The figures of a run of the benchmark as a Markdown table and a plot.
+"""The figures of a run of the benchmark as two Markdown tables and a plot.
 
-report.py TIME.tsv COUNTS DOCS: puts the table into DOCS/SPEED.md, between its two marks, and writes DOCS/speed.svg.
+report.py TIME.tsv COUNTS DOCS: puts the tables into DOCS/SPEED.md, between its two marks, and writes DOCS/speed.svg.
 TIME.tsv is what `bench time` prints, COUNTS the folder of what callgrind dumped under `bench count`, empty where it wasn't run.
 """
 import os
@@ -13,6 +13,9 @@ import plot
 BEGIN = "<!-- table: written by bench/run -->"
 END = "<!-- end of the table -->"
 LIMIT = 1.1
+# What stands for a chip in the lines of the settings record's calls, whose sizes are in bytes.
+SETTINGS = "settings"
+SIDES = ["library", "independent", "ratio", "by instructions"]
 
 
 def fail(message):
@@ -72,25 +75,42 @@ def ratio(ours, theirs, limit=None):
     return f"**{text}**" if limit and ours / theirs > limit else text
 
 
-def table(rows, instructions):
-    head = ["chip", "words", "case", "library", "independent", "ratio", "by instructions", "plain sweep", "library to sweep"]
-    lines = ["| " + " | ".join(head) + " |", "|---" * len(head) + "|"]
-    for row in rows:
-        key = row["chip"], row["case"]
-        ours, theirs = (instructions.get((*key, side)) for side in ("ours", "theirs"))
-        cells = [
+def compared(row, instructions):
+    """The cells of both sides: times, their ratio, and the ratio of instructions."""
+    ours, theirs = (instructions.get((row["chip"], row["case"], side)) for side in ("ours", "theirs"))
+    return [
+        duration(row["ours"]),
+        duration(row["theirs"]),
+        ratio(row["ours"], row["theirs"], LIMIT),
+        ratio(ours, theirs) if ours and theirs else "",
+    ]
+
+
+def table(head, rows):
+    lines = [head, ["---"] * len(head), *rows]
+    return ["| " + " | ".join(cells) + " |" for cells in lines]
+
+
+def on_chips(rows, instructions):
+    head = ["chip", "words", "case", *SIDES, "plain sweep", "library to sweep"]
+    cells = [
+        [
             row["chip"],
             f"{row['words']:,}",
             row["case"],
-            duration(row["ours"]),
-            duration(row["theirs"]),
-            ratio(row["ours"], row["theirs"], LIMIT),
-            ratio(ours, theirs) if ours and theirs else "",
+            *compared(row, instructions),
             duration(row["sweep"]) if row["sweep"] else "",
             ratio(row["ours"], row["sweep"], LIMIT) if row["sweep"] else "",
         ]
-        lines.append("| " + " | ".join(cells) + " |")
-    return lines
+        for row in rows
+        if row["chip"] != SETTINGS
+    ]
+    return table(head, cells)
+
+
+def on_settings(rows, instructions):
+    cells = [[row["case"], f"{row['words']:,}", *compared(row, instructions)] for row in rows if row["chip"] == SETTINGS]
+    return table(["settings record", "bytes", *SIDES], cells)
 
 
 def version():
@@ -129,7 +149,8 @@ def report(time_file, count_folder, docs):
     rows = times(time_file)
     if not rows:
         fail(f"{time_file} is empty")
-    lines = summary(rows) + table(rows, counts(count_folder))
+    instructions = counts(count_folder)
+    lines = [*summary(rows), *on_chips(rows, instructions), "", *on_settings(rows, instructions)]
     write_between_marks(os.path.join(docs, "SPEED.md"), lines)
     with open(os.path.join(docs, "speed.svg"), "w", encoding="utf-8") as file:
         file.write(plot.svg(rows))
