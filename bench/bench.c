@@ -90,12 +90,16 @@ static void change_places(struct match *m)
     m->exchange[THEIRS] = exchange;
 }
 
-/* Whoever begins changes from call to call and from round to round. */
+/*
+ * Whoever begins changes from call to call, and from round to round so that the first
+ * call of a round is always made on the node of the last call before: where the sides
+ * change places, the same one of them begins once more.
+ */
 static void timed_round(struct match *m, size_t round)
 {
     uint32_t reply[SIDES] = {0, 0};
     for (size_t i = 0; i < case_calls(m->c) && reply[OURS] == reply[THEIRS]; i++) {
-        enum side first = (round + i) % 2 == 0 ? OURS : THEIRS;
+        enum side first = ((round + 1) / 2 + i) % 2 == 0 ? OURS : THEIRS;
         enum side second = first == OURS ? THEIRS : OURS;
         reply[first] = timed_call(m, first, i);
         reply[second] = timed_call(m, second, i);
