@@ -1,7 +1,8 @@
 """The figures of a run of the benchmark as two Markdown tables and a plot.
 
-report.py TIME.tsv COUNTS DOCS: puts the tables into DOCS/SPEED.md, between its two marks, and writes DOCS/speed.svg.
-TIME.tsv is what `bench time` prints, COUNTS the folder of what callgrind dumped under `bench count`, empty where it wasn't run.
+report.py TIME.tsv .. COUNTS DOCS: puts the tables into DOCS/SPEED.md, between its two marks, and writes DOCS/speed.svg.
+TIME.tsv is what `bench time` prints, and the least of several counts; COUNTS is the folder of what callgrind dumped under `bench count`, empty
+where it wasn't run.
 """
 import os
 import platform
@@ -42,6 +43,13 @@ def times(path):
                 }
             )
     return rows
+
+
+def least(runs):
+    """The rows of several runs as one, each time the least that it was in any."""
+    if any([(row["chip"], row["case"]) for row in run] != [(row["chip"], row["case"]) for row in runs[0]] for run in runs):
+        fail("the runs have not the same rows")
+    return [{**rows[0], **{side: min(row[side] for row in rows) for side in ("ours", "theirs", "sweep")}} for rows in zip(*runs)]
 
 
 def counts(folder):
@@ -120,16 +128,17 @@ def version():
     return found.stdout.strip() or "an unknown commit"
 
 
-def summary(rows):
-    """What was compared where, and how many ratios are over the limit."""
+def summary(rows, runs):
+    """What was compared where, in how many runs, and how many ratios are over the limit."""
     over = sum(row["ours"] / row["theirs"] > LIMIT for row in rows)
     over += sum(row["sweep"] > 0 and row["ours"] / row["sweep"] > LIMIT for row in rows)
     machine = platform.machine()
     library = "target/staticlib/libtrianglefire.a"
     if machine != "x86_64":
         library = "the library's own LLVM module compiled for this machine, which stands in for the archive (same code)"
+    often = "" if runs == 1 else f", the least of {runs} runs"
     return [
-        f"Measured on {machine}, of {library}, the crates as of {version()}. Ratios over {LIMIT}: {over}.",
+        f"Measured on {machine}, of {library}, the crates as of {version()}{often}. Ratios over {LIMIT}: {over}.",
         "",
     ]
 
@@ -145,12 +154,12 @@ def write_between_marks(path, lines):
         file.write(before + BEGIN + "\n" + "\n".join(lines) + "\n" + END + after)
 
 
-def report(time_file, count_folder, docs):
-    rows = times(time_file)
+def report(time_files, count_folder, docs):
+    rows = least([times(path) for path in time_files])
     if not rows:
-        fail(f"{time_file} is empty")
+        fail(f"{time_files[0]} is empty")
     instructions = counts(count_folder)
-    lines = [*summary(rows), *on_chips(rows, instructions), "", *on_settings(rows, instructions)]
+    lines = [*summary(rows, len(time_files)), *on_chips(rows, instructions), "", *on_settings(rows, instructions)]
     write_between_marks(os.path.join(docs, "SPEED.md"), lines)
     with open(os.path.join(docs, "speed.svg"), "w", encoding="utf-8") as file:
         file.write(plot.svg(rows))
@@ -159,10 +168,11 @@ def report(time_file, count_folder, docs):
 
 
 def main(arguments):
-    if len(arguments) != 3:
-        fail("usage: report.py TIME.tsv COUNTS DOCS")
+    if len(arguments) < 3:
+        fail("usage: report.py TIME.tsv .. COUNTS DOCS")
+    *time_files, count_folder, docs = arguments
     try:
-        report(*arguments)
+        report(time_files, count_folder, docs)
     except OSError as problem:
         fail(f"{problem.filename}: {problem.strerror}")
 
