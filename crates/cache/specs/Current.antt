@@ -1,17 +1,19 @@
 -- Current places and rule 7, by what the cache holds and what flash stores; and what the steps that change the cache do to them.
 use Prim.Native.Nat.{ℕ, _<_}
 use native.Mathlib.Omega.{arith}
-use mathlib.Core.Path.{_≡_, ap, sym, _∙_}
+use mathlib.Core.Path.{_≡_, refl, ap, sym, _∙_}
 use mathlib.Core.Logic.{_≢_}
 use mathlib.Core.List.{List}
-use borrow.Author.Tests.{lt-ltb, le-ltb}
-use Rattle.flash.specs.Cases.{same?, below?}
+use lib.Dec.{eqb}
+use borrow.Author.Tests.{eq-eqb, ne-eqb, lt-ltb, le-ltb}
+use Rattle.flash.specs.Cases.{on, same?, below?}
 use Rattle.scope.specs.Geometry.{Geometry}
-use Rattle.scope.specs.Lent.{State, logical-at, physical-at}
+use Rattle.scope.specs.Lent.{State, logical-at, physical-at, translation-page}
 use Rattle.scope.specs.Operations.{Operation, Outcome}
 use Rattle.scope.specs.Sound.{rank-of, stored, current, Unchanged-agree}
 use Rattle.cache.specs.Ranks.{rank-found, rank-missing}
 use Rattle.cache.specs.Holds.{Found, Hit, Miss, hit-is-no-miss, updated, updated-here, updated-elsewhere, hit-at}
+use Rattle.cache.specs.Neighbours.{unchanged-found, page-unchanged}
 use Rattle.cache.specs.Steps.{Holds-in, Cache-step}
 
 -- "The cache's if l is cached, else the translation page's word."
@@ -133,3 +135,32 @@ module _ (g : Geometry) (s : State) (m : ℕ → Found) (h : Holds-in g s m) (se
       → Cache-step g s o ops used (updated m l (Hit place 1)) → Place-set g l place s (o .after)
   set-entry-sets-place l place step =
       updated-sets-place l (Hit place 1) step (λ p e. let z : _≡_ {A = ℕ} 1 0 = cc in absurd (omega arith))
+
+  -- The entries of translation page t become unchanged, where flash stores the place of each.
+  pub unchanged-keeps-places : {A : Type 0} {o : Outcome A} {ops : List Operation} {used : ℕ} (t : ℕ)
+      → Cache-step g s o ops used (page-unchanged g t m)
+      → ((l place c : ℕ) → m l ≡ Hit place c → translation-page g l ≡ t → place ≡ stored-in g s l) → Places-kept g s (o .after)
+  unchanged-keeps-places t step stores =
+      record {
+        places = λ l b. step-current step l ∙ same-place l ∙ sym (current-is g s m h l);
+        agree = step-agree step agrees;
+      }
+    where
+      place-unchanged : (word : ℕ) (f : Found) → place-or word (unchanged-found f) ≡ place-or word f
+      place-unchanged word (Hit place c) = refl
+      place-unchanged word Miss = refl
+
+      same-place : (l : ℕ) → place-or (stored-in g s l) (page-unchanged g t m l) ≡ place-or (stored-in g s l) (m l)
+      same-place l =
+          on (eqb (translation-page g l) t) (λ e. rw e (place-unchanged (stored-in g s l) (m l))) (λ e. rw e refl)
+
+      was-stored : (l place : ℕ) → translation-page g l ≡ t → (f : Found) → m l ≡ f → unchanged-found f ≡ Hit place 0
+          → place ≡ stored-in g s l
+      was-stored l place of-t (Hit p c) e q = let z : place ≡ p = cc in z ∙ stores l p c e of-t
+      was-stored l place of-t Miss e q = absurd (hit-is-no-miss (sym q))
+
+      agrees : Agrees (page-unchanged g t m) (stored-in g s)
+      agrees l place e =
+          same? (translation-page g l) t
+          (λ q. was-stored l place q (m l) refl (rw (eq-eqb (translation-page g l) t q) at e))
+          (λ q. agree-maps g s m h seven l place (rw (ne-eqb (translation-page g l) t q) at e))

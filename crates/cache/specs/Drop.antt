@@ -1,60 +1,98 @@
--- Dropping the last entry: flash has come to store its place, by a write-back or because it was unchanged, and it is forgotten.
+-- Dropping an entry. If it is changed it is written back first: flash comes to store the places of all changed entries of its translation
+-- page, and these become unchanged. An unchanged entry can go. Every current place stays, and rule 7 holds, at each of the three steps.
 use Prim.Native.Nat.{ℕ, suc, _<_}
 use native.Mathlib.Omega.{arith}
 use mathlib.Core.Path.{_≡_, refl, ap, sym, _∙_, subst}
 use mathlib.Core.Logic.{_≢_}
 use mathlib.Core.Bool.{false}
-use mathlib.Core.List.{[]}
+use mathlib.Core.List.{List, []}
 use Rattle.flash.specs.Cases.{same?}
 use Rattle.scope.specs.Geometry.{Geometry}
-use Rattle.scope.specs.Lent.{State, logical-at, physical-at}
-use Rattle.scope.specs.Cache.{is-changed, forget}
-use Rattle.scope.specs.Sound.{Entries-fit, Unchanged-agree}
-use Rattle.cache.specs.Holds.{Found, Miss, updated}
-use Rattle.cache.specs.Steps.{Holds-in, Cache-step, forget-law}
-use Rattle.cache.specs.Current.{stored-in, Places-kept, places-then, forget-keeps-places}
+use Rattle.scope.specs.Lent.{State, Mapping, logical-at, changed-at, translation-page}
+use Rattle.scope.specs.Operations.{set-cache}
+use Rattle.scope.specs.Cache.{is-changed, changed-of, become-unchanged, forget}
+use Rattle.scope.specs.Sound.{Unchanged-agree}
+use Rattle.cache.specs.Holds.{Found, Hit, Miss, updated, hit-at, hit-below-L}
+use Rattle.cache.specs.Waiting.{latest, latest-none}
+use Rattle.cache.specs.Neighbours.{Changed-at, changed-passes, changed-of-waits, changed-of-latest, page-unchanged, no-longer-changed}
+use Rattle.cache.specs.Steps.{Holds-in, Cache-step, Ranks-kept, forget-law, become-unchanged-law}
+use Rattle.cache.specs.Current.{stored-in, Places-kept, agree-maps, forget-keeps-places, unchanged-keeps-places}
 use Rattle.cache.specs.Stored.{Rests-on-flash, unchanged-stored, stored-keeps-places}
 
--- Flash stores the place of the entry at rank i, and the cache and what is stored for other pages are as before.
-pub record Written-back (g : Geometry) (i : ℕ) (s s′ : State) : Type 0 where
+-- What an update with the changed entries of translation page t leaves: the cache, and what flash stores for all other pages.
+pub record Changed-stored (g : Geometry) (t : ℕ) (s s′ : State) : Type 0 where
   pub cache : s′ .cache ≡ s .cache
   pub used : s′ .small .used ≡ s .small .used
-  pub here : stored-in g s′ (logical-at i (s .cache)) ≡ physical-at i (s .cache)
-  pub elsewhere : (l : ℕ) → l < g .L → l ≢ logical-at i (s .cache) → stored-in g s′ l ≡ stored-in g s l
+  pub here : (l : ℕ) → l < g .L → translation-page g l ≡ t
+      → stored-in g s′ l ≡ latest (changed-of g t (s .small .used) (s .cache)) l (stored-in g s l)
+  pub elsewhere : (l : ℕ) → l < g .L → translation-page g l ≢ t → stored-in g s′ l ≡ stored-in g s l
 
--- An unchanged entry needs no write-back.
-pub unchanged-written-back : (g : Geometry) (s : State) → Entries-fit g (s .cache) (s .small .used) → Unchanged-agree g s
-    → (i : ℕ) → i < s .small .used → is-changed i (s .cache) ≡ false → Written-back g i s s
-unchanged-written-back g s fits seven i k e =
-    record { cache = refl; used = refl; here = sym (unchanged-stored g s fits seven i k e); elsewhere = λ l b d. refl }
+module _ (g : Geometry) (t : ℕ) (s s′ : State) (m : ℕ → Found) (h : Holds-in g s m) (seven : Unchanged-agree g s)
+    (stores : Changed-stored g t s s′) where
+  abbrev used : ℕ
+  used = s .small .used
 
--- The entry is forgotten after that: its page is not cached, and every current place is as it was before the write-back.
-pub record Dropped (g : Geometry) (i : ℕ) (s s′ : State) (m : ℕ → Found) : Type 0 where
-  pub step : Cache-step g s′ (forget i s′) [] i (updated m (logical-at i (s .cache)) Miss)
-  pub places : Places-kept g s (forget i s′ .after)
+  abbrev set : List Mapping
+  set = changed-of g t used (s .cache)
 
-module _ (g : Geometry) (s s′ : State) (m : ℕ → Found) (h : Holds-in g s m) (seven : Unchanged-agree g s)
-    (i : ℕ) (last : suc i ≡ s .small .used) (back : Written-back g i s s′) where
-  h′ : Holds-in g s′ m
-  h′ = rw (back .cache, back .used) h
-
-  -- Rule 7 says of an unchanged entry that flash stored its place already.
+  -- What was set is of changed entries, so that flash is as it was wherever rule 7 or a place rests on it.
   rests : (l : ℕ) → l < g .L → Rests-on-flash (m l) → stored-in g s′ l ≡ stored-in g s l
-  rests l b r =
-      same? l (logical-at i (s .cache))
-      (λ q. rw q (back .here ∙ seven i (omega (arith, h .entries .at-most)) (omega arith)
-      (subst Rests-on-flash (ap m q ∙ h .hits i (omega arith)) r)))
-      (λ q. back .elsewhere l b q)
+  rests l below r =
+      same? (translation-page g l) t
+      (λ e. stores .here l below e ∙ latest-none set l (stored-in g s l) (λ q. unset (changed-of-waits g t (s .cache) used l q)))
+      (λ e. stores .elsewhere l below e)
+    where
+      unset : Changed-at g t used l (s .cache) → ⊥
+      unset c =
+          let e : changed-at (c .rank) (s .cache) ≡ 0 = subst Rests-on-flash (ap m (sym (c .is-l)) ∙ h .hits (c .rank) (c .before)) r in
+          omega (arith, e, c .changed)
 
-  written-back-keeps : Places-kept g s s′
-  written-back-keeps = stored-keeps-places g s s′ m h seven (back .cache) (back .used) rests
+  pub update-keeps-places : Places-kept g s s′
+  update-keeps-places = stored-keeps-places g s s′ m h seven (stores .cache) (stores .used) rests
 
-  pub drop-law : Dropped g i s s′ m
-  drop-law =
-      let forgotten = forget-law g s′ m h′ i (last ∙ sym (back .used)) in
-      record {
-        step = subst (λ c. Cache-step g s′ (forget i s′) [] i (updated m (logical-at i c) Miss)) (back .cache) forgotten;
-        places = places-then written-back-keeps
-            (forget-keeps-places g s′ m h′ (written-back-keeps .agree) i forgotten (omega (arith, back .used))
-            (rw (back .cache) (sym (back .here))));
-      }
+  -- Flash stores the place of every entry of the page: of a changed one because it was set, of another by rule 7.
+  pub page-stored : (l place c : ℕ) → m l ≡ Hit place c → translation-page g l ≡ t → place ≡ stored-in g s′ l
+  page-stored l place c e of-t =
+      let a = hit-at g (s .cache) used m h l place c e in
+      let below = hit-below-L g (s .cache) used m h l place c e in
+      same? c 1
+      (λ q. sym (stores .here l below of-t
+      ∙ ap (λ k. latest set k (stored-in g s l)) (sym (a .logical))
+      ∙ changed-of-latest g t (s .cache) used (a .rank) (stored-in g s l) (a .in-use)
+      (changed-passes g t (s .cache) (a .rank) (a .changed ∙ q) (ap (translation-page g) (a .logical) ∙ of-t))
+      (λ j k. h .entries .different j (a .rank) k (a .in-use))
+      ∙ a .physical))
+      (λ q.
+      let z : c ≡ 0 = omega (arith, h .entries .changed-fits (a .rank) (a .in-use), a .changed) in
+      let unchanged : m l ≡ Hit place 0 = e ∙ ap (Hit place) z in
+      agree-maps g s m h seven l place unchanged ∙ sym (rests l below (rw unchanged refl)))
+
+  h′ : Holds-in g s′ m
+  h′ = rw (stores .cache, stores .used) h
+
+  -- They become unchanged.
+  pub unchanged-then : Ranks-kept g s′ (become-unchanged g t s′) (page-unchanged g t m)
+  unchanged-then = become-unchanged-law g s′ m h′ t
+
+  pub become-unchanged-keeps-places : Places-kept g s′ (become-unchanged g t s′ .after)
+  become-unchanged-keeps-places = unchanged-keeps-places g s′ m h′ (update-keeps-places .agree) t (unchanged-then .step) page-stored
+
+  pub unchanged-in-page : (i : ℕ) → i < used → translation-page g (logical-at i (s .cache)) ≡ t
+      → is-changed i (become-unchanged g t s′ .after .cache) ≡ false
+  unfolding become-unchanged set-cache
+  unchanged-in-page i in-use of-t = rw (stores .cache, stores .used) (no-longer-changed g t (s .cache) used m h i in-use of-t)
+
+-- An unchanged entry, the last, is forgotten.
+pub record Dropped (g : Geometry) (i : ℕ) (s : State) (m : ℕ → Found) : Type 0 where
+  pub step : Cache-step g s (forget i s) [] i (updated m (logical-at i (s .cache)) Miss)
+  pub places : Places-kept g s (forget i s .after)
+
+pub drop-law : (g : Geometry) (s : State) (m : ℕ → Found) → Holds-in g s m → Unchanged-agree g s → (i : ℕ) → suc i ≡ s .small .used
+    → is-changed i (s .cache) ≡ false → Dropped g i s m
+drop-law g s m h seven i last unchanged =
+    let step = forget-law g s m h i last in
+    record {
+      step = step;
+      places = forget-keeps-places g s m h seven i step (omega arith)
+          (unchanged-stored g s (h .entries) seven i (omega arith) unchanged);
+    }

@@ -2,11 +2,12 @@
 pub mod Entries
 pub mod Ranks
 pub mod Holds
+pub mod Waiting
+pub mod Neighbours
 pub mod Order
 pub mod Changes
 pub mod Steps
 pub mod Current
-pub mod Waiting
 pub mod Stored
 pub mod Drop
 pub mod Fetch

@@ -8,12 +8,13 @@ use Rattle.scope.specs.Regions.{Region}
 use Rattle.scope.specs.SmallRecord.{SmallRecord, with-used}
 use Rattle.scope.specs.Lent.{State, logical-at, with-cache, with-small}
 use Rattle.scope.specs.Operations.{Operation, Outcome, give, set-cache, set-small, _>>=_}
-use Rattle.scope.specs.Cache.{touch, enter, dropped, forget, set-entry}
+use Rattle.scope.specs.Cache.{touch, enter, dropped, forget, become-unchanged, set-entry}
 use Rattle.scope.specs.Laws.Applied.{Same-flash, flash-as}
 use Rattle.flash.specs.Heads.{Same-head, head-same, with-used-head}
 use Rattle.cache.specs.Ranks.{Has-rank}
 use Rattle.cache.specs.Holds.{Found, Hit, Miss, updated, Cache-holds}
 use Rattle.cache.specs.Changes.{Holds-at, touched-holds, entered-holds, forgotten-holds, placed-holds, placed-ranks}
+use Rattle.cache.specs.Neighbours.{page-unchanged, logical-stays, unchanged-holds}
 
 abbrev pub Holds-in : Geometry → State → (ℕ → Found) → Type 0
 Holds-in g s m = Cache-holds g (s .cache) (s .small .used) m
@@ -84,4 +85,13 @@ module _ (g : Geometry) (s : State) (m : ℕ → Found) (h : Holds-in g s m) whe
       record {
         step = cache-alone s (s .small) (λ k. head-same k refl) (placed-holds g (s .cache) (s .small .used) m h l i place r);
         ranks = placed-ranks g (s .cache) (s .small .used) m h l i place r;
+      }
+
+  -- The changed entries of a translation page "become unchanged, ranks kept".
+  pub become-unchanged-law : (t : ℕ) → Ranks-kept g s (become-unchanged g t s) (page-unchanged g t m)
+  unfolding become-unchanged set-cache
+  become-unchanged-law t =
+      record {
+        step = cache-alone s (s .small) (λ k. head-same k refl) (unchanged-holds g t (s .cache) (s .small .used) m h);
+        ranks = logical-stays g t (s .cache) (s .small .used);
       }

@@ -1,39 +1,33 @@
 -- Translate: l's entry comes to the front, or is fetched, and another one is dropped and written back where it must be. Every logical
 -- page stays where it is, and it costs at most 2P+2.
 use Prim.Native.Nat.{ℕ, suc, _+_, _*_, _-_, _≤_, _<_}
-use mathlib.Core.Path.{_≡_, refl, sym, _∙_, ap}
-use mathlib.Core.Logic.{⊎-elim}
-use mathlib.Core.Bool.{cond}
-use mathlib.Core.List.{List, [], _∷_, _++_}
+use mathlib.Core.Path.{_≡_, refl, sym, _∙_, ap, subst}
+use mathlib.Core.Bool.{false, cond}
+use mathlib.Core.List.{List, _++_}
 use native.Mathlib.Omega.{arith}
-use borrow.Author.Tests.{eq-eqb, ne-eqb, lt-ltb, le-ltb}
+use borrow.Author.Tests.{lt-ltb, le-ltb}
 use Rattle.scope.specs.Geometry.{Geometry, Accepted}
-use Rattle.scope.specs.Lent.{Mapping, Entry, Place, Nowhere, State, named, logical-at, physical-at, translation-page}
-use Rattle.scope.specs.Regions.{Data}
+use Rattle.scope.specs.Lent.{Mapping, Entry, Place, Nowhere, State, named, logical-at, translation-page}
 use Rattle.scope.specs.Operations.{Outcome, give, look, nothing, counted, _>>=_}
-use Rattle.scope.specs.Cache.{touch, forget, dropped, is-changed, written-back}
+use Rattle.scope.specs.Cache.{touch, forget, dropped, is-changed, changed-of, become-unchanged}
 use Rattle.scope.specs.Steps.{write-back, drop-entry, drop-if-full, fetch, translate, update}
 use Rattle.scope.specs.Sound.{rank-of, Sound}
 use Rattle.flash.specs.Moments.{cost}
 use Rattle.flash.specs.Cases.{on, same?, below?}
 use Rattle.flash.specs.Lengths.{Lengths}
-use Rattle.flash.specs.Heads.{head-trans}
-use Rattle.scope.specs.Laws.Applied.{flash-refl}
-use Rattle.flash.specs.SamePages.{same-trans}
-use Rattle.region.specs.Done.{Done, done-none, done-then}
-use Rattle.region.specs.DirectoryFollows.{Translation-only}
-use Rattle.flash.specs.Listed.{cost-++, cost-none}
+use Rattle.flash.specs.Listed.{cost-none}
 use Rattle.cache.specs.Ranks.{Has-rank, rank-found, rank-missing}
 use Rattle.cache.specs.Holds.{Miss, updated, updated-here, updated-elsewhere, holds-found}
-use Rattle.cache.specs.Steps.{touch-law}
+use Rattle.cache.specs.Neighbours.{changed-of-waits, page-unchanged, unchanged-misses}
+use Rattle.cache.specs.Steps.{Holds-in, Ranks-kept, touch-law}
 use Rattle.cache.specs.Current.{stored-in, touch-keeps-places, enter-keeps-places}
-use Rattle.cache.specs.Drop.{Written-back, unchanged-written-back, drop-law}
+use Rattle.cache.specs.Drop.{Changed-stored, update-keeps-places, unchanged-then, become-unchanged-keeps-places, unchanged-in-page, drop-law}
 use Rattle.cache.specs.Fetch.{page-read, fetch-law}
 use Rattle.promises.specs.Index.{page-below}
-use Rattle.promises.specs.Parts.{Index-fits, index-of, cache-of, cached, cache-holds}
-use Rattle.promises.specs.Update.{only-refl, update-bound, Updated, update-law}
+use Rattle.promises.specs.Parts.{index-of, cache-of, cached, cache-holds}
+use Rattle.promises.specs.Update.{update-bound, Updated, update-law}
 use Rattle.promises.specs.Stored.{Mappings-of}
-use Rattle.promises.specs.Keeping.{Kept, within, kept-none, kept-then, kept-sound, step-lengths, step-pages, step-index, cache-kept}
+use Rattle.promises.specs.Keeping.{Kept, within, kept-none, kept-then, kept-sound, cache-kept}
 
 -- The most that translate costs.
 abbrev pub translate-bound : Geometry → ℕ
@@ -49,14 +43,13 @@ unfolding counted
 page-read-cost (Place p) = omega arith
 page-read-cost Nowhere = omega arith
 
--- Flash stores what the entry at rank i says, and the index holds: that entry can go.
+-- All is kept, no page has come into the cache, and the entry at rank i, still in use, is unchanged: it can go.
 pub record Can-go (g : Geometry) (i : ℕ) (s : State) (o : Outcome (Unit {0})) : Type 0 where
-  pub back : Written-back g i s (o .after)
-  pub index : Index-fits g (o .after)
-  pub only : Translation-only g s (o .after)
-  pub lengths : Lengths g (o .after)
-  pub done : Done g s (o .did) (o .after)
-  pub costs : cost (o .did) ≤ update-bound g
+  pub kept : Kept g (update-bound g) s o
+  pub used : o .after .small .used ≡ s .small .used
+  pub ranks : (j : ℕ) → logical-at j (o .after .cache) ≡ logical-at j (s .cache)
+  pub missing : (k : ℕ) → cached g s k ≡ Miss → cached g (o .after) k ≡ Miss
+  pub unchanged : is-changed i (o .after .cache) ≡ false
 
 -- An entry is free, and no page has come into the cache.
 pub record Free (g : Geometry) (s : State) (o : Outcome (Unit {0})) : Type 0 where
@@ -67,87 +60,100 @@ pub record Free (g : Geometry) (s : State) (o : Outcome (Unit {0})) : Type 0 whe
 -- ---- the entry that goes
 
 module _ {g : Geometry} (s : State) (len : Lengths g s) (sound : Sound g s) (i : ℕ) (in-use : i < s .small .used) where
-  abbrev l : ℕ
-  l = logical-at i (s .cache)
+  abbrev used : ℕ
+  used = s .small .used
 
-  abbrev place : ℕ
-  place = physical-at i (s .cache)
+  abbrev t : ℕ
+  t = translation-page g (logical-at i (s .cache))
 
-  below : l < g .L
-  below = sound .rule-5 .below-L i in-use
+  -- The changed entries of its translation page, which is updated with them.
+  abbrev set : List Mapping
+  set = changed-of g t used (s .cache)
 
-  abbrev entry : List Mapping
-  entry = record { logical = l; physical = place } ∷ []
+  of-t : Mappings-of g t set
+  of-t l waits =
+      let c = changed-of-waits g t (s .cache) used l waits in
+      (subst (λ k. k < g .L) (c .is-l) (sound .rule-5 .below-L (c .rank) (c .before)), c .of-t)
 
-  only-l : Mappings-of g (translation-page g l) entry
-  only-l k = ⊎-elim (λ e. rw (← e) (below, refl)) (λ z. absurd z)
+  holds : Holds-in g s (cached g s)
+  holds = cache-holds g s len (cache-of sound)
 
-  -- Written back: no other page's word has changed, and l's says what its entry says.
-  updated-can-go : (o : Outcome (Unit {0})) → Updated g (translation-page g l) entry (update-bound g) s o → Can-go g i s o
+  -- Written back: they are set, which moves no page, and then unchanged, which moves none either.
+  updated-can-go : (o : Outcome (Unit {0})) → Updated g t set (update-bound g) s o
+      → Can-go g i s (record {
+        value = tt;
+        after = become-unchanged g t (o .after) .after;
+        did = o .did ++ become-unchanged g t (o .after) .did;
+      })
   updated-can-go o u =
       record {
-        back = record {
-          cache = u .only .cache;
-          used = u .only .rest .used;
-          here = u .here l below refl ∙ rw (eq-eqb l l refl);
-          elsewhere = λ k h apart.
-              same? (translation-page g k) (translation-page g l)
-              (λ e. u .here k h e ∙ rw (ne-eqb l k (λ q. apart (sym q))))
-              (λ e. u .elsewhere k h e);
-        };
-        index = u .index;
-        only = u .only;
-        lengths = u .lengths;
-        done = u .done;
-        costs = u .costs;
+        kept = within (update-bound g) (omega arith) (kept-then o (become-unchanged g t (o .after)) updated settled);
+        used = marked .step .used ∙ stores .used;
+        ranks = λ j. marked .ranks j ∙ ap (logical-at j) (stores .cache);
+        missing = λ k e. holds-found g (after .cache) (after .small .used) (page-unchanged g t (cached g s)) (marked .step .holds) k
+            ∙ unchanged-misses g t (cached g s) k e;
+        unchanged = unchanged-in-page g t s (o .after) (cached g s) holds (sound .rule-7) stores i in-use refl;
       }
+    where
+      stores : Changed-stored g t s (o .after)
+      stores = record { cache = u .only .cache; used = u .only .rest .used; here = u .here; elsewhere = u .elsewhere }
 
-  -- "If it is changed, first write it back"; by rule 7 flash stores it else.
+      marked : Ranks-kept g (o .after) (become-unchanged g t (o .after)) (page-unchanged g t (cached g s))
+      marked = unchanged-then g t s (o .after) (cached g s) holds (sound .rule-7) stores
+
+      after : State
+      after = become-unchanged g t (o .after) .after
+
+      updated : Kept g (update-bound g) s o
+      updated =
+          let places = update-keeps-places g t s (o .after) (cached g s) holds (sound .rule-7) stores in
+          record {
+            sound = kept-sound sound (u .index)
+                (record { entries = rw (stores .cache, stores .used) (sound .rule-5); agree = places .agree })
+                (u .only .data-pages) (u .only .rest .head) (places .places);
+            lengths = u .lengths;
+            places = places .places;
+            pages = u .only .data-pages;
+            done = u .done;
+            costs = u .costs;
+          }
+
+      settled : Kept g 0 (o .after) (become-unchanged g t (o .after))
+      settled =
+          cache-kept Nowhere (updated .sound) (u .lengths) (marked .step)
+          (become-unchanged-keeps-places g t s (o .after) (cached g s) holds (sound .rule-7) stores) (omega (arith, cost-none))
+
+  -- "If it is changed, first write it back."
   pub can-go : Accepted g → Can-go g i s (cond (is-changed i (s .cache)) (write-back g i) nothing s)
-  unfolding write-back written-back look give _>>=_
+  unfolding write-back look give _>>=_
   can-go ok =
       on (is-changed i (s .cache))
       (λ e. rw e (
-      updated-can-go (update g (translation-page g l) entry s)
-      (update-law ok (translation-page g l) entry s (index-of sound) (page-below ok l below) only-l len)))
-      (λ e. rw e (record {
-        back = unchanged-written-back g s (sound .rule-5) (sound .rule-7) i in-use e;
-        index = index-of sound;
-        only = only-refl;
-        lengths = len;
-        done = done-none g flash-refl;
-        costs = omega (arith, cost-none);
-      }))
+      updated-can-go (update g t set s)
+      (update-law ok t set s (index-of sound) (page-below ok (logical-at i (s .cache)) (sound .rule-5 .below-L i in-use)) of-t len)))
+      (λ e. rw e (record { kept = kept-none tt sound len; used = refl; ranks = λ j. refl; missing = λ k q. q; unchanged = e }))
 
   -- The last entry goes.
-  forgotten : suc i ≡ s .small .used → (o : Outcome (Unit {0})) → Can-go g i s o
+  forgotten : suc i ≡ used → (o : Outcome (Unit {0})) → Can-go g i s o
       → Free g s (record {
         value = forget i (o .after) .value;
         after = forget i (o .after) .after;
         did = o .did ++ forget i (o .after) .did;
       })
   forgotten last o go =
-      let m = cached g s in
-      let f = forget i (o .after) in
-      let d = drop-law g s (o .after) m (cache-holds g s len (cache-of sound)) (sound .rule-7) i last (go .back) in
-      let step = d .step in
-      let pages = same-trans (go .only .data-pages) (step-pages step) in
+      let s₁ = o .after in
+      let m = cached g s₁ in
+      let f = forget i s₁ in
+      let d = drop-law g s₁ m (cache-holds g s₁ (go .kept .lengths) (cache-of (go .kept .sound))) (go .kept .sound .rule-7) i
+      (last ∙ sym (go .used)) (go .unchanged) in
+      let gone : Kept g 0 s₁ f = cache-kept Nowhere (go .kept .sound) (go .kept .lengths) (d .step) (d .places) (omega (arith, cost-none)) in
+      let l = logical-at i (s₁ .cache) in
       record {
-        kept = record {
-          sound = kept-sound sound (step-index step (go .index))
-              (record { entries = step .holds .entries; agree = d .places .agree }) pages
-              (head-trans (go .only .rest .head) (step .heads Data))
-              (d .places .places);
-          lengths = step-lengths step (go .lengths);
-          places = d .places .places;
-          pages = pages;
-          done = done-then (go .done) (rw (step .did) (done-none g (step .flash)));
-          costs = omega (arith, cost-++ (o .did) (f .did), ap cost (step .did), cost-none, go .costs);
-        };
-        room = omega (arith, step .used, sound .rule-5 .at-most);
+        kept = within (update-bound g) (omega arith) (kept-then o f (go .kept) gone);
+        room = omega (arith, d .step .used, sound .rule-5 .at-most);
         missing = λ k e.
-            holds-found g (f .after .cache) (f .after .small .used) (updated m l Miss) (step .holds) k
-            ∙ same? k l (λ q. rw q (updated-here m l Miss)) (λ q. updated-elsewhere m l Miss k q ∙ e);
+            holds-found g (f .after .cache) (f .after .small .used) (updated m l Miss) (d .step .holds) k
+            ∙ same? k l (λ q. rw q (updated-here m l Miss)) (λ q. updated-elsewhere m l Miss k q ∙ go .missing k e);
       }
 
 -- ---- translate

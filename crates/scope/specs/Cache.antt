@@ -1,13 +1,14 @@
 -- 01's cache: its words, and its order behind a few definitions: what is dropped, where a found and where a new entry goes.
 -- "Replacement is least recently used, as in source 003." Translate knows no more of the order than what stands here.
-use Prim.Native.Nat.{ℕ, suc, _+_, _*_, _-_}
-use mathlib.Core.Bool.{Bool}
+use Prim.Native.Nat.{ℕ, zero, suc, _+_, _*_, _-_}
+use mathlib.Core.Bool.{Bool, cond, _&&_}
 use mathlib.Core.List.{List, [], _∷_, _++_}
 use lib.Dec.{eqb}
-use lib.ListN.{take, drop}
+use lib.ListN.{set, take, drop}
 use lib.Seq.{sets}
+use Rattle.scope.specs.Geometry.{Geometry}
 use Rattle.scope.specs.SmallRecord.{with-used}
-use Rattle.scope.specs.Lent.{none, State, Mapping, entry-words, logical-at, physical-at, changed-at}
+use Rattle.scope.specs.Lent.{none, State, Mapping, entry-words, logical-at, physical-at, changed-at, translation-page}
 use Rattle.scope.specs.Operations.{Step, give, set-cache, set-small, _>>=_, _>>_}
 
 -- The entry at a rank, and the cache without it, those behind it one rank nearer.
@@ -43,9 +44,26 @@ forget i = do
 abbrev pub is-changed : ℕ → List ℕ → Bool
 is-changed i cache = eqb (changed-at i cache) 1
 
--- "Update its translation page with that one entry": what the write-back of the entry at a rank sets.
-unfoldable pub written-back : ℕ → State → List Mapping
-written-back i s = record { logical = logical-at i (s .cache); physical = physical-at i (s .cache) } ∷ []
+-- 02, P2: "all changed cached entries of the same translation page". Whether the entry at a rank is one of translation page t.
+abbrev pub is-changed-of : Geometry → ℕ → ℕ → List ℕ → Bool
+is-changed-of g t i cache = is-changed i cache && eqb (translation-page g (logical-at i cache)) t
+
+-- They "are to be set in that one update", those at *none* too: what it sets, of the first n entries.
+unfoldable pub changed-of : Geometry → ℕ → ℕ → List ℕ → List Mapping
+changed-of g t zero cache = []
+changed-of g t (suc n) cache =
+    changed-of g t n cache
+    ++ cond (is-changed-of g t n cache) (record { logical = logical-at n cache; physical = physical-at n cache } ∷ []) []
+
+-- "And become unchanged, ranks kept": the cache once the first n entries have.
+unfoldable pub unchanged-of : Geometry → ℕ → ℕ → List ℕ → List ℕ
+unchanged-of g t zero cache = cache
+unchanged-of g t (suc n) cache =
+    let before = unchanged-of g t n cache in
+    cond (is-changed-of g t n cache) (set before (n * entry-words + 2) 0) before
+
+unfoldable pub become-unchanged : Geometry → ℕ → Step (Unit {0})
+become-unchanged g t = set-cache (λ s. unchanged-of g t (s .small .used) (s .cache))
 
 -- The entry at a rank names a new place and is changed, "with its rank kept".
 unfoldable pub set-entry : ℕ → ℕ → Step (Unit {0})

@@ -10,7 +10,7 @@ use Rattle.scope.specs.Regions.{Translation}
 use Rattle.scope.specs.Sound.{rank-of}
 use Rattle.scope.specs.Operations.{Step, Mark, give, look, perform, nothing, set-directory, for, _>>=_, _>>_}
 use Rattle.scope.specs.Room.{Following, read-page, program-next, make-room}
-use Rattle.scope.specs.Cache.{touch, enter, dropped, forget, is-changed, written-back, set-entry}
+use Rattle.scope.specs.Cache.{touch, enter, dropped, forget, is-changed, changed-of, become-unchanged, set-entry}
 
 -- "Translation region: the directory follows at once."
 unfoldable pub directory-names-it : ℕ → ℕ → Step (Unit {0})
@@ -71,13 +71,16 @@ update-all g waiting = for (M g) (λ t. update-touched g t (of-page g t waiting)
 abbrev pub cache-follows : Geometry → Following
 cache-follows g = record { moved = cache-or-wait g; settled = update-all g }
 
--- "If all C entries are used, drop the last; if it is changed, first write it back."
+-- "Write it back". 02, P2: "When a changed entry is dropped, all changed cached entries of the same translation page are to be set in
+-- that one update and become unchanged, ranks kept. This replaces 01's 'with that one entry'."
 unfoldable pub write-back : Geometry → ℕ → Step (Unit {0})
 write-back g i = do
-  l ← look (λ s. logical-at i (s .cache))
-  mappings ← look (written-back i)
-  update g (translation-page g l) mappings
+  t ← look (λ s. translation-page g (logical-at i (s .cache)))
+  mappings ← look (λ s. changed-of g t (s .small .used) (s .cache))
+  update g t mappings
+  become-unchanged g t
 
+-- "If all C entries are used, drop the last; if it is changed, first write it back."
 unfoldable pub drop-entry : Geometry → Step (Unit {0})
 drop-entry g = do
   i ← look dropped

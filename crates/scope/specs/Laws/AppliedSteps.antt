@@ -8,7 +8,7 @@ use Rattle.scope.specs.Regions.{Region, Data, Translation}
 use Rattle.scope.specs.Lent.{Entry, Place, Nowhere, Mapping, Request}
 use Rattle.scope.specs.Operations.{Read, Program, Mark, Erase, Step}
 use Rattle.scope.specs.Room.{Following, read-page, program-next, move-page, move-if-valid, move-pages, open-lowest, collect, open-or-collect, make-room}
-use Rattle.scope.specs.Cache.{touch, enter, forget, set-entry}
+use Rattle.scope.specs.Cache.{touch, enter, forget, become-unchanged, set-entry}
 use Rattle.scope.specs.Steps.{directory-names-it, directory-follows, begun, mark-old, update, of-page, update-touched, cache-or-wait, update-all, cache-follows, write-back, drop-entry, drop-if-full, word-for, fetch, translate}
 use Rattle.scope.specs.Replies.{DONE, Test, Size, first-applying, admit}
 use Rattle.scope.specs.Requests.{read-place, read-steps, write-steps, format-steps}
@@ -132,10 +132,16 @@ module _ {g : Geometry} where
   unfolding forget
   forget-applied i = applied-bind (applied-set-cache _) (λ _. applied-set-small _)
 
+  become-unchanged-applied : (t : ℕ) → Applied g (become-unchanged g t)
+  unfolding become-unchanged
+  become-unchanged-applied t = applied-set-cache _
+
   write-back-applied : (i : ℕ) → Applied g (write-back g i)
   unfolding write-back
   write-back-applied i =
-      applied-bind (applied-look _) (λ l. applied-bind (applied-look _) (λ ms. update-applied _ ms))
+      applied-bind (applied-look _) (λ t.
+      applied-bind (applied-look _) (λ ms.
+      applied-bind (update-applied t ms) (λ _. become-unchanged-applied t)))
 
   drop-entry-applied : Applied g (drop-entry g)
   unfolding drop-entry

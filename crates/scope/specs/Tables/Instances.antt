@@ -103,7 +103,7 @@ pub record Instances : Type 0 where
   -- Two moved entries of one translation page wait: it is updated once.
   pub one-page-touched-twice :
       good (0 ∷ 0 ∷ 1 ∷ 0 ∷ []) ∷ good (0 ∷ 0 ∷ 1 ∷ 0 ∷ []) ∷ good (0 ∷ 0 ∷ 1 ∷ 0 ∷ []) ∷ good (0 ∷ 0 ∷ 2 ∷ 0 ∷ [])
-      ∷ good (0 ∷ 1 ∷ 2 ∷ 0 ∷ []) ∷ good (0 ∷ 0 ∷ 1 ∷ 0 ∷ []) ∷ good (0 ∷ 3 ∷ 4 ∷ 1 ∷ []) ∷ []
+      ∷ good (0 ∷ 0 ∷ 1 ∷ 0 ∷ []) ∷ good (0 ∷ 0 ∷ 1 ∷ 0 ∷ []) ∷ good (0 ∷ 3 ∷ 4 ∷ 1 ∷ []) ∷ []
       ≡ watched (geometry 3 2 3 2 4 2) (W 0 10 ∷ W 0 11 ∷ W 1 12 ∷ W 2 13 ∷ W 3 14 ∷ W 3 15 ∷ W 2 16 ∷ [])
   -- The translation region is collected while the data region is, and the pages of both are found.
   pub collections-in-a-collection :
