@@ -6,6 +6,7 @@ use mathlib.Core.Path.{_≡_, refl, ap, sym, _∙_, subst}
 use mathlib.Core.Logic.{_≢_}
 use mathlib.Core.Bool.{false}
 use mathlib.Core.List.{List, []}
+use borrow.Author.Tests.{eq-eqb}
 use Rattle.flash.specs.Cases.{same?}
 use Rattle.scope.specs.Geometry.{Geometry}
 use Rattle.scope.specs.Lent.{State, Mapping, logical-at, changed-at, translation-page}
@@ -14,7 +15,7 @@ use Rattle.scope.specs.Cache.{is-changed, changed-of, become-unchanged, forget}
 use Rattle.scope.specs.Sound.{Unchanged-agree}
 use Rattle.cache.specs.Holds.{Found, Hit, Miss, updated, hit-at, hit-below-L}
 use Rattle.cache.specs.Waiting.{latest, latest-none}
-use Rattle.cache.specs.Neighbours.{Changed-at, changed-passes, changed-of-waits, changed-of-latest, page-unchanged, no-longer-changed}
+use Rattle.cache.specs.Neighbours.{Changed-at, test-of-page, changed-of-waits, changed-of-latest, page-unchanged, no-longer-changed}
 use Rattle.cache.specs.Steps.{Holds-in, Cache-step, Ranks-kept, forget-law, become-unchanged-law}
 use Rattle.cache.specs.Current.{stored-in, Places-kept, agree-maps, forget-keeps-places, unchanged-keeps-places}
 use Rattle.cache.specs.Stored.{Rests-on-flash, unchanged-stored, stored-keeps-places}
@@ -59,7 +60,8 @@ module _ (g : Geometry) (t : ℕ) (s s′ : State) (m : ℕ → Found) (h : Hold
       (λ q. sym (stores .here l below of-t
       ∙ ap (λ k. latest set k (stored-in g s l)) (sym (a .logical))
       ∙ changed-of-latest g t (s .cache) used (a .rank) (stored-in g s l) (a .in-use)
-      (changed-passes g t (s .cache) (a .rank) (a .changed ∙ q) (ap (translation-page g) (a .logical) ∙ of-t))
+      (test-of-page g t (s .cache) (a .rank) (ap (translation-page g) (a .logical) ∙ of-t)
+      ∙ eq-eqb (changed-at (a .rank) (s .cache)) 1 (a .changed ∙ q))
       (λ j k. h .entries .different j (a .rank) k (a .in-use))
       ∙ a .physical))
       (λ q.

@@ -10,6 +10,7 @@ use lib.ListN.{length, getD, length-set}
 use lib.Seq.{getD-set-same, getD-set-other}
 use borrow.Author.Tests.{eqb-true, eq-eqb, ne-eqb}
 use Rattle.flash.specs.Cases.{on, same?, last, and-true}
+use Rattle.flash.specs.Tests.{and-passed}
 use Rattle.scope.specs.Geometry.{Geometry}
 use Rattle.scope.specs.Lent.{none, Mapping, entry-words, logical-at, physical-at, changed-at, translation-page}
 use Rattle.scope.specs.Cache.{is-changed, is-changed-of, changed-of, unchanged-of}
@@ -39,8 +40,12 @@ module _ (g : Geometry) (t : ℕ) (cache : List ℕ) where
         of-t = ap (translation-page g) (sym is-l) ∙ eqb-true (translation-page g (logical-at i cache)) t of-t;
       }
 
-  pub changed-passes : (i : ℕ) → changed-at i cache ≡ 1 → translation-page g (logical-at i cache) ≡ t → is-changed-of g t i cache ≡ true
-  changed-passes i changed of-t = rw (eq-eqb (changed-at i cache) 1 changed, eq-eqb (translation-page g (logical-at i cache)) t of-t)
+  pub test-of-page : (i : ℕ) → translation-page g (logical-at i cache) ≡ t → is-changed-of g t i cache ≡ is-changed i cache
+  test-of-page i of-t = rw (eq-eqb (translation-page g (logical-at i cache)) t of-t) (and-passed (is-changed i cache))
+
+  pub test-of-other : (i : ℕ) → translation-page g (logical-at i cache) ≢ t → is-changed-of g t i cache ≡ false
+  test-of-other i other =
+      rw (ne-eqb (translation-page g (logical-at i cache)) t other) (on (is-changed i cache) (λ e. rw e refl) (λ e. rw e refl))
 
   -- Only they are set.
   pub changed-of-waits : (n l : ℕ) → Waits (changed-of g t n cache) l → Changed-at g t n l cache
@@ -102,7 +107,7 @@ module _ (g : Geometry) (t : ℕ) (cache : List ℕ) where
   pub physical-stays : (n i : ℕ) → physical-at i (unchanged-of g t n cache) ≡ physical-at i cache
   physical-stays n i = word-stays n (i * entry-words + 1) (λ j h. omega arith)
 
-  behind-stays : (n i : ℕ) → n ≤ i → changed-at i (unchanged-of g t n cache) ≡ changed-at i cache
+  pub behind-stays : (n i : ℕ) → n ≤ i → changed-at i (unchanged-of g t n cache) ≡ changed-at i cache
   behind-stays n i h = word-stays n (i * entry-words + 2) (λ j k. omega arith)
 
   -- That one is 0 where the entry was changed and of the page.
@@ -144,16 +149,13 @@ module _ (g : Geometry) (t : ℕ) (cache : List ℕ) (used : ℕ) (m : ℕ → F
   now-unchanged : (i : ℕ) → i < used → translation-page g (logical-at i cache) ≡ t → changed-at i cache′ ≡ 0
   now-unchanged i u of-t =
       changed-then g t cache used i u fits
-      ∙ same? (changed-at i cache) 1
-      (λ e. rw (changed-passes g t cache i e of-t) refl)
-      (λ e. rw (ne-eqb (changed-at i cache) 1 e) (omega (arith, h .entries .changed-fits i u)))
+      ∙ (rw (test-of-page g t cache i of-t)
+      (same? (changed-at i cache) 1
+      (λ e. rw (eq-eqb (changed-at i cache) 1 e) refl)
+      (λ e. rw (ne-eqb (changed-at i cache) 1 e) (omega (arith, h .entries .changed-fits i u)))))
 
   other-stays : (i : ℕ) → i < used → translation-page g (logical-at i cache) ≢ t → changed-at i cache′ ≡ changed-at i cache
-  other-stays i u other =
-      changed-then g t cache used i u fits
-      ∙ on (is-changed i cache)
-      (λ e. rw (e, ne-eqb (translation-page g (logical-at i cache)) t other) refl)
-      (λ e. rw e refl)
+  other-stays i u other = changed-then g t cache used i u fits ∙ (rw (test-of-other g t cache i other) refl)
 
   pub no-longer-changed : (i : ℕ) → i < used → translation-page g (logical-at i cache) ≡ t → is-changed i cache′ ≡ false
   no-longer-changed i u of-t = rw (now-unchanged i u of-t) refl

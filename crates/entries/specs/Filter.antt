@@ -98,19 +98,23 @@ module _ {cache filter : List ℕ} {used : ℕ} (f : Filter cache used filter) w
             ap (λ (x : CacheEntry). has filter (bit-of (x .logical))) (stores .elsewhere j (λ q. omega arith)) ∙ f .each j (omega arith);
       }
 
--- An entry takes another place, whether it is in use or not: no entry's page is another.
-pub filter-placed : {cache filter : List ℕ} {used : ℕ} → Filter cache used filter → (i place : ℕ) → Filter (placed i place cache) used filter
-filter-placed {cache} {filter} f i place =
+-- A cache in which each rank has the logical page that it had.
+pub filter-ranks-kept : {cache cache′ filter : List ℕ} {used : ℕ} → Filter cache used filter → length cache′ ≡ length cache
+    → ((i : ℕ) → logical-at i cache′ ≡ logical-at i cache) → Filter cache′ used filter
+filter-ranks-kept {filter = filter} f long ranks =
     record {
       ranks = f .ranks;
-      cache-fits = length-sets cache (i * entry-words + 1) (place ∷ 1 ∷ []) ∙ f .cache-fits;
+      cache-fits = long ∙ f .cache-fits;
       used-to = f .used-to;
       filter-fits = f .filter-fits;
-      each = λ j h.
-          ap (λ (l : ℕ). has filter (bit-of l))
-          (getD-sets-outside cache (i * entry-words + 1) (place ∷ 1 ∷ []) (j * entry-words) none (λ k m e. omega arith))
-          ∙ f .each j h;
+      each = λ i h. ap (λ (l : ℕ). has filter (bit-of l)) (ranks i) ∙ f .each i h;
     }
+
+-- An entry takes another place, whether it is in use or not.
+pub filter-placed : {cache filter : List ℕ} {used : ℕ} → Filter cache used filter → (i place : ℕ) → Filter (placed i place cache) used filter
+filter-placed {cache} f i place =
+    filter-ranks-kept f (length-sets cache (i * entry-words + 1) (place ∷ 1 ∷ []))
+    (λ j. getD-sets-outside cache (i * entry-words + 1) (place ∷ 1 ∷ []) (j * entry-words) none (λ k m e. omega arith))
 
 -- As the leaves leave them.
 pub filter-gains : {cache filter cache′ filter′ : List ℕ} {used used′ b : ℕ} → Filter cache used filter → (l place : ℕ)

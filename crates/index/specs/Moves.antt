@@ -77,6 +77,10 @@ none-wait-in long = record { long = long; few = omega arith; of-pages = λ i h. 
 -- ---- the mappings of one translation page
 
 module _ (g : Geometry) (t : ℕ) where
+  pub none-of-page : of-page g t [] ≡ []
+  unfolding of-page
+  none-of-page = refl
+
   pub of-page-++ : (v w : List Mapping) → of-page g t (v ++ w) ≡ of-page g t v ++ of-page g t w
   unfolding of-page
   of-page-++ [] w = refl

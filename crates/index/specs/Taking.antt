@@ -6,53 +6,17 @@ use mathlib.Core.Bool.{cond}
 use mathlib.Core.List.{List, [], _∷_, _++_}
 use native.Mathlib.Omega.{arith}
 use lib.Dec.{ltb}
-use lib.ListN.{length, getD, set, length-append, length-set}
-use lib.Seq.{sets}
+use lib.ListN.{length, getD, set, length-append}
 use borrow.Author.Tests.{lt-ltb, le-ltb}
 use Rattle.scope.specs.Geometry.{most-pages-in-block, Geometry, pages}
-use Rattle.scope.specs.Lent.{Mapping, words-of, translation-page, translation-word}
-use Rattle.scope.specs.Steps.{of-page, set-words}
+use Rattle.scope.specs.Lent.{Mapping, translation-page, translation-word}
+use Rattle.scope.specs.Steps.{of-page}
 use Rattle.flash.specs.Cases.{below?}
-use Rattle.flash.specs.Lengths.{length-words-of}
-use Rattle.words.specs.Runs.{sets-own}
-use Rattle.promises.specs.Stored.{length-set-words}
-use Rattle.steps.specs.Lies.{Chip-lent, words-lie}
-use Rattle.steps.specs.Chip.{one-word-set}
+use Rattle.steps.specs.Lies.{Chip-lent}
 use Rattle.copying.specs.Moves.{move-words, move-at, first-moves, no-moves, one-more}
 use Rattle.index.specs.Moves.{Waits-in, waits-too, one-ahead, wait-more, still-waits-in, none-wait-in}
-use Rattle.index.specs.Moves.{of-page-++, of-page-more, of-page-other}
-
--- ---- the words of a page set
-
--- The words of page q are those that it had, with what waits for translation page t set.
-pub record Words-set (g : Geometry) (q t : ℕ) (chip : List ℕ) (w : List Mapping) (chip′ : List ℕ) : Type 0 where
-  pub words : chip′ ≡ sets chip (q * g .W) (set-words g (of-page g t w) (words-of g q chip))
-  pub as-long : length chip′ ≡ length chip
-
-module _ {g : Geometry} {q t : ℕ} {chip : List ℕ} (lent : Chip-lent g chip) (on-chip : q < pages g) where
-  none-set : Words-set g q t chip [] chip
-  unfolding of-page set-words
-  none-set = record { words = sym (sets-own chip (q * g .W) (g .W) (words-lie lent q on-chip .words)); as-long = refl }
-
-  module _ {chip₁ chip₂ : List ℕ} (w : List Mapping) (x : Mapping) (before : Words-set g q t chip w chip₁) where
-    one-set : translation-page g (x .logical) ≡ t
-        → chip₂ ≡ set chip₁ (q * g .W + translation-word g (x .logical)) (x .physical) → Words-set g q t chip (w ++ x ∷ []) chip₂
-    one-set of-t stored =
-        record {
-          words = one-word-set g q (of-page g t w) x chip (words-of g q chip) (lent .bounded .W-from) long (before .words) stored
-              ∙ ap (λ ms. sets chip (q * g .W) (set-words g ms (words-of g q chip))) (sym (of-page-more g t w x of-t));
-          as-long = ap length stored ∙ length-set chip₁ _ (x .physical) ∙ before .as-long;
-        }
-      where
-        long : length (set-words g (of-page g t w) (words-of g q chip)) ≡ g .W
-        long = length-set-words g (of-page g t w) (words-of g q chip) ∙ length-words-of g q chip on-chip (lent .chip-fits)
-
-    none-more-set : translation-page g (x .logical) ≢ t → chip₂ ≡ chip₁ → Words-set g q t chip (w ++ x ∷ []) chip₂
-    none-more-set other same =
-        record {
-          words = same ∙ before .words ∙ ap (λ ms. sets chip (q * g .W) (set-words g ms (words-of g q chip))) (sym (of-page-other g t w x other));
-          as-long = ap length same ∙ before .as-long;
-        }
+use Rattle.index.specs.Moves.{none-of-page, of-page-++, of-page-more, of-page-other}
+use Rattle.index.specs.Words.{Words-set, none-set, one-set}
 
 -- ---- the lowest translation page
 
@@ -174,7 +138,7 @@ pub record Taken-upto (g : Geometry) (q t m n i : ℕ) (words₀ chip₀ : List 
   pub upto : i ≤ n
   pub most : k ≤ i
   pub ahead : (j : ℕ) → i * move-words ≤ j → getD words j 0 ≡ getD words₀ j 0
-  pub is-set : Words-set g q t chip₀ (first-moves i words₀) chip
+  pub is-set : Words-set g q chip₀ (of-page g t (first-moves i words₀)) chip
   pub left : Left-after g t m i words₀ k lowest words
 
 module _ {g : Geometry} {q t m n : ℕ} {words₀ chip₀ : List ℕ} (lent : Chip-lent g chip₀) (on-chip : q < pages g)
@@ -185,7 +149,7 @@ module _ {g : Geometry} {q t m n : ℕ} {words₀ chip₀ : List ℕ} (lent : Ch
         upto = omega arith;
         most = omega arith;
         ahead = λ j h. refl;
-        is-set = rw (no-moves words₀) (none-set lent on-chip);
+        is-set = rw (no-moves words₀, none-of-page g t) (none-set lent on-chip);
         left = record {
           waits = none-wait-in (waits .long);
           rest = rw (no-moves words₀) (none-rest g t);
@@ -213,7 +177,7 @@ module _ {g : Geometry} {q t m n : ℕ} {words₀ chip₀ : List ℕ} (lent : Ch
             upto = omega arith;
             most = omega (arith, before .most);
             ahead = λ j h. before .ahead j (omega arith);
-            is-set = rw is-x (one-set lent on-chip (first-moves i words₀) x (before .is-set) (out .of-t) (out .stored));
+            is-set = rw (is-x, of-page-more g t (first-moves i words₀) x (out .of-t)) (one-set lent on-chip x (before .is-set) (out .stored));
             left = record {
               waits = before .left .waits;
               rest = rw is-x (one-gone (before .left .rest) x (out .of-t));
@@ -232,7 +196,7 @@ module _ {g : Geometry} {q t m n : ℕ} {words₀ chip₀ : List ℕ} (lent : Ch
             upto = omega arith;
             most = omega (arith, before .most);
             ahead = λ j h. one-ahead words k (x .logical) (x .physical) p .behind j (omega (arith, before .most)) ∙ before .ahead j (omega arith);
-            is-set = rw is-x (none-more-set lent on-chip (first-moves i words₀) x (before .is-set) (stay .other) (stay .same-chip));
+            is-set = rw (is-x, of-page-other g t (first-moves i words₀) x (stay .other), stay .same-chip) (before .is-set);
             left = record {
               waits = still-waits-in (before .left .waits) few (x .logical) (x .physical);
               rest = rw (is-x, is-more) (one-kept (before .left .rest) x (stay .other));

@@ -2,14 +2,13 @@
 -- marked and itself named. What each asks for, and that together they do it.
 use Prim.Native.Nat.{ℕ, suc, _+_, _*_, _-_, _≤_, _<_}
 use mathlib.Core.Path.{_≡_, refl, sym, ap, subst, _∙_}
-use mathlib.Core.Logic.{inl}
 use mathlib.Core.List.{List, [], _∷_, _++_, append-assoc}
 use native.Mathlib.Omega.{arith}
 use lib.ListN.{length, set, take, drop}
 use lib.Seq.{sets, sets-eq, set-set, length-sets, length-take-le, take-at, drop-at}
 use Rattle.scope.specs.Geometry.{Geometry, M, pages}
 use Rattle.scope.specs.Regions.{Translation}
-use Rattle.scope.specs.Lent.{none, Entry, Place, State, Mapping, with-flash, with-directory, words-of, named, translation-page, translation-word}
+use Rattle.scope.specs.Lent.{Entry, Place, State, Mapping, with-flash, with-directory, words-of, named}
 use Rattle.scope.specs.Sound.{Names}
 use Rattle.scope.specs.Room.{make-room}
 use Rattle.scope.specs.Steps.{set-words, directory-names-it, directory-follows, update}
@@ -17,7 +16,6 @@ use Rattle.flash.specs.Places.{page-on-chip}
 use Rattle.flash.specs.Lengths.{Lengths, blank}
 use Rattle.region.specs.Holds.{Region-holds, Holds}
 use Rattle.region.specs.DirectoryFollows.{in-directory, translation-room-law}
-use Rattle.promises.specs.Index.{page-below}
 use Rattle.promises.specs.Stored.{length-set-words}
 use Rattle.promises.specs.Update.{writing, update-bound}
 use Rattle.lent.specs.declared.Work.{Work}
@@ -28,9 +26,9 @@ use Rattle.lent.specs.Shapes.{Does-directory, Room-to-count, room-after, less-r
 use Rattle.words.specs.Runs.{set-before}
 use Rattle.steps.specs.Lies.{Spare-lent, words-lie, next-page, Has-next, next-same, next-on-chip}
 use Rattle.steps.specs.Chip.{marked, Claimed, program-does, mark-old-does}
-use Rattle.steps.specs.Chip.{begun-words, Begun, begun-does, length-begun, room-after-begun, no-word-set, one-word-set}
+use Rattle.steps.specs.Chip.{begun-words, Begun, begun-does, length-begun, room-after-begun}
 use Rattle.index.specs.Index.{Index, with-pages, with-chip, with-names, with-index, Does-index, index-state}
-use Rattle.index.specs.Index.{Index-lent, lent-with-chip, chip-of, spare-of, index-lengths, lengths-lent, Index-ready, Room-ready}
+use Rattle.index.specs.Index.{Index-lent, lent-with-chip, chip-of, spare-of, index-lengths, lengths-lent, Room-ready}
 
 -- What an update of translation page t asks for.
 pub record Page-ready (g : Geometry) (x : Index) (w : Work) (t : ℕ) : Type 0 where
@@ -39,16 +37,6 @@ pub record Page-ready (g : Geometry) (x : Index) (w : Work) (t : ℕ) : Type 0 w
       (in-directory (x .directory))
   pub below : t < M g
   pub counting : Room-to-count (update-bound g) (w .counts)
-
--- One mapping's page.
-pub page-ready : {g : Geometry} {x : Index} {w : Work} (m : Mapping) → Index-ready g x w (m ∷ []) → Page-ready g x w (translation-page g (m .logical))
-page-ready m ready =
-    record {
-      lent = ready .lent;
-      holds = ready .index .pages;
-      below = page-below (ready .lent .accepted) (m .logical) (ready .below-L (m .logical) (inl refl));
-      counting = less-room (omega arith) (ready .counting);
-    }
 
 pub room-ready : {g : Geometry} {x : Index} {w : Work} {t : ℕ} → Page-ready g x w t → Room-ready g x w
 room-ready ready = record { lent = ready .lent; holds = ready .holds; counting = less-room (omega arith) (ready .counting) }
@@ -159,15 +147,7 @@ module _ {g : Geometry} {x x′ : Index} {w w′ : Work} {t q : ℕ} (ready : Pa
       b .begins .stored
       ∙ ap (λ (k : ℕ). sets (b .chip₁) (k * g .W) words) (ap (λ r. next-page g Translation (small r)) (sym (b .begins .kept)) ∙ sym is-next)
 
-  -- One word, and all those of a list of mappings.
-  pub one-word : {chip″ : List ℕ} (m : Mapping) → chip″ ≡ set (x′ .chip) (q * g .W + translation-word g (m .logical)) (m .physical)
-      → chip″ ≡ sets (b .chip₁) (next-page g Translation (small (w′ .rec)) * g .W) (set-words g (m ∷ []) words)
-  one-word m e =
-      let none = no-word-set g words in
-      one-word-set g q [] m (b .chip₁) words (ready .lent .accepted .W-from) (ap length none ∙ long)
-      (stored ∙ ap (sets (b .chip₁) (q * g .W)) (sym none)) e
-      ∙ ap (λ (k : ℕ). sets (b .chip₁) (k * g .W) (set-words g (m ∷ []) words)) is-next
-
+  -- All words of a list of mappings.
   pub all-words : {chip″ : List ℕ} (ms : List Mapping) → chip″ ≡ sets (x′ .chip) (q * g .W) (set-words g ms (words-of g q (x′ .chip)))
       → chip″ ≡ sets (b .chip₁) (next-page g Translation (small (w′ .rec)) * g .W) (set-words g ms words)
   all-words ms e =

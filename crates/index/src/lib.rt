@@ -1,4 +1,5 @@
 // The index in code: update of a translation page, room in the translation region, what waits settled. Each does its definition.
+use changed::set_changed;
 use copying::copies::MOVES_WORDS;
 use lent::Geometry;
 use lent::Region;
@@ -6,48 +7,54 @@ use lent::Work;
 use page::begin;
 use page::finish;
 use steps::chip::next_page;
-use steps::chip::set_word;
 use touched::Left;
 use touched::lowest;
 use touched::take_words;
-ghost use mathlib.Core.List.{[], _∷_};
-ghost use Rattle.scope.specs.Lent.{translation-page};
+ghost use mathlib.Core.Path.{_≡_};
+ghost use Prim.Native.Nat.{_*_, _≤_};
+ghost use lib.ListN.{length};
+ghost use Rattle.scope.specs.Lent.{entry-words};
+ghost use Rattle.scope.specs.Cache.{changed-of, unchanged-of};
 ghost use Rattle.scope.specs.Steps.{of-page, update, update-all};
 ghost use Rattle.lent.specs.Model.{geometry};
 ghost use Rattle.words.specs.Census.{Census};
 ghost use Rattle.copying.specs.Moves.{first-moves};
 ghost use Rattle.index.specs.Moves.{Waits-in};
 ghost use Rattle.index.specs.Index.{index, Does-index, Index-ready};
+ghost use Rattle.index.specs.Changed.{Of-pages};
 ghost use Rattle.index.specs.Taking.{Left-after};
 ghost use Rattle.index.specs.Writing.{Page-ready};
 
+pub mod changed;
 pub mod page;
 pub mod room;
 pub mod touched;
 
-// The translation page of logical page l is updated with that one mapping.
-pub fn update_one(
+// Translation page t is updated with the changed entries of it, which become unchanged.
+pub fn update_changed(
     work: Work,
     g: Geometry,
-    l: u32,
-    place: u32,
+    t: u32,
     chip: &mut [u32],
     spare: &mut [u32],
     census: &mut [u32],
     directory: &mut [u32],
+    cache: &mut [u32],
 ) -> Work
-    requires { ⌜ Index-ready (geometry g) (index chip spare directory) work (record { logical = l; physical = place } ∷ []) ⌝ }
+    requires { ⌜ Page-ready (geometry g) (index chip spare directory) work t ⌝ }
+    requires { ⌜ Of-pages (geometry g) t × (work .rec .used * entry-words ≤ length (now cache)) ⌝ }
     requires { ⌜ Census (geometry g) (now spare) (now census) ⌝ }
-    ensures { λ r. ⌜ Does-index (update (geometry g) (translation-page (geometry g) l) (record { logical = l; physical = place } ∷ []))
+    ensures { λ r. ⌜ Does-index (update (geometry g) t (changed-of (geometry g) t (work .rec .used) (now (cache .entry))))
         (index (chip .entry) (spare .entry) (directory .entry)) work tt
         (index (chip .exit) (spare .exit) (directory .exit)) r ⌝ }
     ensures { λ _. ⌜ Census (geometry g) (now (spare .exit)) (now (census .exit)) ⌝ }
+    ensures { λ _. ⌜ now (cache .exit) ≡ unchanged-of (geometry g) t (work .rec .used) (now (cache .entry)) ⌝ }
 {
-    let t = l / g.w;
     let begun = begin(work, g, t, chip, spare, census, directory);
     let rec = begun.rec;
     let q = next_page(rec, g, Region::Translation);
-    set_word(g, q, l, place, chip);
+    let used = work.rec.used as usize;
+    set_changed(g, q, t, used, cache, chip);
     finish(begun, g, t, spare, census, directory)
 }
 

@@ -75,6 +75,10 @@ module _ {g : Geometry} (s : State) (len : Lengths g s) (sound : Sound g s) (i :
       let c = changed-of-waits g t (s .cache) used l waits in
       (subst (λ k. k < g .L) (c .is-l) (sound .rule-5 .below-L (c .rank) (c .before)), c .of-t)
 
+  pub changed-updated : Accepted g → Updated g t set (update-bound g) s (update g t set s)
+  changed-updated ok =
+      update-law ok t set s (index-of sound) (page-below ok (logical-at i (s .cache)) (sound .rule-5 .below-L i in-use)) of-t len
+
   holds : Holds-in g s (cached g s)
   holds = cache-holds g s len (cache-of sound)
 
@@ -128,9 +132,7 @@ module _ {g : Geometry} (s : State) (len : Lengths g s) (sound : Sound g s) (i :
   unfolding write-back look give _>>=_
   can-go ok =
       on (is-changed i (s .cache))
-      (λ e. rw e (
-      updated-can-go (update g t set s)
-      (update-law ok t set s (index-of sound) (page-below ok (logical-at i (s .cache)) (sound .rule-5 .below-L i in-use)) of-t len)))
+      (λ e. rw e (updated-can-go (update g t set s) (changed-updated ok)))
       (λ e. rw e (record { kept = kept-none tt sound len; used = refl; ranks = λ j. refl; missing = λ k q. q; unchanged = e }))
 
   -- The last entry goes.

@@ -4,9 +4,10 @@ use Prim.Native.Nat.{ℕ, _+_, _<_}
 use mathlib.Core.Path.{_≡_, sym, ap, subst, subst₂}
 use mathlib.Core.List.{List}
 use native.Mathlib.Omega.{arith}
+use lib.ListN.{length}
 use Rattle.scope.specs.Geometry.{Geometry}
 use Rattle.scope.specs.Regions.{Data}
-use Rattle.scope.specs.Lent.{Entry, Place, Nowhere, State}
+use Rattle.scope.specs.Lent.{Entry, Place, Nowhere, State, logical-at}
 use Rattle.scope.specs.Sound.{rank-of}
 use Rattle.scope.specs.Operations.{Counts, Erase, apply, give, look, perform, set-cache, set-small, _>>=_}
 use Rattle.scope.specs.Room.{read-page, program-next}
@@ -19,7 +20,7 @@ use Rattle.lent.specs.Does.{Does}
 use Rattle.lent.specs.Shapes.{Does-flash, Does-by-chip, Does-cache}
 use Rattle.words.specs.Filter.{Filter}
 use Rattle.entries.specs.Entries.{Different, different-placed}
-use Rattle.entries.specs.Filter.{filter-moved, filter-forgotten, filter-placed}
+use Rattle.entries.specs.Filter.{filter-moved, filter-forgotten, filter-ranks-kept, filter-placed}
 
 -- A page that was found is cached.
 pub found-in-use : (g : Geometry) (cache : List ℕ) (used l : ℕ) {i : ℕ} → rank-of g cache used l ≡ i → i < g .C → i < used
@@ -37,6 +38,12 @@ forgotten-filter {cache} {cache′} {w} {w′} i last does filter f =
     let after = does some-state .after in
     subst₂ (λ (x : List ℕ) (n : ℕ). Filter x n filter) (ap (λ (s : State). s .cache) after)
     (omega (arith, ap (λ (s : State). s .small .used) after)) (filter-forgotten f i (omega arith))
+
+-- The write-back before that changes no entry's page, and as many are in use.
+pub written-filter : {cache cache′ : List ℕ} {used used′ : ℕ} → length cache′ ≡ length cache → used′ ≡ used
+    → ((i : ℕ) → logical-at i cache′ ≡ logical-at i cache) → Keeps-filters cache used cache′ used′
+written-filter {cache′ = cache′} long same ranks filter f =
+    subst (λ (n : ℕ). Filter cache′ n filter) (sym same) (filter-ranks-kept f long ranks)
 
 -- As many are in use.
 pub filter-still : {cache filter : List ℕ} {n m : ℕ} → m ≡ n → Filter cache n filter → Filter cache m filter

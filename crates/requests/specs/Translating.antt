@@ -1,33 +1,33 @@
 -- What the parts of translate ask for, each from what holds at its place: an entry written back, an entry fetched.
 use Prim.Native.Nat.{ℕ, _-_, _≤_, _<_}
 use mathlib.Core.Path.{_≡_, refl, sym, ap, subst, _∙_}
-use mathlib.Core.Logic.{⊎-elim}
 use mathlib.Core.Bool.{Bool, cond}
 use native.Mathlib.Omega.{arith}
-use mathlib.Core.List.{List, [], _∷_}
+use mathlib.Core.List.{List}
 use lib.ListN.{length}
 use borrow.Author.Tests.{lt-ltb, le-ltb}
 use Rattle.scope.specs.Geometry.{Geometry, Accepted, pages}
 use Rattle.scope.specs.Regions.{Translation}
-use Rattle.scope.specs.Lent.{Entry, Place, Nowhere, State, with-flash, with-directory, with-cache, chip-size, directory-size, cache-size, named, logical-at, physical-at, translation-page}
+use Rattle.scope.specs.Lent.{Entry, Place, Nowhere, State, with-flash, with-directory, with-cache, chip-size, directory-size, cache-size, named, logical-at, translation-page}
 use Rattle.scope.specs.Sound.{rank-of, Names}
 use Rattle.scope.specs.Operations.{Counts, Step, apply, give, look, nothing, perform, _>>=_}
 use Rattle.scope.specs.Room.{read-page}
-use Rattle.scope.specs.Cache.{dropped, touch, enter, forget, is-changed, written-back}
+use Rattle.scope.specs.Cache.{dropped, touch, enter, forget, is-changed, changed-of, unchanged-of, become-unchanged}
 use Rattle.scope.specs.Steps.{update, write-back, drop-entry, drop-if-full, word-for, fetch, translate}
 use Rattle.flash.specs.Places.{page-on-chip}
 use Rattle.flash.specs.Lengths.{Lengths, blank}
 use Rattle.promises.specs.Index.{page-below}
 use Rattle.promises.specs.Parts.{Index-fits, index-of}
 use Rattle.promises.specs.Update.{update-bound}
-use Rattle.promises.specs.Translate.{translate-bound, can-go, dropped-law}
+use Rattle.promises.specs.Translate.{translate-bound, changed-updated, Can-go, can-go, dropped-law}
 use Rattle.lent.specs.declared.Counts.{Counts as Counted}
 use Rattle.lent.specs.declared.Work.{Work}
 use Rattle.lent.specs.Model.{Lists, together, with-rec, counts}
 use Rattle.lent.specs.Does.{Does}
-use Rattle.lent.specs.DoesLaws.{does-give, does-look, does-look-at, does-bind, does-cond-true, does-cond-false}
+use Rattle.lent.specs.DoesLaws.{does-ends, does-give, does-look, does-look-at, does-bind, does-cond-true, does-cond-false, does-set-cache}
 use Rattle.lent.specs.Ready.{Does-all, Ready, Ready-for, countable-after}
-use Rattle.index.specs.Index.{index-in, lengths-lent, Index-ready}
+use Rattle.index.specs.Index.{index-in, lengths-lent}
+use Rattle.index.specs.Writing.{Page-ready}
 use Rattle.lent.specs.Shapes.{Does-by-chip, Room-to-count, less-room}
 
 -- An entry for l may be fetched: there is room for it, and the translation page that is to be read lies on the chip.
@@ -58,13 +58,6 @@ named-on-chip {g} ok s index l below q e =
 -- ---- the parts put together as the definitions put them
 
 module _ (g : Geometry) {s s₁ : State} {c c₁ : Counts} where
-  pub write-back-does : (i : ℕ) {l place : ℕ} → logical-at i (s .cache) ≡ l → physical-at i (s .cache) ≡ place
-      → Does (update g (translation-page g l) (record { logical = l; physical = place } ∷ [])) s c tt s₁ c₁
-      → Does (write-back g i) s c tt s₁ c₁
-  unfolding write-back written-back
-  write-back-does i is-l is-place updates =
-      does-bind _ (does-look-at _ is-l) (does-bind _ (does-look-at _ (rw (is-l, is-place) refl)) updates)
-
   pub drop-last-does : g .C ≤ s .small .used → Does (drop-entry g) s c tt s₁ c₁ → Does (drop-if-full g) s c tt s₁ c₁
   unfolding drop-if-full
   drop-last-does h drops = does-bind _ (does-look _) (does-cond-false _ _ _ (le-ltb (s .small .used) (g .C) h) drops)
@@ -111,26 +104,48 @@ read-keeps-used g l page {chip} {w} does =
 
 -- ---- what is asked for at each place
 
--- One mapping may be written back.
-pub write-back-ready : {g : Geometry} {x : Lists} {w : Work} (l place : ℕ)
-    → Ready g (together x (w .rec)) (update-bound g) (w .counts) → l < g .L
-    → Index-ready g (index-in x) w (record { logical = l; physical = place } ∷ [])
-write-back-ready {g} {x} {w} l place ready below =
+-- The translation page of a logical page may be updated.
+pub write-back-ready : {g : Geometry} {x : Lists} {w : Work} (l : ℕ)
+    → Ready g (together x (w .rec)) (update-bound g) (w .counts) → l < g .L → Page-ready g (index-in x) w (translation-page g l)
+write-back-ready {g} {x} {w} l ready below =
     record {
       lent = lengths-lent (index-in x) w (together x (w .rec)) (ready .accepted) (ready .lengths);
-      index = index-of (ready .sound);
-      below-L = λ k. ⊎-elim (λ e. rw (← e) below) (λ z. absurd z);
-      counting = less-room (omega arith) (ready .countable);
+      holds = index-of (ready .sound) .pages;
+      below = page-below (ready .accepted) l below;
+      counting = ready .countable;
     }
 
--- A write-back leaves the number of used entries.
-pub written-keeps-used : {g : Geometry} {s : State} {n : ℕ} {c : Counted} {left : Lists} {w : Work} → Ready g s n c
-    → (i : ℕ) → i < s .small .used
-    → Does (cond (is-changed i (s .cache)) (write-back g i) nothing) s (counts c) tt (together left (w .rec)) (counts (w .counts))
-    → w .rec .used ≡ s .small .used
-written-keeps-used {s = s} ready i in-use does =
-    sym (ap (λ (z : State). z .small .used) (does .after))
-    ∙ can-go s (ready .lengths) (ready .sound) i in-use (ready .accepted) .back .used
+-- The page is updated and the entries become unchanged, which are told by the number of used ones: the update leaves it.
+pub write-back-does : {g : Geometry} {s s₁ : State} {n : ℕ} {c : Counted} {c₁ : Counts} → Ready g s n c → (i : ℕ) → i < s .small .used
+    → (t : ℕ) → translation-page g (logical-at i (s .cache)) ≡ t
+    → Does (update g t (changed-of g t (s .small .used) (s .cache))) s (counts c) tt s₁ c₁
+    → {cache : List ℕ} → cache ≡ unchanged-of g t (s .small .used) (s₁ .cache) → Does (write-back g i) s (counts c) tt (with-cache cache s₁) c₁
+unfolding write-back become-unchanged
+write-back-does {g} {s} {s₁} {c = c} {c₁} ready i in-use t is-t updates unchanged =
+    does-bind _ (does-look-at _ is-t)
+    (does-bind _ (does-look _)
+    (does-bind _ updates
+    (does-ends (does-set-cache _)
+    (ap (λ (x : List ℕ). with-cache x s₁) (ap (λ (k : ℕ). unchanged-of g t k (s₁ .cache)) used ∙ sym unchanged)) refl)))
+  where
+    used : s₁ .small .used ≡ s .small .used
+    used =
+        sym (ap (λ (z : State). z .small .used)
+        (subst (λ (k : ℕ). Does (update g k (changed-of g k (s .small .used) (s .cache))) s (counts c) tt s₁ c₁) (sym is-t) updates .after))
+        ∙ changed-updated s (ready .lengths) (ready .sound) i in-use (ready .accepted) .only .rest .used
+
+-- The whole write-back leaves the number of used entries and the logical page of each.
+module _ {g : Geometry} {s : State} {n : ℕ} {c : Counted} {left : Lists} {w : Work} (ready : Ready g s n c)
+    (i : ℕ) (in-use : i < s .small .used)
+    (does : Does (cond (is-changed i (s .cache)) (write-back g i) nothing) s (counts c) tt (together left (w .rec)) (counts (w .counts))) where
+  law : Can-go g i s (cond (is-changed i (s .cache)) (write-back g i) nothing s)
+  law = can-go s (ready .lengths) (ready .sound) i in-use (ready .accepted)
+
+  pub written-keeps-used : w .rec .used ≡ s .small .used
+  written-keeps-used = sym (ap (λ (z : State). z .small .used) (does .after)) ∙ law .used
+
+  pub written-keeps-ranks : (j : ℕ) → logical-at j (left .cache) ≡ logical-at j (s .cache)
+  written-keeps-ranks j = sym (ap (λ (z : State). logical-at j (z .cache)) (does .after)) ∙ law .ranks j
 
 -- An entry may be fetched once one is free.
 pub fetch-ready : {g : Geometry} (l : ℕ) {s : State} {c : Counted} {left : Lists} {w : Work} → Ready-for l g s (translate-bound g) c

@@ -3,10 +3,9 @@ use entries::enter;
 use entries::forget;
 use entries::is_changed;
 use entries::logical;
-use entries::physical;
 use entries::rank_of;
 use entries::touch;
-use index::update_one;
+use index::update_changed;
 use lent::FILTER_WORDS;
 use lent::Geometry;
 use lent::Handed;
@@ -28,7 +27,7 @@ ghost use Rattle.lent.specs.Ready.{lent, Does-all, Ready, Ready-for};
 ghost use Rattle.requests.specs.Filtered.{Keeps-filters};
 ghost use Rattle.requests.specs.Translating.{Fetches, Does-fetch};
 
-// The entry at rank i is written back, if it is changed.
+// The entry at rank i is written back, if it is changed, with all changed ones of its translation page.
 fn write_back_if_changed(
     work: Work,
     g: Geometry,
@@ -37,7 +36,7 @@ fn write_back_if_changed(
     spare: &mut [u32],
     census: &mut [u32],
     directory: &mut [u32],
-    cache: &[u32],
+    cache: &mut [u32],
 ) -> Work
     requires { ⌜ Ready (geometry g) (lent chip spare directory cache work) (update-bound (geometry g)) (work .counts)
         × (i < work .rec .used) ⌝ }
@@ -48,9 +47,8 @@ fn write_back_if_changed(
     ensures { λ _. ⌜ Census (geometry g) (now (spare .exit)) (now (census .exit)) ⌝ }
 {
     if is_changed(i, cache) {
-        let l = logical(i, cache);
-        let place = physical(i, cache);
-        return update_one(work, g, l, place, chip, spare, census, directory);
+        let t = logical(i, cache) / g.w;
+        return update_changed(work, g, t, chip, spare, census, directory, cache);
     }
     work
 }

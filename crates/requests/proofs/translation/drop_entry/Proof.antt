@@ -1,12 +1,13 @@
--- `requests::translation::drop_entry` meets its contract: the write-back leaves the cache and the number of used entries as they were.
+-- `requests::translation::drop_entry` meets its contract: the write-back leaves the number of used entries and the logical page of each.
 use Prim.Native.Nat.{_-_}
-use mathlib.Core.Path.{refl}
+use mathlib.Core.Path.{_≡_, refl}
 use native.Mathlib.Omega.{arith}
+use lib.ListN.{length}
 use borrow.Author.Needs.{needs}
 use Rattle.lent.specs.Model.{geometry}
 use Rattle.lent.specs.Ready.{left-by}
-use Rattle.requests.specs.Translating.{written-keeps-used, drop-entry-does}
-use Rattle.requests.specs.Filtered.{filter-still, forgotten-filter}
+use Rattle.requests.specs.Translating.{written-keeps-used, written-keeps-ranks, drop-entry-does}
+use Rattle.requests.specs.Filtered.{written-filter, forgotten-filter}
 use Rattle.requests.proofs.translation.drop_entry.Statement.{statement}
 use Rattle.requests.proofs.translation.drop_entry.Tie as tie
 
@@ -23,7 +24,7 @@ write-back-if-changed-requires c κs =
 
 forget-requires : tie.Need-forget-requires
 forget-requires c κs =
-    let written = c .before .before .before .before .before .before .before .before .before in
+    let written = c .before .before .before .before .before .before .before .before .before .before .before in
     let start = written .before .before .before .before .before .before .before .before .before .before .before .before in
     let (ready, some) = start .pre .0 in
     let used = written-keeps-used ready (start .args .work .rec .used - 1) (omega (arith, some)) (written .write-back-if-changed .ensures .0) in
@@ -46,14 +47,19 @@ same-length-5 c = search needs
 
 returns : tie.Need-returns
 returns c =
-    let written = c .before .before .before .before .before .before .before .before .before .before .before .before in
+    let written = c .before .before .before .before .before .before .before .before .before .before .before .before .before .before in
     let start = written .before .before .before .before .before .before .before .before .before .before .before .before in
     let (ready, some) = start .pre .0 in
-    let used = written-keeps-used ready (start .args .work .rec .used - 1) (omega (arith, some)) (written .write-back-if-changed .ensures .0) in (
-      drop-entry-does (geometry (start .args .g)) _ refl refl (written .write-back-if-changed .ensures .0) (c .before .before .forget .ensures (left-by (written .write-back-if-changed .ensures .0))),
+    let back = written .write-back-if-changed .ensures .0 in
+    let i = start .args .work .rec .used - 1 in
+    let used = written-keeps-used ready i (omega (arith, some)) back in
+    let long : length (left-by back .cache) ≡ length (start .args .cache .now) = omega (arith, written .write-back-if-changed .kept) in
+    let forgotten = c .before .before .forget .ensures in (
+      drop-entry-does (geometry (start .args .g)) _ refl refl back (forgotten (left-by back)),
       (
         written .write-back-if-changed .ensures .1,
-        λ filter f. forgotten-filter _ (omega (arith, some, used)) (c .before .before .forget .ensures) filter (filter-still used f),
+        λ filter f. forgotten-filter _ (omega (arith, some, used)) forgotten filter
+            (written-filter long used (written-keeps-ranks ready i (omega (arith, some)) back) filter f),
       ),
     )
 
