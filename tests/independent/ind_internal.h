@@ -112,6 +112,29 @@ static inline void ind_clear_cached(struct ind_summary *s, uint32_t l)
     s->cached[l / 32] &= ~(UINT32_C(1) << l % 32);
 }
 
+/* How many of the logical pages from `first` to before `end`, at most L, are cached. */
+static inline uint32_t ind_cached_among(const struct ind_summary *s, uint32_t first, uint32_t end)
+{
+    uint32_t n = 0;
+    for (uint32_t l = first; l < end; l = (l | 31) + 1) {
+        uint32_t bits = s->cached[l / 32] >> l % 32;
+        if (end - l < 32)
+            bits &= (UINT32_C(1) << (end - l)) - 1;
+        n += (uint32_t)__builtin_popcount(bits);
+    }
+    return n;
+}
+
+static inline uint32_t *ind_page_words(const struct ind_work *k, uint32_t page)
+{
+    return k->chip + (size_t)page * k->g.w;
+}
+
+static inline size_t ind_page_bytes(const struct ind_work *k)
+{
+    return k->g.w * sizeof *k->chip;
+}
+
 /* ind_geometry.c: accepts a geometry, filling *g, or refuses it. */
 bool ind_accept(struct ind_geometry *g, uint32_t p, uint32_t w, uint32_t d, uint32_t t,
                 uint32_t l, uint32_t c);

@@ -14,16 +14,6 @@ struct move {
     uint32_t t, index, place;
 };
 
-static uint32_t *page_words(const struct ind_work *k, uint32_t page)
-{
-    return k->chip + (size_t)page * k->g.w;
-}
-
-static size_t page_bytes(const struct ind_work *k)
-{
-    return k->g.w * sizeof *k->chip;
-}
-
 /* Programs the open block's next page, whose words the caller fills. */
 static uint32_t program(struct ind_work *k, int region, uint32_t owner)
 {
@@ -33,6 +23,7 @@ static uint32_t program(struct ind_work *k, int region, uint32_t owner)
     k->spare[2 * (size_t)page + 1] = owner;
     k->s.valid[open]++;
     k->programs++;
+    ind_translation_programs += region == IND_TRANSLATION;
     return page;
 }
 
@@ -46,7 +37,7 @@ static void mark_invalid(struct ind_work *k, uint32_t page)
 static void erase(struct ind_work *k, int region, uint32_t block)
 {
     size_t pages = k->g.p;
-    memset(k->chip + block * pages * k->g.w, 0xff, pages * page_bytes(k));
+    memset(k->chip + block * pages * k->g.w, 0xff, pages * ind_page_bytes(k));
     memset(k->spare + block * pages * 2, 0xff, pages * 2 * sizeof *k->spare);
     k->s.valid[block] = IND_FREE;
     k->s.free_blocks[region]++;
@@ -114,7 +105,7 @@ static void copy_valid_pages(struct ind_work *k, int region, uint32_t victim,
             continue;
         k->reads++;
         moved_to[i] = program(k, region, spare[1]);
-        memcpy(page_words(k, moved_to[i]), page_words(k, first + i), page_bytes(k));
+        memcpy(ind_page_words(k, moved_to[i]), ind_page_words(k, first + i), ind_page_bytes(k));
         mark_invalid(k, first + i);
     }
 }
@@ -133,25 +124,24 @@ static void collect_translation(struct ind_work *k)
 }
 
 /*
- * Update translation page t.  Room is made first, since that may move the page
- * the directory names.  A page that begins "with W times *none*" is one still
- * erased.
+ * Update translation page t, all but "set the words": that is left to the caller,
+ * in the words handed back.  Room is made first, since that may move the page the
+ * directory names.  A page that begins "with W times *none*" is one still erased.
  */
-static void update(struct ind_work *k, uint32_t t, const struct move *moves, uint32_t n)
+static uint32_t *update(struct ind_work *k, uint32_t t)
 {
     if (!room_without_collecting(k, IND_TRANSLATION))
         collect_translation(k);
     uint32_t former = k->directory[t];
     uint32_t page = program(k, IND_TRANSLATION, t);
-    uint32_t *words = page_words(k, page);
+    uint32_t *words = ind_page_words(k, page);
     if (former != IND_NONE) {
         k->reads++;
-        memcpy(words, page_words(k, former), page_bytes(k));
+        memcpy(words, ind_page_words(k, former), ind_page_bytes(k));
         mark_invalid(k, former);
     }
-    for (uint32_t i = 0; i < n; i++)
-        words[moves[i].index] = moves[i].place;
     k->directory[t] = page;
+    return words;
 }
 
 /*
@@ -192,10 +182,11 @@ static void follow_in_flash(struct ind_work *k, uint32_t first, const uint32_t m
             moves[at] = moves[at - 1];
         moves[at] = move;
     }
-    for (uint32_t from = 0, to; from < n; from = to) {
-        for (to = from + 1; to < n && moves[to].t == moves[from].t; to++)
-            continue;
-        update(k, moves[from].t, moves + from, to - from);
+    for (uint32_t i = 0; i < n;) {
+        uint32_t t = moves[i].t;
+        uint32_t *words = update(k, t);
+        for (; i < n && moves[i].t == t; i++)
+            words[moves[i].index] = moves[i].place;
     }
 }
 
@@ -222,15 +213,40 @@ static void put_in_front(struct ind_work *k, uint32_t rank, uint32_t l, uint32_t
 }
 
 /*
+ * P2: "all changed cached entries of the same translation page are to be set in
+ * that one update and become unchanged, ranks kept", the dropped one among them.
+ * Unchanged ones need no test: by rule 7 their words are their places already.
+ * The pass begins at the last entry and ends at the foremost of the page.
+ */
+static void set_neighbours(struct ind_work *k, uint32_t *words, uint32_t first)
+{
+    uint32_t w = k->g.w, end = first + w < k->g.l ? first + w : k->g.l;
+    uint32_t *entry = k->cache + (size_t)k->g.c * 3;
+    for (uint32_t left = ind_cached_among(&k->s, first, end); left > 0;) {
+        entry -= 3;
+        uint32_t i = entry[0] - first; /* wraps, and so is W or more, if before the page */
+        if (i >= w)
+            continue;
+        words[i] = entry[1];
+        entry[2] = 0;
+        left--;
+    }
+}
+
+/*
  * "if all C entries are used, drop the last; if it is changed, first write it
- * back: update its translation page with that one entry."
+ * back: update its translation page", and before P2 "with that one entry".
  */
 static void drop_last(struct ind_work *k)
 {
     const uint32_t *entry = k->cache + (size_t)(k->g.c - 1) * 3;
     if (entry[2] == 1) {
-        struct move move = {entry[0] / k->g.w, entry[0] % k->g.w, entry[1]};
-        update(k, move.t, &move, 1);
+        uint32_t t = entry[0] / k->g.w, first = t * k->g.w;
+        uint32_t *words = update(k, t);
+        if (ind_rule == IND_NEIGHBOURS)
+            set_neighbours(k, words, first);
+        else
+            words[entry[0] - first] = entry[1];
     }
     ind_clear_cached(&k->s, entry[0]);
     k->record[IND_USED]--;
@@ -254,7 +270,7 @@ static void translate(struct ind_work *k, uint32_t l)
     uint32_t named = k->directory[l / k->g.w];
     if (named != IND_NONE) {
         k->reads++;
-        place = page_words(k, named)[l % k->g.w];
+        place = ind_page_words(k, named)[l % k->g.w];
     }
     put_in_front(k, k->record[IND_USED]++, l, place, 0);
     ind_set_cached(&k->s, l);
@@ -267,7 +283,7 @@ uint32_t ind_step_read(struct ind_work *k, uint32_t l, uint32_t *buffer)
     if (k->cache[1] == IND_NONE)
         return IND_UNWRITTEN;
     k->reads++;
-    memcpy(buffer, page_words(k, k->cache[1]), page_bytes(k));
+    memcpy(buffer, ind_page_words(k, k->cache[1]), ind_page_bytes(k));
     return IND_DONE;
 }
 
@@ -281,7 +297,7 @@ uint32_t ind_step_write(struct ind_work *k, uint32_t l, const uint32_t *buffer)
     if (!room_without_collecting(k, IND_DATA))
         collect_data(k);
     uint32_t page = program(k, IND_DATA, l);
-    memcpy(page_words(k, page), buffer, page_bytes(k));
+    memcpy(ind_page_words(k, page), buffer, ind_page_bytes(k));
     if (k->cache[1] != IND_NONE)
         mark_invalid(k, k->cache[1]);
     k->cache[1] = page;

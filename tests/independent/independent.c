@@ -10,6 +10,9 @@
 
 enum { COUNTS_WORDS = 3 };
 
+enum ind_rule ind_rule = IND_NEIGHBOURS;
+uint64_t ind_translation_programs = 0;
+
 /* The counts are written in every answer if their slice has three words. */
 static uint32_t answer(uint32_t reply, uint32_t reads, uint32_t programs, uint32_t erases,
                        uint32_t *counts, size_t counts_n)

@@ -4,7 +4,8 @@
  *
  * Every slice is a pointer to 32-bit words followed by its count of words (bytes
  * in the settings record); an empty slice may come as NULL, 0.  Slices do not
- * overlap.  Nothing is kept between calls: the whole state is the lent memory.
+ * overlap.  The whole state is the lent memory: nothing else is kept between calls
+ * but the two variables for studies.
  *
  * The geometry is six numbers: p pages in a block, w words in a page, d data
  * blocks, t translation blocks, l logical pages, c cache entries.
@@ -93,6 +94,17 @@ int ind_first_broken_rule(uint32_t p, uint32_t w, uint32_t d, uint32_t t, uint32
                           const uint32_t *directory, size_t directory_n,
                           const uint32_t *cache, size_t cache_n,
                           const uint32_t *record, size_t record_n, uint32_t *where);
+
+/*
+ * For studies of the rules, not for a recorder.  ind_rule says by which rule a
+ * dropped entry is written back: P2's, all changed entries of its translation
+ * page together, or 01's as it stood before P2, that one entry.  And the
+ * translation pages programmed by all calls, whoever made them, which a call's
+ * counts don't tell from data pages: set it to 0 to begin anew.
+ */
+enum ind_rule { IND_NEIGHBOURS, IND_ONE_ENTRY };
+extern enum ind_rule ind_rule; /* IND_NEIGHBOURS at the start */
+extern uint64_t ind_translation_programs;
 
 /* The answers of the settings record, tried in this order but for PLACE. */
 enum {

@@ -1,8 +1,8 @@
 /*
  * The self-test: the session in full with the state it leaves, the six marked
- * cases, the random parts, then the settings record.  Usage: selftest [seed
- * [effort]]; the seed is 1 and the effort 1 by default, so that a plain run is
- * always the same.
+ * cases, drops made by hand, the random parts, then the settings record.  Usage:
+ * selftest [seed [effort]]; the seed is 1 and the effort 1 by default, so that a
+ * plain run is always the same.
  */
 #include "selftest.h"
 
@@ -114,11 +114,47 @@ static void marked_cases(struct world *x)
     REQUIRE(buffer[0] == 5 && buffer[1] == 6);
 }
 
+static const char *const met_names[MET_KINDS] = {
+    [MET_ALONG] = "neighbours along",
+    [MET_AT_NONE] = "of them at none",
+    [MET_UNCHANGED] = "left unchanged",
+    [MET_CHANGED] = "left changed",
+    [MET_ELSEWHERE] = "changed of another page",
+    [MET_COLLECTED] = "collected first",
+    [MET_FIRST] = "page didn't exist",
+    [MET_FULL_READ] = "reads at their full bound",
+    [MET_FULL_WRITE] = "writes",
+};
+
+/*
+ * What stood beside the dropped entries.  By P2 no changed neighbour is left, by
+ * the rule before it none goes along; what else was never met is a failure.
+ */
+static void require_met(const struct coverage *seen)
+{
+    for (int rule = IND_NEIGHBOURS; rule <= IND_ONE_ENTRY; rule++) {
+        printf("written back by %s:", rule == IND_NEIGHBOURS ? "P2" : "01 before P2");
+        for (int kind = 0; kind < MET_KINDS; kind++) {
+            bool never = rule == IND_NEIGHBOURS ? kind == MET_CHANGED
+                                                : kind == MET_ALONG || kind == MET_AT_NONE;
+            printf("%s %s %llu", kind > 0 ? "," : "", met_names[kind],
+                   (unsigned long long)seen->met[rule][kind]);
+            snprintf(test_context, sizeof test_context, "rule %d, met: %s", rule,
+                     met_names[kind]);
+            REQUIRE((seen->met[rule][kind] == 0) == never);
+        }
+        printf("\n");
+    }
+}
+
 static void print_coverage(const struct coverage *seen)
 {
     printf("calls %llu, runs %llu, unwritten reads %llu, erases %llu\n",
            (unsigned long long)seen->calls, (unsigned long long)seen->runs,
            (unsigned long long)seen->unwritten, (unsigned long long)seen->erases);
+    printf("programs %llu, of data pages %llu by writes, %llu by collections\n",
+           (unsigned long long)seen->programs, (unsigned long long)seen->host,
+           (unsigned long long)seen->copied);
     printf("writes at their full bound %llu, reads %llu\n",
            (unsigned long long)seen->full_bound_writes,
            (unsigned long long)seen->full_bound_reads);
@@ -134,6 +170,26 @@ static void print_coverage(const struct coverage *seen)
     printf("\n");
 }
 
+/* With a cache of one entry the rules are one. */
+static void session_by_both(struct world *x)
+{
+    for (int rule = IND_ONE_ENTRY; rule >= IND_NEIGHBOURS; rule--) {
+        ind_rule = (enum ind_rule)rule;
+        session_lines(x);
+        session_state(x);
+    }
+}
+
+static void sessions_by_both(uint64_t base, uint32_t effort, struct coverage *seen)
+{
+    ind_rule = IND_ONE_ENTRY;
+    test_sessions(base + 9, 500 * effort, 120, seen);
+    test_medium(base + 10, 100 * effort, seen);
+    ind_rule = IND_NEIGHBOURS;
+    test_sessions(base + 4, 1200 * effort, 120, seen);
+    test_medium(base + 5, 250 * effort, seen);
+}
+
 int main(int argc, char **argv)
 {
     uint64_t seed = argc > 1 ? strtoull(argv[1], NULL, 10) : 1;
@@ -141,22 +197,22 @@ int main(int argc, char **argv)
     struct coverage seen = {0};
     struct world g = world_make(2, 2, 3, 3, 3, 1, &(uint64_t){seed});
     printf("seed %llu, effort %u\n", (unsigned long long)seed, effort);
-    session_lines(&g);
-    session_state(&g);
+    session_by_both(&g);
     broken_rules(&g);
     marked_cases(&g);
     world_free(&g);
     printf("the session and the six marked cases agree\n");
+    test_neighbours();
     uint64_t base = seed << 32;
     test_geometry_edges(base + 1, 200000 * effort);
     test_lengths(base + 2, 300 * effort);
     test_arbitrary_input(base + 3, 20000 * effort);
-    test_sessions(base + 4, 1500 * effort, 120, &seen);
-    test_medium(base + 5, 300 * effort, &seen);
+    sessions_by_both(base, effort, &seen);
     test_many_pages(base + 6, 6 * effort, &seen);
     test_damage(base + 7, 1200 * effort, &seen);
     test_settings(base + 8, 16 * effort, &seen);
     print_coverage(&seen);
+    require_met(&seen);
     for (int rule = 0; rule <= 7; rule++)
         REQUIRE(seen.broken[rule] > 0);
     for (int answer = 0; answer <= 6; answer++)

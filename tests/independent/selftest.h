@@ -2,12 +2,16 @@
 #ifndef SELFTEST_H
 #define SELFTEST_H
 
+#include "independent.h"
+#include "test_naive.h"
 #include "test_world.h"
 
 /* What the random parts met, so that a run shows what it covered. */
 struct coverage {
     uint64_t calls, runs, unwritten, erases, full_bound_writes, full_bound_reads;
     uint64_t states, corruptions, broken[8]; /* broken[0]: still sound */
+    uint64_t programs, host, copied; /* all; those of data pages, by writes and collections */
+    uint64_t met[2][MET_KINDS];      /* by rule */
     uint64_t records[7], writes[2]; /* settings: by the reader's answer; written, refused */
 };
 
@@ -23,6 +27,9 @@ void random_call(struct world *x, struct oracle *o, uint64_t *seed, struct cover
 void test_sessions(uint64_t seed, uint32_t worlds, uint32_t calls, struct coverage *seen);
 void test_medium(uint64_t seed, uint32_t calls, struct coverage *seen);
 void test_many_pages(uint64_t seed, uint32_t runs, struct coverage *seen);
+
+/* test_neighbours.c */
+void test_neighbours(void);
 
 /* test_damage.c */
 void test_damage(uint64_t seed, uint32_t states, struct coverage *seen);

@@ -4,6 +4,8 @@
  */
 #include "test_naive.h"
 
+#include "independent.h"
+
 #include <string.h>
 
 enum { DATA = 0, TRANSLATION = 1 };
@@ -124,6 +126,7 @@ static void collect(struct world *x, int region, uint32_t erased, struct tally *
         read_page(x, page, page_copy, n);
         uint32_t place = program_next(x, region, page_copy, owner, n);
         mark_invalid(x, page);
+        n->copied += region == DATA;
         uint32_t *entry = region == DATA ? cached(x, owner) : NULL;
         if (region == TRANSLATION) {
             x->slice[DIRECTORY][owner] = place;
@@ -186,19 +189,61 @@ static void put_in_front(struct world *x, uint32_t l, uint32_t place, uint32_t c
     cache[2] = changed;
 }
 
-static void write_back(struct world *x, const uint32_t *entry, struct tally *n)
+/*
+ * Whether the update that writes `dropped` back sets the word of l: "all changed
+ * cached entries of the same translation page", or before P2 "that one entry".
+ */
+static bool is_set(struct world *x, uint32_t l, uint32_t dropped)
 {
-    uint32_t t = entry[0] / x->w;
+    if (ind_rule == IND_ONE_ENTRY)
+        return l == dropped;
+    return cached(x, l) != NULL && cached(x, l)[2] == 1;
+}
+
+/* What stands beside `dropped` when it is written back. */
+static void note_met(struct world *x, uint32_t dropped, bool collected, bool first,
+                     struct tally *n)
+{
+    uint32_t neighbours = 0;
+    for (uint32_t rank = 0; rank < *used(x); rank++) {
+        const uint32_t *entry = x->slice[CACHE] + 3 * rank;
+        if (entry[0] == dropped)
+            continue;
+        if (entry[0] / x->w != dropped / x->w) {
+            n->met[MET_ELSEWHERE] += entry[2];
+        } else if (entry[2] == 0) {
+            n->met[MET_UNCHANGED]++;
+        } else {
+            bool set = is_set(x, entry[0], dropped);
+            neighbours++;
+            n->met[set ? MET_ALONG : MET_CHANGED]++;
+            n->met[MET_AT_NONE] += set && entry[1] == NONE;
+        }
+    }
+    n->met[MET_COLLECTED] += neighbours > 0 && collected;
+    n->met[MET_FIRST] += neighbours > 0 && first;
+}
+
+/* Word after word of the page is set, and then entry after entry "become unchanged". */
+static void write_back(struct world *x, uint32_t dropped, struct tally *n)
+{
+    uint32_t t = dropped / x->w, erases = n->erases;
     uint32_t page[512];
     make_room(x, TRANSLATION, n);
     uint32_t former = x->slice[DIRECTORY][t];
     memset(page, 0xff, sizeof page);
     if (former != NONE)
         read_page(x, former, page, n);
-    page[entry[0] % x->w] = entry[1];
+    for (uint32_t i = 0; i < x->w; i++)
+        if (is_set(x, t * x->w + i, dropped))
+            page[i] = cached(x, t * x->w + i)[1];
     x->slice[DIRECTORY][t] = program_next(x, TRANSLATION, page, t, n);
     if (former != NONE)
         mark_invalid(x, former);
+    note_met(x, dropped, n->erases > erases, former == NONE, n);
+    for (uint32_t i = 0; i < x->w; i++)
+        if (is_set(x, t * x->w + i, dropped))
+            cached(x, t * x->w + i)[2] = 0;
 }
 
 static void translate(struct world *x, uint32_t l, struct tally *n)
@@ -214,7 +259,7 @@ static void translate(struct world *x, uint32_t l, struct tally *n)
     if (*used(x) == x->c) {
         uint32_t *last = x->slice[CACHE] + 3 * (x->c - 1);
         if (last[2] == 1)
-            write_back(x, last, n);
+            write_back(x, last[0], n);
         take_out(x, x->c - 1);
     }
     uint32_t place = NONE;
@@ -240,6 +285,7 @@ uint32_t naive_write(struct world *x, uint32_t l, const uint32_t *buffer, struct
     translate(x, l, n);
     make_room(x, DATA, n);
     uint32_t page = program_next(x, DATA, buffer, l, n);
+    n->host++;
     uint32_t *entry = cached(x, l);
     if (entry[1] != NONE)
         mark_invalid(x, entry[1]);

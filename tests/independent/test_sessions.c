@@ -45,7 +45,29 @@ static void check_bound(const struct world *x, bool write, const struct tally *n
         seen->full_bound_writes++;
     if (operations == bound && !write)
         seen->full_bound_reads++;
+    if (operations == bound && n->met[MET_ALONG] + n->met[MET_CHANGED] > 0)
+        seen->met[ind_rule][write ? MET_FULL_WRITE : MET_FULL_READ]++;
     seen->erases += n->erases;
+}
+
+/* Adds one request's tally to its call's and to what was met. */
+static void add_tally(struct tally *sum, const struct tally *n, struct coverage *seen)
+{
+    sum->reads += n->reads;
+    sum->programs += n->programs;
+    sum->erases += n->erases;
+    seen->host += n->host;
+    seen->copied += n->copied;
+    for (int kind = 0; kind < MET_KINDS; kind++)
+        seen->met[ind_rule][kind] += n->met[kind];
+}
+
+/* The other rule, if the cache has one entry: it must make no difference then. */
+static enum ind_rule rule_of_twin(const struct world *x)
+{
+    if (x->c > 1)
+        return ind_rule;
+    return ind_rule == IND_NEIGHBOURS ? IND_ONE_ENTRY : IND_NEIGHBOURS;
 }
 
 /* The literal steps of one request on the twin, with the oracle's view of it. */
@@ -53,8 +75,10 @@ static uint32_t serve_twin(struct world *twin, struct oracle *o, bool write, uin
                            uint32_t *words, struct tally *sum, struct coverage *seen)
 {
     size_t bytes = twin->w * sizeof(uint32_t);
-    struct tally n = {0, 0, 0};
+    struct tally n = {0};
     uint32_t reply;
+    enum ind_rule rule = ind_rule;
+    ind_rule = rule_of_twin(twin);
     if (write) {
         reply = naive_write(twin, l, words, &n);
         REQUIRE(reply == IND_DONE);
@@ -67,10 +91,9 @@ static uint32_t serve_twin(struct world *twin, struct oracle *o, bool write, uin
             REQUIRE(memcmp(words, o->words + (size_t)l * twin->w, bytes) == 0);
         seen->unwritten += reply == IND_UNWRITTEN;
     }
+    ind_rule = rule;
     check_bound(twin, write, &n, seen);
-    sum->reads += n.reads;
-    sum->programs += n.programs;
-    sum->erases += n.erases;
+    add_tally(sum, &n, seen);
     return reply;
 }
 
@@ -86,7 +109,7 @@ static void single_call(struct world *x, struct world *twin, struct oracle *o, u
     uint32_t mine[512], theirs[512], counts[3] = {7, 7, 7}, reply;
     uint32_t l = random_below(seed, x->l);
     bool write = random_below(seed, 5) < 3;
-    struct tally n = {0, 0, 0};
+    struct tally n = {0};
     fill(mine, x->w, seed);
     memcpy(theirs, mine, sizeof mine);
     if (write)
@@ -96,6 +119,7 @@ static void single_call(struct world *x, struct world *twin, struct oracle *o, u
     REQUIRE(reply == serve_twin(twin, o, write, l, theirs, &n, seen));
     REQUIRE(memcmp(mine, theirs, x->w * sizeof(uint32_t)) == 0);
     REQUIRE(counts[0] == n.reads && counts[1] == n.programs && counts[2] == n.erases);
+    seen->programs += counts[1];
     seen->calls++;
 }
 
@@ -108,7 +132,7 @@ static void run_call(struct world *x, struct world *twin, struct oracle *o, uint
     uint32_t *mine = malloc((size_t)n * x->w * sizeof(uint32_t) + 1);
     uint32_t *theirs = malloc((size_t)n * x->w * sizeof(uint32_t) + 1);
     uint32_t counts[3] = {7, 7, 7};
-    struct tally sum = {0, 0, 0};
+    struct tally sum = {0};
     REQUIRE(requests != NULL && answers != NULL && mine != NULL && theirs != NULL);
     fill(mine, (size_t)n * x->w, seed);
     memcpy(theirs, mine, (size_t)n * x->w * sizeof(uint32_t));
@@ -131,6 +155,7 @@ static void run_call(struct world *x, struct world *twin, struct oracle *o, uint
     }
     REQUIRE(memcmp(mine, theirs, (size_t)n * x->w * sizeof(uint32_t)) == 0);
     REQUIRE(counts[0] == sum.reads && counts[1] == sum.programs && counts[2] == sum.erases);
+    seen->programs += counts[1];
     seen->runs++;
     free(requests);
     free(answers);
@@ -150,6 +175,13 @@ void random_call(struct world *x, struct oracle *o, uint64_t *seed, struct cover
     world_free(&twin);
 }
 
+/* All programs since `before` are of data pages or counted as of translation pages. */
+static void check_programs(const struct coverage *before, const struct coverage *seen)
+{
+    uint64_t data = seen->host - before->host + seen->copied - before->copied;
+    REQUIRE(seen->programs - before->programs == data + ind_translation_programs);
+}
+
 static void session(struct world *x, uint64_t *seed, uint32_t calls, struct coverage *seen)
 {
     uint32_t counts[3];
@@ -160,6 +192,8 @@ static void session(struct world *x, uint64_t *seed, uint32_t calls, struct cove
         world_random_sound(x, seed);
     }
     REQUIRE(naive_first_broken(x) == 0);
+    const struct coverage before = *seen;
+    ind_translation_programs = 0;
     struct oracle o = oracle_of(x);
     for (uint32_t i = 0; i < calls; i++) {
         random_call(x, &o, seed, seen);
@@ -169,6 +203,7 @@ static void session(struct world *x, uint64_t *seed, uint32_t calls, struct cove
         }
         REQUIRE(ind_check(GEOMETRY_OF(x), STATE_OF(x), counts, 3) == IND_DONE);
     }
+    check_programs(&before, seen);
     oracle_free(&o);
     world_free(x);
 }
@@ -189,7 +224,8 @@ void test_medium(uint64_t seed, uint32_t calls, struct coverage *seen)
 {
     static const uint32_t g[][6] = {{64, 512, 4, 3, 191, 100}, {64, 1, 4, 5, 191, 64},
                                     {16, 8, 20, 4, 300, 4096}, {64, 5, 6, 4, 319, 50},
-                                    {64, 2, 3, 3, 127, 1},     {33, 9, 3, 2, 65, 7}};
+                                    {64, 2, 3, 3, 127, 1},     {33, 9, 3, 2, 65, 7},
+                                    {16, 31, 25, 3, 380, 90},  {8, 77, 60, 4, 400, 60}};
     for (size_t i = 0; i < sizeof g / sizeof *g; i++) {
         uint64_t own = seed + i;
         struct world x =
@@ -210,12 +246,15 @@ void test_many_pages(uint64_t seed, uint32_t runs, struct coverage *seen)
     world_random_sound(&x, &own);
     struct world twin = world_copy(&x);
     struct oracle o = oracle_of(&x);
+    const struct coverage before = *seen;
+    ind_translation_programs = 0;
     for (uint32_t i = 0; i < runs; i++) {
         run_call(&x, &twin, &o, 1024, &own, seen);
         REQUIRE(world_equal(&x, &twin));
         REQUIRE(ind_first_broken_rule(GEOMETRY_OF(&x), STATE_OF(&x), NULL) == 0);
         REQUIRE(ind_check(GEOMETRY_OF(&x), STATE_OF(&x), counts, 3) == IND_DONE);
     }
+    check_programs(&before, seen);
     oracle_free(&o);
     world_free(&twin);
     world_free(&x);
