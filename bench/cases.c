@@ -1,9 +1,10 @@
 /* The chips, the cases, the states they start from, and their calls. */
 #include "cases.h"
 
+#include "draw.h"
+
 #include <stdio.h>
 #include <stdlib.h>
-#include <string.h>
 
 /*
  * The first four differ in the number of blocks alone, with entries, logical
@@ -38,37 +39,7 @@ const struct test_case cases[] = {
 };
 const size_t case_count = sizeof cases / sizeof *cases;
 
-enum { HOT_PAGES = 64, KIND_READ = 0, KIND_WRITE = 1 };
-
-/* Numbers that look random and are the same in every run of the program. */
-static uint32_t next(uint64_t *seed)
-{
-    *seed = *seed * UINT64_C(6364136223846793005) + UINT64_C(1442695040888963407);
-    return (uint32_t)(*seed >> 33);
-}
-
-static uint32_t hot_page(uint32_t i, const struct geometry *g)
-{
-    return (uint32_t)((uint64_t)(i % HOT_PAGES) * g->l / HOT_PAGES);
-}
-
-struct exchange *exchange_new(const struct geometry *g)
-{
-    struct exchange *e = malloc(sizeof *e);
-    uint32_t *data = malloc(MOST_REQUESTS * (size_t)g->w * sizeof *data);
-    if (e == NULL || data == NULL) {
-        fprintf(stderr, "bench: no memory for the requests of a run\n");
-        exit(1);
-    }
-    e->data = data;
-    return e;
-}
-
-void exchange_free(struct exchange *e)
-{
-    free(e->data);
-    free(e);
-}
+enum { HOT_PAGES = 64 };
 
 void exchange_prepare(struct exchange *e, const struct test_case *c, const struct geometry *g)
 {
@@ -76,17 +47,11 @@ void exchange_prepare(struct exchange *e, const struct test_case *c, const struc
     uint32_t kind = c->what == WRITE || c->what == RUN_WRITES ? KIND_WRITE : KIND_READ;
     for (uint32_t i = 0; i < MOST_REQUESTS; i++) {
         e->requests[2 * i] = kind;
-        e->requests[2 * i + 1] = c->hot ? hot_page(next(&seed), g) : next(&seed) % g->l;
+        e->requests[2 * i + 1] = c->hot ? draw_hot(&seed, HOT_PAGES, g->l) : draw(&seed) % g->l;
         e->answers[i] = 0;
     }
     for (size_t i = 0; i < MOST_REQUESTS * (size_t)g->w; i++)
         e->data[i] = (uint32_t)i;
-}
-
-bool exchange_equal(const struct exchange *a, const struct exchange *b, const struct geometry *g)
-{
-    return memcmp(a->answers, b->answers, sizeof a->answers) == 0 &&
-           memcmp(a->data, b->data, MOST_REQUESTS * (size_t)g->w * sizeof *a->data) == 0;
 }
 
 static void must(uint32_t reply, const char *call)
@@ -105,7 +70,7 @@ static void write_pages(struct node *n, struct exchange *e, uint32_t count, bool
         uint32_t k = 0;
         for (; k < MOST_REQUESTS && done < count; k++, done++) {
             e->requests[2 * k] = KIND_WRITE;
-            e->requests[2 * k + 1] = in_order ? done : next(&seed) % n->g.l;
+            e->requests[2 * k + 1] = in_order ? done : draw(&seed) % n->g.l;
         }
         must(node_run(THEIRS, n, e->requests, e->data, e->answers, k), "run");
     }

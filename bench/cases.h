@@ -5,7 +5,8 @@
 #ifndef BENCH_CASES_H
 #define BENCH_CASES_H
 
-#include "node.h"
+#include "calls.h"
+#include "exchange.h"
 
 struct chip {
     const char *name;
@@ -28,21 +29,10 @@ extern const size_t chip_count;
 extern const struct test_case cases[];
 extern const size_t case_count;
 
-enum { MOST_REQUESTS = 1024, SINGLE_CALLS = 16 };
-
-/* What the calls of one side take and give besides the node. */
-struct exchange {
-    uint32_t requests[2 * MOST_REQUESTS];
-    uint32_t answers[MOST_REQUESTS];
-    uint32_t *data; /* MOST_REQUESTS pages */
-};
-
-struct exchange *exchange_new(const struct geometry *g);
-void exchange_free(struct exchange *e);
+enum { SINGLE_CALLS = 16 };
 
 /* Fills the requests and the data of a case, the same at each call. */
 void exchange_prepare(struct exchange *e, const struct test_case *c, const struct geometry *g);
-bool exchange_equal(const struct exchange *a, const struct exchange *b, const struct geometry *g);
 
 /* Makes a node fresh or full; ends the program if a call is refused. */
 void case_start(struct node *n, bool full);

@@ -1,19 +1,14 @@
-/* The lent memory of a node, and the calls of either library on it. */
+/*
+ * The lent memory of a node.  Of the library's header it takes the sizes alone,
+ * so that a program links it without the archive.
+ */
 #include "node.h"
 
-#include "independent.h"
 #include "trianglefire.h"
 
 #include <stdio.h>
 #include <stdlib.h>
 #include <string.h>
-
-/* The slices, as every call takes them: a pointer and then a count of words. */
-#define GEOMETRY(n) (n)->g.p, (n)->g.w, (n)->g.d, (n)->g.t, (n)->g.l, (n)->g.c
-#define STATE(n)                                                                        \
-    (n)->chip, (n)->chip_words, (n)->spare, (n)->spare_words, (n)->directory,           \
-        (n)->directory_words, (n)->cache, (n)->cache_words, (n)->record, (size_t)RECORD_WORDS
-#define COUNTS(n) (n)->counts, (size_t)COUNTS_WORDS
 
 struct node node_new(struct geometry g)
 {
@@ -51,35 +46,6 @@ bool node_equal(const struct node *a, const struct node *b)
 {
     return memcmp(a->memory, b->memory, a->words * sizeof *a->memory) == 0 &&
            memcmp(a->counts, b->counts, sizeof a->counts) == 0;
-}
-
-uint32_t node_format(enum side s, struct node *n)
-{
-    return (s == OURS ? tf_format : ind_format)(GEOMETRY(n), STATE(n), COUNTS(n));
-}
-
-uint32_t node_check(enum side s, struct node *n)
-{
-    return (s == OURS ? tf_check : ind_check)(GEOMETRY(n), STATE(n), COUNTS(n));
-}
-
-uint32_t node_read(enum side s, struct node *n, uint32_t page, uint32_t *buffer)
-{
-    return (s == OURS ? tf_read : ind_read)(GEOMETRY(n), page, STATE(n), buffer, (size_t)n->g.w,
-                                            COUNTS(n));
-}
-
-uint32_t node_write(enum side s, struct node *n, uint32_t page, const uint32_t *buffer)
-{
-    return (s == OURS ? tf_write : ind_write)(GEOMETRY(n), page, STATE(n), buffer,
-                                              (size_t)n->g.w, COUNTS(n));
-}
-
-uint32_t node_run(enum side s, struct node *n, const uint32_t *requests, uint32_t *data,
-                  uint32_t *answers, size_t count)
-{
-    return (s == OURS ? tf_run : ind_run)(GEOMETRY(n), STATE(n), requests, 2 * count, data,
-                                          count * n->g.w, answers, count, COUNTS(n));
 }
 
 static uint32_t sweep(const uint32_t *words, size_t n)

@@ -1,12 +1,9 @@
 /*
- * A node under test: one geometry and its lent memory, and the two libraries
- * that can work on it.  Both take the same arguments in the same order, so a
- * call of one is a call of the other.
+ * A node under test: one geometry and its lent memory, and how a call takes
+ * them.  It needs neither library.
  */
 #ifndef BENCH_NODE_H
 #define BENCH_NODE_H
-
-#include "side.h"
 
 #include <stdbool.h>
 #include <stddef.h>
@@ -28,6 +25,13 @@ struct node {
     uint32_t counts[COUNTS_WORDS];
 };
 
+/* The slices, as every call takes them: a pointer and then a count of words. */
+#define NODE_GEOMETRY(n) (n)->g.p, (n)->g.w, (n)->g.d, (n)->g.t, (n)->g.l, (n)->g.c
+#define NODE_STATE(n)                                                                   \
+    (n)->chip, (n)->chip_words, (n)->spare, (n)->spare_words, (n)->directory,           \
+        (n)->directory_words, (n)->cache, (n)->cache_words, (n)->record, (size_t)RECORD_WORDS
+#define NODE_COUNTS(n) (n)->counts, (size_t)COUNTS_WORDS
+
 /* Memory for a node of this geometry, not formatted; ends the program if there is none. */
 struct node node_new(struct geometry g);
 void node_free(struct node *n);
@@ -35,14 +39,6 @@ void node_free(struct node *n);
 /* Copies the lent memory of one node to another of the same geometry. */
 void node_copy(struct node *to, const struct node *from);
 bool node_equal(const struct node *a, const struct node *b);
-
-/* The calls, by the library of a side.  Each returns the reply number. */
-uint32_t node_format(enum side s, struct node *n);
-uint32_t node_check(enum side s, struct node *n);
-uint32_t node_read(enum side s, struct node *n, uint32_t page, uint32_t *buffer);
-uint32_t node_write(enum side s, struct node *n, uint32_t page, const uint32_t *buffer);
-uint32_t node_run(enum side s, struct node *n, const uint32_t *requests, uint32_t *data,
-                  uint32_t *answers, size_t count);
 
 /* Reads every word of the lent memory once and does nothing else: what memory costs by itself. */
 uint32_t node_sweep(const struct node *n);

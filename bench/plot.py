@@ -1,6 +1,8 @@
 """A plot of cost against chip size, as SVG: both axes in powers, a line for each case and side."""
 import math
 
+from drawing import line, picture, sample, text, turned_text
+
 # The chips that differ in size alone, by the name that the benchmark gives them.
 SIZES = ["1/64", "1/16", "1/4", "largest"]
 CASES = [
@@ -30,10 +32,6 @@ class Axes:
         return HEIGHT - BOTTOM - (math.log10(nanoseconds) - low) / (high - low) * (HEIGHT - TOP - BOTTOM)
 
 
-def text(x, y, words, anchor="start", size=13, fill="#222222", extra=""):
-    return f'<text x="{x:.1f}" y="{y:.1f}" text-anchor="{anchor}" font-size="{size}" fill="{fill}"{extra}>{words}</text>'
-
-
 def power(exponent):
     """A decade of nanoseconds in words."""
     unit, base = ("ns", 0) if exponent < 3 else ("µs", 3) if exponent < 6 else ("ms", 6) if exponent < 9 else ("s", 9)
@@ -54,19 +52,7 @@ def grid(axes, chips):
         parts.append(text(x, bottom + 36, name, "middle", 12, "#666666"))
     parts.append(f'<path d="M{LEFT},{TOP} V{bottom} H{right}" fill="none" stroke="#444444"/>')
     parts.append(text((LEFT + right) / 2, HEIGHT - 10, "words of the chip (log scale)", "middle"))
-    turned = f' transform="rotate(-90 20 {(TOP + bottom) / 2:.0f})"'
-    parts.append(text(20, (TOP + bottom) / 2, "least time of a call (log scale)", "middle", extra=turned))
-    return parts
-
-
-def line(axes, points, colour, dash):
-    """One side of a case: a line through its points, dots filled where the line is whole."""
-    path = " ".join(f"{axes.x(words):.1f},{axes.y(time):.1f}" for words, time in points)
-    dashes = f' stroke-dasharray="{dash}"' if dash else ""
-    fill = "#ffffff" if dash else colour
-    parts = [f'<polyline points="{path}" fill="none" stroke="{colour}" stroke-width="2"{dashes}/>']
-    for words, time in points:
-        parts.append(f'<circle cx="{axes.x(words):.1f}" cy="{axes.y(time):.1f}" r="3.5" fill="{fill}" stroke="{colour}" stroke-width="1.5"/>')
+    parts.append(turned_text(20, (TOP + bottom) / 2, "least time of a call (log scale)"))
     return parts
 
 
@@ -81,11 +67,9 @@ def apart(places, least=17):
 
 def legend():
     parts = [text(LEFT, 24, "Cost against chip size", size=17)]
-    for x, dash, words in ((LEFT, "", "library"), (LEFT + 100, "6 4", "independent program"), (LEFT + 310, "2 3", "plain sweep of the same words")):
-        colour = SWEEP if dash == "2 3" else "#222222"
-        dashes = f' stroke-dasharray="{dash}"' if dash else ""
-        parts.append(f'<line x1="{x}" y1="40" x2="{x + 30}" y2="40" stroke="{colour}" stroke-width="2"{dashes}/>')
-        parts.append(text(x + 37, 44, words, fill=colour))
+    parts += sample(LEFT, "", "library")
+    parts += sample(LEFT + 100, "6 4", "independent program")
+    parts += sample(LEFT + 310, "2 3", "plain sweep of the same words", SWEEP)
     return parts
 
 
@@ -109,6 +93,4 @@ def svg(rows):
     labels = apart({case: axes.y(series[case, "ours"][-1][1]) + 4 for case, _, _ in CASES})
     for case, colour, label in CASES:
         parts.append(text(WIDTH - RIGHT + 14, labels[case], label, fill=colour))
-    frame = f'<svg xmlns="http://www.w3.org/2000/svg" width="{WIDTH}" height="{HEIGHT}" viewBox="0 0 {WIDTH} {HEIGHT}" font-family="Helvetica, Arial, sans-serif">'
-    background = f'<rect width="{WIDTH}" height="{HEIGHT}" fill="#ffffff"/>'
-    return "\n".join([frame, background, *parts, "</svg>"]) + "\n"
+    return picture(WIDTH, HEIGHT, parts)

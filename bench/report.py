@@ -10,17 +10,12 @@ import subprocess
 import sys
 
 import plot
+from pages import fail, table, write_between_marks
 
-BEGIN = "<!-- table: written by bench/run -->"
-END = "<!-- end of the table -->"
 LIMIT = 1.1
 # What stands for a chip in the lines of the settings record's calls, whose sizes are in bytes.
 SETTINGS = "settings"
 SIDES = ["library", "independent", "ratio", "by instructions"]
-
-
-def fail(message):
-    sys.exit(f"error: {message}")
 
 
 def times(path):
@@ -94,11 +89,6 @@ def compared(row, instructions):
     ]
 
 
-def table(head, rows):
-    lines = [head, ["---"] * len(head), *rows]
-    return ["| " + " | ".join(cells) + " |" for cells in lines]
-
-
 def on_chips(rows, instructions):
     head = ["chip", "words", "case", *SIDES, "plain sweep", "library to sweep"]
     cells = [
@@ -143,24 +133,13 @@ def summary(rows, runs):
     ]
 
 
-def write_between_marks(path, lines):
-    with open(path, encoding="utf-8") as file:
-        text = file.read()
-    if text.count(BEGIN) != 1 or text.count(END) != 1:
-        fail(f"{path} hasn't the marks '{BEGIN}' and '{END}' once each")
-    before, rest = text.split(BEGIN)
-    after = rest.split(END)[1]
-    with open(path, "w", encoding="utf-8") as file:
-        file.write(before + BEGIN + "\n" + "\n".join(lines) + "\n" + END + after)
-
-
 def report(time_files, count_folder, docs):
     rows = least([times(path) for path in time_files])
     if not rows:
         fail(f"{time_files[0]} is empty")
     instructions = counts(count_folder)
     lines = [*summary(rows, len(time_files)), *on_chips(rows, instructions), "", *on_settings(rows, instructions)]
-    write_between_marks(os.path.join(docs, "SPEED.md"), lines)
+    write_between_marks(os.path.join(docs, "SPEED.md"), "bench/run", lines)
     with open(os.path.join(docs, "speed.svg"), "w", encoding="utf-8") as file:
         file.write(plot.svg(rows))
     print("\n".join(lines))

@@ -1,0 +1,26 @@
+"""What the reports share: tables in Markdown, put into a page of docs/ between its two marks, and how a report ends in an error."""
+import sys
+
+END = "<!-- end of the table -->"
+
+
+def fail(message):
+    sys.exit(f"error: {message}")
+
+
+def table(head, rows):
+    lines = [head, ["---"] * len(head), *rows]
+    return ["| " + " | ".join(cells) + " |" for cells in lines]
+
+
+def write_between_marks(path, command, lines):
+    """Replaces what the command wrote there before."""
+    begin = f"<!-- table: written by {command} -->"
+    with open(path, encoding="utf-8") as file:
+        text = file.read()
+    if text.count(begin) != 1 or text.count(END) != 1:
+        fail(f"{path} hasn't the marks '{begin}' and '{END}' once each")
+    before, rest = text.split(begin)
+    after = rest.split(END)[1]
+    with open(path, "w", encoding="utf-8") as file:
+        file.write(before + begin + "\n" + "\n".join(lines) + "\n" + END + after)
