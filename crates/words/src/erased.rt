@@ -10,12 +10,12 @@ ghost use Rattle.scope.specs.Counting.{all};
 ghost use Rattle.scope.specs.Lent.{erased};
 ghost use Rattle.words.specs.Erased.{is-erased-word, only-erased, Erased-run};
 
-// Words that are swept at once, few enough for a block of 64 pages of one word. A caller that passes a constant for the length has the
-// sweep put into it and unrolled whole, which halves the cost of words that are near.
-const STRETCH: usize = 64;
+// Words that are swept at once. A caller that passes a constant for the length has the sweep put into it and unrolled, which halves the
+// cost of words that are near.
+const STRETCH: usize = 256;
 
 // Words of a step along a run: few, so that little is read in vain where the run ends.
-const STEP: usize = 32;
+const STEP: usize = 16;
 
 // The bits that `bits` and the n words from `at` on have in common.
 fn sweep(words: &[u32], at: usize, n: usize, bits: u32) -> u32

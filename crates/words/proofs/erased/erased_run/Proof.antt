@@ -36,7 +36,7 @@ loop-again : tie.Need-loop-again Inv-loop μ-loop
 loop-again c =
     let a = c .before .before .before .before .before .args in
     let turn = c .before .before .before .loop in
-    erased-run-more (now (a .words)) (a .at) (turn .end) 32 (c .before .sweep .result) (omega (arith, turn .inv .ends)) (turn .inv) (c .if1 .left)
+    erased-run-more (now (a .words)) (a .at) (turn .end) 16 (c .before .sweep .result) (omega (arith, turn .inv .ends)) (turn .inv) (c .if1 .left)
     (c .before .sweep .ensures)
 
 returns-2 : tie.Need-returns-2 Inv-loop μ-loop

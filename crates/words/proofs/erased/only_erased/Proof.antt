@@ -37,7 +37,7 @@ loop-again : tie.Need-loop-again Inv-loop μ-loop
 loop-again c =
     let turn = c .before .before .loop in (
       omega (arith, turn .inv .0),
-      swept-on (now (c .before .before .before .before .args .words)) (turn .i) 64 (turn .bits) (c .sweep .result) (turn .inv .1) (c .sweep .ensures),
+      swept-on (now (c .before .before .before .before .args .words)) (turn .i) 256 (turn .bits) (c .sweep .result) (turn .inv .1) (c .sweep .ensures),
     )
 
 sub-sweep : tie.Need-sub-sweep Inv-loop μ-loop
