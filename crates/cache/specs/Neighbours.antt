@@ -4,7 +4,7 @@ use native.Mathlib.Omega.{arith}
 use mathlib.Core.Path.{_≡_, refl, ap, sym, _∙_, subst}
 use mathlib.Core.Logic.{_≢_, ⊎-elim}
 use mathlib.Core.Bool.{true, false, cond}
-use mathlib.Core.List.{List, [], _∷_, _++_, append-nil}
+use mathlib.Core.List.{List, [], _∷_}
 use lib.Dec.{eqb}
 use lib.ListN.{length, getD, length-set}
 use lib.Seq.{getD-set-same, getD-set-other}
@@ -12,9 +12,9 @@ use borrow.Author.Tests.{eqb-true, eq-eqb, ne-eqb}
 use Rattle.flash.specs.Cases.{on, same?, last, and-true}
 use Rattle.flash.specs.Tests.{and-passed}
 use Rattle.scope.specs.Geometry.{Geometry}
-use Rattle.scope.specs.Lent.{none, Mapping, entry-words, logical-at, physical-at, changed-at, translation-page}
-use Rattle.scope.specs.Cache.{is-changed, is-changed-of, changed-of, unchanged-of}
-use Rattle.cache.specs.Waiting.{latest, Waits, latest-here, latest-elsewhere, waits-append}
+use Rattle.scope.specs.Lent.{none, entry-words, logical-at, physical-at, changed-at, translation-page}
+use Rattle.scope.specs.Cache.{mapping-at, is-changed, is-changed-of, changed-of, unchanged-of}
+use Rattle.cache.specs.Waiting.{latest, Waits, latest-none}
 use Rattle.cache.specs.Holds.{Found, Hit, Miss, Cache-holds}
 
 -- ---- set in one update
@@ -47,39 +47,55 @@ module _ (g : Geometry) (t : ℕ) (cache : List ℕ) where
   test-of-other i other =
       rw (ne-eqb (translation-page g (logical-at i cache)) t other) (on (is-changed i cache) (λ e. rw e refl) (λ e. rw e refl))
 
+  pub changed-more : (n : ℕ) → is-changed-of g t n cache ≡ true → changed-of g t (suc n) cache ≡ mapping-at n cache ∷ changed-of g t n cache
+  unfolding changed-of
+  changed-more n e = rw e refl
+
+  pub changed-no-more : (n : ℕ) → is-changed-of g t n cache ≡ false → changed-of g t (suc n) cache ≡ changed-of g t n cache
+  unfolding changed-of
+  changed-no-more n e = rw e refl
+
   -- Only they are set.
   pub changed-of-waits : (n l : ℕ) → Waits (changed-of g t n cache) l → Changed-at g t n l cache
   unfolding changed-of
   changed-of-waits zero l q = absurd q
   changed-of-waits (suc n) l q =
       on (is-changed-of g t n cache)
-      (λ e. ⊎-elim (λ k. later (changed-of-waits n l k)) (λ k. ⊎-elim (found-changed n l e) (λ z. absurd z) k)
-      (waits-append (changed-of g t n cache) (mapping ∷ []) l (subst (λ b. Waits (changed-of g t n cache ++ cond b (mapping ∷ []) []) l) e q)))
-      (λ e. later (changed-of-waits n l
-      (subst (λ ms. Waits ms l) (append-nil (changed-of g t n cache))
-      (subst (λ b. Waits (changed-of g t n cache ++ cond b (mapping ∷ []) []) l) e q))))
+      (λ e. ⊎-elim (found-changed n l e) (λ k. later (changed-of-waits n l k)) (subst (λ ms. Waits ms l) (changed-more n e) q))
+      (λ e. later (changed-of-waits n l (subst (λ ms. Waits ms l) (changed-no-more n e) q)))
     where
-      mapping : Mapping
-      mapping = record { logical = logical-at n cache; physical = physical-at n cache }
-
       later : Changed-at g t n l cache → Changed-at g t (suc n) l cache
       later c = record { rank = c .rank; before = omega (arith, c .before); is-l = c .is-l; changed = c .changed; of-t = c .of-t }
 
   -- And each to the place that it names, where no other entry is of its page.
+  last-set : (i place : ℕ) → is-changed-of g t i cache ≡ true
+      → ((j : ℕ) → j < i → logical-at j cache ≡ logical-at i cache → j ≡ i)
+      → latest (changed-of g t (suc i) cache) (logical-at i cache) place ≡ physical-at i cache
+  last-set i place e only =
+      let l = logical-at i cache in
+      ap (λ ms. latest ms l place) (changed-more i e)
+      ∙ ap (λ b. latest (changed-of g t i cache) l (cond b (physical-at i cache) place)) (eq-eqb l l refl)
+      ∙ latest-none (changed-of g t i cache) l (physical-at i cache) (λ w.
+      let c = changed-of-waits i l w in
+      omega (arith, c .before, only (c .rank) (c .before) (c .is-l)))
+
   pub changed-of-latest : (n i place : ℕ) → i < n → is-changed-of g t i cache ≡ true
       → ((j : ℕ) → j < n → logical-at j cache ≡ logical-at i cache → j ≡ i)
       → latest (changed-of g t n cache) (logical-at i cache) place ≡ physical-at i cache
-  unfolding changed-of
   changed-of-latest zero i place h e only = absurd (omega arith)
   changed-of-latest (suc n) i place h e only =
+      let l = logical-at i cache in
       last i n h
       (λ b.
       let before = changed-of-latest n i place b e (λ j k. only j (omega arith)) in
       on (is-changed-of g t n cache)
-      (λ q. rw q (latest-elsewhere (changed-of g t n cache) (logical-at n cache) (physical-at n cache) (logical-at i cache) place
-      (λ s. omega (arith, only n (omega arith) (sym s))) ∙ before))
-      (λ q. rw (q, append-nil (changed-of g t n cache)) before))
-      (λ p. rw (← p, e) (latest-here (changed-of g t i cache) (logical-at i cache) (physical-at i cache) place))
+      (λ q. ap (λ ms. latest ms l place) (changed-more n q)
+      ∙ ap (λ b. latest (changed-of g t n cache) l (cond b (physical-at n cache) place))
+      (ne-eqb (logical-at n cache) l (λ s. omega (arith, only n (omega arith) s)))
+      ∙ before)
+      (λ q. ap (λ ms. latest ms l place) (changed-no-more n q) ∙ before))
+      (λ p. subst (λ (k : ℕ). latest (changed-of g t (suc k) cache) l place ≡ physical-at i cache) p
+      (last-set i place e (λ j k. only j (omega arith))))
 
   -- ---- become unchanged
 
@@ -109,6 +125,15 @@ module _ (g : Geometry) (t : ℕ) (cache : List ℕ) where
 
   pub behind-stays : (n i : ℕ) → n ≤ i → changed-at i (unchanged-of g t n cache) ≡ changed-at i cache
   behind-stays n i h = word-stays n (i * entry-words + 2) (λ j k. omega arith)
+
+  -- Where none of them is changed and of the page, nothing is set and the cache is as it was.
+  pub none-changed : (n : ℕ) → ((i : ℕ) → i < n → is-changed-of g t i cache ≡ false)
+      → (changed-of g t n cache ≡ []) × (unchanged-of g t n cache ≡ cache)
+  unfolding changed-of unchanged-of
+  none-changed zero none = (refl, refl)
+  none-changed (suc n) none =
+      let before = none-changed n (λ i h. none i (omega arith)) in
+      (rw (none n (omega arith)) (before .0), rw (none n (omega arith)) (before .1))
 
   -- That one is 0 where the entry was changed and of the page.
   pub changed-then : (n i : ℕ) → i < n → n * entry-words ≤ length cache

@@ -58,6 +58,10 @@ count-mono (suc n) f h e =
     let ih : count n f ≤ count n h = count-mono n f h (λ i k. e i (omega arith)) in
     on (f n) (λ p. rw (p, e n (omega arith) p) (omega arith)) (λ p. rw p (omega arith))
 
+-- One test counts one at most.
+pub counts-one : (b : Bool) {x : ℕ} → x ≡ cond b 1 0 → x ≤ 1
+counts-one b e = omega (arith, count-le 1 (λ _. b))
+
 -- None passes; each passes.
 pub count-none : (n : ℕ) (f : ℕ → Bool) → ((i : ℕ) → i < n → f i ≡ false) → count n f ≡ 0
 count-none zero f e = refl

@@ -1,56 +1,83 @@
 // The changed entries of one translation page, in one pass over the cache: the word of each is set in the page that is to be programmed, and
-// the entry becomes unchanged.
+// the entry becomes unchanged. From the last entry down, since the dropped one is the last and a page of few words may have no other.
 use lent::ENTRY_WORDS;
 use lent::Geometry;
+use std::num::wrapping_sub_u32;
 use steps::chip::set_word;
 ghost use mathlib.Core.Path.{_≡_};
 ghost use mathlib.Core.Bool.{cond};
 ghost use Prim.Native.Nat.{_+_, _*_, _≤_, _<_};
-ghost use lib.ListN.{length, set};
+ghost use lib.ListN.{length};
 ghost use lib.Seq.{sets};
 ghost use Rattle.scope.specs.Geometry.{pages};
-ghost use Rattle.scope.specs.Lent.{entry-words, words-of, logical-at, physical-at, translation-word};
-ghost use Rattle.scope.specs.Cache.{is-changed-of, changed-of, unchanged-of};
+ghost use Rattle.scope.specs.Counting.{count};
+ghost use Rattle.scope.specs.Lent.{entry-words, words-of};
+ghost use Rattle.scope.specs.Cache.{changed-of, unchanged-of};
 ghost use Rattle.scope.specs.Steps.{set-words};
 ghost use Rattle.lent.specs.Model.{geometry};
 ghost use Rattle.steps.specs.Lies.{Chip-lent};
-ghost use Rattle.index.specs.Changed.{Of-pages};
+ghost use Rattle.index.specs.OfPage.{Of-pages, of-page-at};
+ghost use Rattle.index.specs.Changed.{Entries-lent, Looks-at};
 
-// Whether the entry at rank i is changed and of translation page t: by the page's first logical page, since a division an entry is dear.
-fn is_changed_of(g: Geometry, t: u32, i: usize, cache: &[u32]) -> bool
+// 1 where the entry at rank i is of translation page t, else 0. By one comparison, since nobody can guess on which side of the page its logical
+// page lies: one before the page's first is far behind it by 32 bits.
+fn of_page(g: Geometry, t: u32, i: usize, cache: &[u32]) -> usize
     requires { ⌜ Of-pages (geometry g) t × (i * entry-words + entry-words ≤ length (now cache)) ⌝ }
-    ensures { λ r. ⌜ r ≡ is-changed-of (geometry g) t i (now (cache .entry)) ⌝ }
+    ensures { λ r. ⌜ r ≡ cond (of-page-at (geometry g) t (now (cache .entry)) i) 1 0 ⌝ }
 {
-    let first = t * g.w;
-    let l = cache[i * ENTRY_WORDS];
-    if l < first {
-        return false;
-    }
-    if g.w <= l - first {
-        return false;
-    }
-    cache[i * ENTRY_WORDS + 2] == 1
+    let behind = wrapping_sub_u32(cache[i * ENTRY_WORDS], t * g.w);
+    if behind < g.w { 1 } else { 0 }
 }
 
-// If it is, its word is set in the page at q, and it becomes unchanged.
+// How many of the four entries from rank i on are.
+fn four_of_page(g: Geometry, t: u32, i: usize, cache: &[u32]) -> usize
+    requires { ⌜ Of-pages (geometry g) t × ((i + 4) * entry-words ≤ length (now cache)) ⌝ }
+    ensures { λ r. ⌜ r ≡ count 4 (λ k. of-page-at (geometry g) t (now (cache .entry)) (i + k)) ⌝ }
+{
+    let a = of_page(g, t, i, cache);
+    let b = of_page(g, t, i + 1, cache);
+    let c = of_page(g, t, i + 2, cache);
+    let d = of_page(g, t, i + 3, cache);
+    a + b + c + d
+}
+
+// The entry at rank i: if it is of translation page t and changed, its word is set in the page at q, and it becomes unchanged.
 fn set_if_changed(g: Geometry, q: u32, t: u32, i: usize, cache: &mut [u32], chip: &mut [u32])
     requires { ⌜ Chip-lent (geometry g) (now chip) × (q < pages (geometry g)) ⌝ }
     requires { ⌜ Of-pages (geometry g) t × (i * entry-words + entry-words ≤ length (now cache)) ⌝ }
-    ensures { λ _. ⌜ now (chip .exit) ≡ cond (is-changed-of (geometry g) t i (now (cache .entry)))
-        (set (now (chip .entry)) (q * geometry g .W + translation-word (geometry g) (logical-at i (now (cache .entry))))
-        (physical-at i (now (cache .entry)))) (now (chip .entry)) ⌝ }
-    ensures { λ _. ⌜ now (cache .exit) ≡ cond (is-changed-of (geometry g) t i (now (cache .entry)))
-        (set (now (cache .entry)) (i * entry-words + 2) 0) (now (cache .entry)) ⌝ }
+    ensures { λ _. ⌜ Looks-at (geometry g) q t i (i + 1) (now (cache .entry)) (now (chip .entry)) (now (cache .exit)) (now (chip .exit)) ⌝ }
 {
-    if is_changed_of(g, t, i, cache) {
-        let l = cache[i * ENTRY_WORDS];
-        let place = cache[i * ENTRY_WORDS + 1];
-        set_word(g, q, l, place, chip);
-        cache[i * ENTRY_WORDS + 2] = 0;
+    if of_page(g, t, i, cache) == 0 {
+        return;
     }
+    if cache[i * ENTRY_WORDS + 2] != 1 {
+        return;
+    }
+    let l = cache[i * ENTRY_WORDS];
+    let place = cache[i * ENTRY_WORDS + 1];
+    set_word(g, q, l, place, chip);
+    cache[i * ENTRY_WORDS + 2] = 0;
 }
 
-// All of the first n.
+// The four from rank i on; how many of them are of the page is handed back.
+fn set_four(g: Geometry, q: u32, t: u32, i: usize, cache: &mut [u32], chip: &mut [u32]) -> usize
+    requires { ⌜ Chip-lent (geometry g) (now chip) × (q < pages (geometry g)) ⌝ }
+    requires { ⌜ Of-pages (geometry g) t × ((i + 4) * entry-words ≤ length (now cache)) ⌝ }
+    ensures { λ r. ⌜ r ≡ count 4 (λ k. of-page-at (geometry g) t (now (cache .entry)) (i + k)) ⌝ }
+    ensures { λ _. ⌜ Looks-at (geometry g) q t i (i + 4) (now (cache .entry)) (now (chip .entry)) (now (cache .exit)) (now (chip .exit)) ⌝ }
+{
+    let met = four_of_page(g, t, i, cache);
+    if met == 0 {
+        return 0;
+    }
+    set_if_changed(g, q, t, i + 3, cache, chip);
+    set_if_changed(g, q, t, i + 2, cache, chip);
+    set_if_changed(g, q, t, i + 1, cache, chip);
+    set_if_changed(g, q, t, i, cache, chip);
+    met
+}
+
+// All of the first n. A page has no more entries than words: once so many were met the others are of other pages.
 pub(crate) fn set_changed(
     g: Geometry,
     q: u32,
@@ -60,14 +87,23 @@ pub(crate) fn set_changed(
     chip: &mut [u32],
 )
     requires { ⌜ Chip-lent (geometry g) (now chip) × (q < pages (geometry g)) ⌝ }
-    requires { ⌜ Of-pages (geometry g) t × (n * entry-words ≤ length (now cache)) ⌝ }
+    requires { ⌜ Entries-lent (geometry g) t n (now cache) ⌝ }
     ensures { λ _. ⌜ now (chip .exit) ≡ sets (now (chip .entry)) (q * g .w)
         (set-words (geometry g) (changed-of (geometry g) t n (now (cache .entry))) (words-of (geometry g) q (now (chip .entry)))) ⌝ }
     ensures { λ _. ⌜ now (cache .exit) ≡ unchanged-of (geometry g) t n (now (cache .entry)) ⌝ }
 {
-    let mut i = 0;
-    while i < n {
+    let w = g.w as usize;
+    let mut i = n;
+    let mut met = 0;
+    while 4 <= i {
+        i -= 4;
+        met += set_four(g, q, t, i, cache, chip);
+        if w <= met {
+            return;
+        }
+    }
+    while 0 < i {
+        i -= 1;
         set_if_changed(g, q, t, i, cache, chip);
-        i += 1;
     }
 }

@@ -11,9 +11,6 @@ use touched::Left;
 use touched::lowest;
 use touched::take_words;
 ghost use mathlib.Core.Path.{_≡_};
-ghost use Prim.Native.Nat.{_*_, _≤_};
-ghost use lib.ListN.{length};
-ghost use Rattle.scope.specs.Lent.{entry-words};
 ghost use Rattle.scope.specs.Cache.{changed-of, unchanged-of};
 ghost use Rattle.scope.specs.Steps.{of-page, update, update-all};
 ghost use Rattle.lent.specs.Model.{geometry};
@@ -21,7 +18,7 @@ ghost use Rattle.words.specs.Census.{Census};
 ghost use Rattle.copying.specs.Moves.{first-moves};
 ghost use Rattle.index.specs.Moves.{Waits-in};
 ghost use Rattle.index.specs.Index.{index, Does-index, Index-ready};
-ghost use Rattle.index.specs.Changed.{Of-pages};
+ghost use Rattle.index.specs.Changed.{Entries-lent};
 ghost use Rattle.index.specs.Taking.{Left-after};
 ghost use Rattle.index.specs.Writing.{Page-ready};
 
@@ -42,7 +39,7 @@ pub fn update_changed(
     cache: &mut [u32],
 ) -> Work
     requires { ⌜ Page-ready (geometry g) (index chip spare directory) work t ⌝ }
-    requires { ⌜ Of-pages (geometry g) t × (work .rec .used * entry-words ≤ length (now cache)) ⌝ }
+    requires { ⌜ Entries-lent (geometry g) t (work .rec .used) (now cache) ⌝ }
     requires { ⌜ Census (geometry g) (now spare) (now census) ⌝ }
     ensures { λ r. ⌜ Does-index (update (geometry g) t (changed-of (geometry g) t (work .rec .used) (now (cache .entry))))
         (index (chip .entry) (spare .entry) (directory .entry)) work tt

@@ -143,9 +143,6 @@ both-count true false e q = rw (e, q)
 both-count false true e q = rw (e, q)
 both-count false false e q = rw (e, q)
 
-pub counts-one : (b : Bool) {x : ℕ} → x ≡ cond b 1 0 → x ≤ 1
-counts-one b e = omega (arith, count-le 1 (λ _. b))
-
 -- From no words to n, a word at a time.
 pub tallied-start : (t : Tally) (nowhere good : ℕ → Bool) → Tallied t t 0 nowhere good
 tallied-start t nowhere good = record { nones-more = omega arith; good-more = omega arith }

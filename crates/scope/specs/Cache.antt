@@ -44,6 +44,10 @@ forget i = do
 abbrev pub is-changed : ℕ → List ℕ → Bool
 is-changed i cache = eqb (changed-at i cache) 1
 
+-- The logical page of the entry at a rank, and the place that it names.
+abbrev pub mapping-at : ℕ → List ℕ → Mapping
+mapping-at i cache = record { logical = logical-at i cache; physical = physical-at i cache }
+
 -- 02, P2: "all changed cached entries of the same translation page". Whether the entry at a rank is one of translation page t.
 abbrev pub is-changed-of : Geometry → ℕ → ℕ → List ℕ → Bool
 is-changed-of g t i cache = is-changed i cache && eqb (translation-page g (logical-at i cache)) t
@@ -52,10 +56,10 @@ is-changed-of g t i cache = is-changed i cache && eqb (translation-page g (logic
 unfoldable pub changed-of : Geometry → ℕ → ℕ → List ℕ → List Mapping
 changed-of g t zero cache = []
 changed-of g t (suc n) cache =
-    changed-of g t n cache
-    ++ cond (is-changed-of g t n cache) (record { logical = logical-at n cache; physical = physical-at n cache } ∷ []) []
+    let before = changed-of g t n cache in
+    cond (is-changed-of g t n cache) (mapping-at n cache ∷ before) before
 
--- "And become unchanged, ranks kept": the cache once the first n entries have.
+-- "And become unchanged, ranks kept": the cache once those of the first n entries have.
 unfoldable pub unchanged-of : Geometry → ℕ → ℕ → List ℕ → List ℕ
 unchanged-of g t zero cache = cache
 unchanged-of g t (suc n) cache =

@@ -1,15 +1,60 @@
--- `index::changed::set_if_changed` meets its contract: the code's test is the definition's.
+-- `index::changed::set_if_changed` meets its contract: the code's tests are the definition's.
 use Prim.Native.Nat.{_+_, _*_}
-use mathlib.Core.Path.{refl, sym, _∙_}
+use mathlib.Core.Path.{_≡_, refl, sym, _∙_}
 use native.Mathlib.Omega.{arith}
+use lib.ListN.{getD}
 use borrow.Author.Needs.{needs}
-use Rattle.scope.specs.Lent.{none, entry-words}
+use borrow.Author.Tests.{eq-eqb, ne-eqb}
+use Rattle.scope.specs.Lent.{none, entry-words, logical-at, physical-at, changed-at}
+use Rattle.lent.specs.Model.{geometry}
 use Rattle.words.specs.Runs.{getD-any}
+use Rattle.index.specs.Changed.{of-other-page, of-this-page, looks-at-another, looks-at-one}
 use Rattle.index.proofs.changed.set_if_changed.Statement.{statement}
 use Rattle.index.proofs.changed.set_if_changed.Tie as tie
 
-is-changed-of-requires : tie.Need-is-changed-of-requires
-is-changed-of-requires c κs = search needs
+-- The words that are read are the entry's.
+is-logical : (c : tie.Start) → getD (c .args .cache .now) (c .args .i * entry-words) 0 ≡ logical-at (c .args .i) (c .args .cache .now)
+is-logical c = getD-any (c .args .cache .now) (c .args .i * entry-words) 0 none (omega (arith, c .pre .1 .1))
+
+is-place : (c : tie.Start) → getD (c .args .cache .now) (c .args .i * entry-words + 1) 0 ≡ physical-at (c .args .i) (c .args .cache .now)
+is-place c = getD-any (c .args .cache .now) (c .args .i * entry-words + 1) 0 none (omega (arith, c .pre .1 .1))
+
+is-changed-word : (c : tie.Start) → getD (c .args .cache .now) (c .args .i * entry-words + 2) 0 ≡ changed-at (c .args .i) (c .args .cache .now)
+is-changed-word c = getD-any (c .args .cache .now) (c .args .i * entry-words + 2) 0 none (omega (arith, c .pre .1 .1))
+
+of-page-requires : tie.Need-of-page-requires
+of-page-requires c κs = search needs
+
+same-length : tie.Need-same-length
+same-length c = search needs
+
+returns : tie.Need-returns
+returns c =
+    let a = c .before .before .before .before .before .args in
+    looks-at-another (of-other-page (geometry (a .g)) (a .t) (a .i) (a .cache .now) (c .before .of-page .ensures) (c .if1 .taken))
+
+mul-if2 : tie.Need-mul-if2
+mul-if2 c = search needs
+
+add-if2 : tie.Need-add-if2
+add-if2 c = search needs
+
+mul-if2-2 : tie.Need-mul-if2-2
+mul-if2-2 c = search needs
+
+slice-read-if2 : tie.Need-slice-read-if2
+slice-read-if2 c = search needs
+
+same-length-2 : tie.Need-same-length-2
+same-length-2 c = search needs
+
+returns-2 : tie.Need-returns-2
+returns-2 c =
+    let tested = c .before .before in
+    let start = tested .before .before .before .before .before in
+    let a = start .args in
+    looks-at-another (of-this-page (geometry (a .g)) (a .t) (a .i) (a .cache .now) (tested .before .of-page .ensures) (tested .if1 .left)
+    ∙ ne-eqb (changed-at (a .i) (a .cache .now)) 1 (λ e. c .if2 .taken (is-changed-word start ∙ e)))
 
 mul-l : tie.Need-mul-l
 mul-l c = search needs
@@ -47,37 +92,37 @@ mul-cache-2 c = search needs
 slice-write-cache : tie.Need-slice-write-cache
 slice-write-cache c = search needs
 
-same-length : tie.Need-same-length
-same-length c = search needs
-
-same-length-2 : tie.Need-same-length-2
-same-length-2 c = search needs
-
-returns : tie.Need-returns
-returns c =
-    let set = c .before .before in
-    let tested = set .before .before .before .before in
-    let start = tested .before .before .before .before .before in
-    let cache = start .args .cache .now in
-    let passed = sym (tested .before .is-changed-of .ensures) ∙ tested .if1 .taken in
-    let is-l = getD-any cache (start .args .i * entry-words) 0 none (omega (arith, start .pre .1 .1)) in
-    let is-place = getD-any cache (start .args .i * entry-words + 1) 0 none (omega (arith, start .pre .1 .1)) in
-    (set .set-word .ensures ∙ (rw (passed, is-l, is-place) refl), rw passed refl)
-
 same-length-3 : tie.Need-same-length-3
 same-length-3 c = search needs
 
-returns-2 : tie.Need-returns-2
-returns-2 c =
-    let start = c .before .before .before .before .before in
-    let failed = sym (c .before .is-changed-of .ensures) ∙ c .if1 .left in
-    (rw failed refl, rw failed refl)
+same-length-4 : tie.Need-same-length-4
+same-length-4 c = search needs
+
+returns-3 : tie.Need-returns-3
+returns-3 c =
+    let called = c .before .before in
+    let passed = called .before .before .before .before in
+    let tested = passed .before .before in
+    let start = tested .before .before .before .before .before in
+    let a = start .args in
+    looks-at-one (start .pre .0 .0) (start .pre .0 .1)
+    (of-this-page (geometry (a .g)) (a .t) (a .i) (a .cache .now) (tested .before .of-page .ensures) (tested .if1 .left)
+    ∙ eq-eqb (changed-at (a .i) (a .cache .now)) 1 (sym (is-changed-word start) ∙ passed .if2 .left))
+    (called .set-word .ensures ∙ (rw (is-logical start, is-place start) refl)) refl
 
 pub set-if-changed-spec : {M : Type 1} → statement M
 set-if-changed-spec =
     tie.close
     (tie.spec
-    is-changed-of-requires
+    of-page-requires
+    same-length
+    returns
+    mul-if2
+    add-if2
+    mul-if2-2
+    slice-read-if2
+    same-length-2
+    returns-2
     mul-l
     mul-l-2
     slice-read-l
@@ -90,8 +135,6 @@ set-if-changed-spec =
     add-cache
     mul-cache-2
     slice-write-cache
-    same-length
-    same-length-2
-    returns
     same-length-3
-    returns-2)
+    same-length-4
+    returns-3)

@@ -5,7 +5,8 @@ use Prim.Native.Nat.{ℕ, _+_}
 use mathlib.Core.Bool.{Bool}
 use denote.Ref.{now}
 use borrow.Author.Needs.{needs}
-use Rattle.mapping.specs.Tally.{word-good, counts-one}
+use Rattle.flash.specs.Counting.{counts-one}
+use Rattle.mapping.specs.Tally.{word-good}
 use Rattle.mapping.proofs.tally.four_good.Statement.{statement}
 use Rattle.mapping.proofs.tally.four_good.Tie as tie
 

@@ -8,7 +8,8 @@ use lib.ListN.{getD}
 use denote.Ref.{now}
 use borrow.Author.Needs.{needs}
 use Rattle.scope.specs.Lent.{valid, spare-words}
-use Rattle.mapping.specs.Tally.{pair-tells, both-count, counts-one}
+use Rattle.flash.specs.Counting.{counts-one}
+use Rattle.mapping.specs.Tally.{pair-tells, both-count}
 use Rattle.mapping.proofs.tally.owned.Statement.{statement}
 use Rattle.mapping.proofs.tally.owned.Tie as tie
 

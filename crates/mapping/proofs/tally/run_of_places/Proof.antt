@@ -8,7 +8,8 @@ use denote.Ref.{now}
 use Rattle.scope.specs.Lent.{none}
 use Rattle.words.specs.Runs.{getD-any}
 use Rattle.mapping.specs.Named.{place-some}
-use Rattle.mapping.specs.Tally.{Run-counted, word-none, word-good, run-more, run-most, counts-one}
+use Rattle.flash.specs.Counting.{counts-one}
+use Rattle.mapping.specs.Tally.{Run-counted, word-none, word-good, run-more, run-most}
 use Rattle.mapping.proofs.tally.run_of_places.Statement.{statement}
 use Rattle.mapping.proofs.tally.run_of_places.Tie as tie
 

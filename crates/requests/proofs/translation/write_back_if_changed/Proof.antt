@@ -9,7 +9,7 @@ use Rattle.scope.specs.Lent.{translation-page}
 use Rattle.lent.specs.Model.{geometry}
 use Rattle.lent.specs.DoesLaws.{does-give, does-cond-true, does-cond-false}
 use Rattle.lent.specs.Ready.{ready-state}
-use Rattle.index.specs.Changed.{of-pages}
+use Rattle.index.specs.OfPage.{of-pages}
 use Rattle.requests.specs.Translating.{write-back-does, write-back-ready}
 use Rattle.requests.proofs.translation.write_back_if_changed.Statement.{statement}
 use Rattle.requests.proofs.translation.write_back_if_changed.Tie as tie
@@ -43,7 +43,11 @@ update-changed-requires c κs =
     let below-L = subst (λ (l : ℕ). l < geometry (a .g) .L) (sym (at .logical .ensures)) below in (
       write-back-ready _ ready below-L,
       (
-        (of-pages (ready .accepted .W-from) _ (search needs), omega (arith, ready .sound .rule-5 .at-most, ready .lengths .cache-fits)),
+        record {
+          of-pages = of-pages (ready .accepted) _ below-L;
+          lie = omega (arith, ready .sound .rule-5 .at-most, ready .lengths .cache-fits);
+          different = ready .sound .rule-5 .different;
+        },
         start at .pre .1,
       ),
     )
