@@ -7,12 +7,13 @@ use mathlib.Core.List.{List, [], _∷_, _++_}
 use lib.Dec.{eqb, leb}
 use lib.ListN.{getD, set, replicate}
 use Rattle.scope.specs.Geometry.{Geometry}
-use Rattle.scope.specs.Lent.{none, is-erased, State}
+use Rattle.scope.specs.SmallRecord.{record-of}
+use Rattle.scope.specs.Lent.{none, erased, valid, invalid, is-erased, words-of, State}
 use Rattle.scope.specs.Decisions.{sound}
 use Rattle.scope.specs.Operations.{Operation, Read, Program, Mark, Erase, Outcome, apply, counted}
 use Rattle.scope.specs.Replies.{DONE, UNWRITTEN}
 use Rattle.scope.specs.Requests.{Replied}
-use Rattle.scope.specs.Tables.Play.{computed, Line, W, R, formatted, made, printed}
+use Rattle.scope.specs.Tables.Play.{computed, Line, W, R, formatted, made, printed, play}
 
 -- "Only erased pages are programmed": of a list of operations, each at its moment.
 unfoldable pub programs-erased : Geometry → List Operation → State → Bool
@@ -123,4 +124,76 @@ instances-hold =
       two-pages-touched = refl;
       one-page-touched-twice = refl;
       collections-in-a-collection = refl;
+    }
+
+-- ---- 02, P2: neighbours written back together
+
+-- What lines leave in the cache and in page p.
+unfoldable pub left-in : ℕ → Geometry → List Line → State → List (List ℕ)
+left-in p g lines s =
+    let left = play g lines s .left in
+    left .cache ∷ words-of g p (left .chip) ∷ []
+
+-- Four entries. The last, 1, is changed and has not the last word of its translation page; 0 and 2 are of the same page, one unchanged and
+-- one changed, and 3 is of another. No translation page has been programmed.
+abbrev pub H : Geometry
+H = geometry 2 3 4 3 5 4
+
+abbrev pub four-cached : State
+four-cached =
+    record {
+      chip = replicate 3 11 ++ replicate 3 12 ++ replicate 3 13 ++ replicate 33 erased;
+      spare = valid ∷ 1 ∷ valid ∷ 2 ∷ valid ∷ 3 ∷ replicate 22 erased;
+      directory = none ∷ none ∷ [];
+      cache = 3 ∷ 2 ∷ 1 ∷ 2 ∷ 1 ∷ 1 ∷ 0 ∷ none ∷ 0 ∷ 1 ∷ 0 ∷ 1 ∷ [];
+      small = record-of (1 ∷ 1 ∷ 4 ∷ 0 ∷ 4 ∷ []);
+    }
+
+-- A changed entry at *none*, whose word on flash is still a place that it had. Behind it is a changed entry of the same translation page.
+abbrev pub N : Geometry
+N = geometry 2 4 3 2 3 2
+
+abbrev pub one-at-none : State
+one-at-none =
+    record {
+      chip = replicate 4 10 ++ replicate 4 11 ++ replicate 16 erased ++ (none ∷ 1 ∷ none ∷ none ∷ []) ++ replicate 12 erased;
+      spare = valid ∷ 0 ∷ invalid ∷ 1 ∷ replicate 8 erased ++ (valid ∷ 0 ∷ []) ++ replicate 6 erased;
+      directory = 6 ∷ [];
+      cache = 1 ∷ none ∷ 1 ∷ 0 ∷ 0 ∷ 1 ∷ [];
+      small = record-of (0 ∷ 2 ∷ 3 ∷ 1 ∷ 2 ∷ []);
+    }
+
+-- Two entries are cached and changed when the other two of their translation page, 0 and 1, are moved.
+abbrev pub K : Geometry
+K = geometry 3 4 3 2 4 2
+
+pub record Neighbours : Type 0 where
+  -- A dropped entry's neighbour is set with it and becomes unchanged, at the rank that it has. An unchanged one stays as it is, and so does a
+  -- changed entry of another translation page.
+  pub one-left :
+      (4 ∷ none ∷ 0 ∷ 3 ∷ 2 ∷ 1 ∷ 2 ∷ 1 ∷ 0 ∷ 0 ∷ none ∷ 0 ∷ []) ∷ (none ∷ 0 ∷ 1 ∷ []) ∷ [] ≡ left-in 8 H (R 4 ∷ []) four-cached
+  -- It is one update. Then an unchanged entry is dropped and writes none back, the neighbour is dropped and not written again, and each is
+  -- found where it was set.
+  pub written-back :
+      good (1 ∷ 0 ∷ 1 ∷ 0 ∷ []) ∷ good (0 ∷ 2 ∷ 0 ∷ 0 ∷ 11 ∷ []) ∷ good (1 ∷ 1 ∷ 0 ∷ 0 ∷ []) ∷ good (0 ∷ 2 ∷ 1 ∷ 0 ∷ 12 ∷ []) ∷ []
+      ≡ watch H (R 4 ∷ R 1 ∷ R 0 ∷ R 2 ∷ []) (none ∷ 11 ∷ 12 ∷ 13 ∷ none ∷ []) four-cached
+  -- "Those at *none* too": the word becomes *none*, and the page is unwritten still once its entry is gone.
+  pub none-left : (2 ∷ none ∷ 0 ∷ 1 ∷ none ∷ 0 ∷ []) ∷ (0 ∷ none ∷ none ∷ none ∷ []) ∷ [] ≡ left-in 7 N (R 2 ∷ []) one-at-none
+  pub none-written-back :
+      good (1 ∷ 2 ∷ 1 ∷ 0 ∷ []) ∷ good (0 ∷ 2 ∷ 0 ∷ 0 ∷ 10 ∷ []) ∷ good (1 ∷ 1 ∷ 0 ∷ 0 ∷ []) ∷ good (0 ∷ 0 ∷ 1 ∷ 0 ∷ []) ∷ []
+      ≡ watch N (R 2 ∷ R 0 ∷ R 1 ∷ W 1 12 ∷ []) (10 ∷ none ∷ none ∷ []) one-at-none
+  -- Drops only: a collection sets what it moved, and no neighbour.
+  pub moved-alone :
+      (3 ∷ 8 ∷ 1 ∷ 2 ∷ 5 ∷ 1 ∷ []) ∷ (6 ∷ 7 ∷ none ∷ none ∷ []) ∷ []
+      ≡ left-in 10 K (W 0 10 ∷ W 1 11 ∷ W 2 12 ∷ W 3 13 ∷ W 2 14 ∷ W 2 15 ∷ W 3 16 ∷ []) (formatted K)
+
+pub neighbours-hold : Neighbours
+unfolding computed programs-erased bound within-bound noted as-written fault faults watch left-in
+neighbours-hold =
+    record {
+      one-left = refl;
+      written-back = refl;
+      none-left = refl;
+      none-written-back = refl;
+      moved-alone = refl;
     }
