@@ -179,7 +179,7 @@ module _ (g : Geometry) (t : ℕ) (cache : List ℕ) (used : ℕ) (m : ℕ → F
       (λ e. rw (eq-eqb (changed-at i cache) 1 e) refl)
       (λ e. rw (ne-eqb (changed-at i cache) 1 e) (omega (arith, h .entries .changed-fits i u)))))
 
-  other-stays : (i : ℕ) → i < used → translation-page g (logical-at i cache) ≢ t → changed-at i cache′ ≡ changed-at i cache
+  pub other-stays : (i : ℕ) → i < used → translation-page g (logical-at i cache) ≢ t → changed-at i cache′ ≡ changed-at i cache
   other-stays i u other = changed-then g t cache used i u fits ∙ (rw (test-of-other g t cache i other) refl)
 
   pub no-longer-changed : (i : ℕ) → i < used → translation-page g (logical-at i cache) ≡ t → is-changed i cache′ ≡ false

@@ -190,16 +190,17 @@ looks-past-four {g} {q} {t} {i} {cache} {chip} none-met =
 pub record Met-from (g : Geometry) (t n i : ℕ) (cache : List ℕ) (met : ℕ) : Type 0 where
   pub so-far : met + count i (of-page-at g t cache) ≡ count n (of-page-at g t cache)
 
-pub met-more : {g : Geometry} {q t n : ℕ} (i : ℕ) {cache₀ chip₀ cache chip : List ℕ} {met r : ℕ}
+pub met-more : {g : Geometry} {q t n : ℕ} (i : ℕ) {cache₀ chip₀ cache chip : List ℕ} {met met′ : ℕ}
     → Set-from g q t n (i + 4) cache₀ chip₀ cache chip → Met-from g t n (i + 4) cache₀ met
-    → r ≡ count 4 (λ k. of-page-at g t cache (i + k)) → Met-from g t n i cache₀ (met + r)
+    → met′ ≡ met + count 4 (λ k. of-page-at g t cache (i + k)) → Met-from g t n i cache₀ met′
 met-more {g} {t = t} i {cache₀} {cache = cache} before met e =
     record {
       so-far = omega (
         arith,
+        e,
         met .so-far,
         count-add i 4 (of-page-at g t cache₀),
-        e ∙ count-same 4 (λ k. of-page-at g t cache (i + k)) (λ k. of-page-at g t cache₀ (i + k))
+        count-same 4 (λ k. of-page-at g t cache (i + k)) (λ k. of-page-at g t cache₀ (i + k))
             (λ k h. ap (λ (l : ℕ). eqb (translation-page g l) t) (same-logical before (i + k) (omega arith))),
       );
     }

@@ -5,7 +5,7 @@ use lent::Geometry;
 use std::num::wrapping_sub_u32;
 use steps::chip::set_word;
 ghost use mathlib.Core.Path.{_≡_};
-ghost use mathlib.Core.Bool.{cond};
+ghost use mathlib.Core.Bool.{true, cond};
 ghost use Prim.Native.Nat.{_+_, _*_, _≤_, _<_};
 ghost use lib.ListN.{length};
 ghost use lib.Seq.{sets};
@@ -41,6 +41,27 @@ fn four_of_page(g: Geometry, t: u32, i: usize, cache: &[u32]) -> usize
     a + b + c + d
 }
 
+// Whether none of them is, which is so of most: all four are read before the first is looked at.
+fn none_of_page(g: Geometry, t: u32, i: usize, cache: &[u32]) -> bool
+    requires { ⌜ Of-pages (geometry g) t × ((i + 4) * entry-words ≤ length (now cache)) ⌝ }
+    ensures { λ r. ⌜ (r ≡ true → count 4 (λ k. of-page-at (geometry g) t (now (cache .entry)) (i + k)) ≡ 0) ⌝ }
+{
+    let a = of_page(g, t, i, cache);
+    let b = of_page(g, t, i + 1, cache);
+    let c = of_page(g, t, i + 2, cache);
+    let d = of_page(g, t, i + 3, cache);
+    if a != 0 {
+        return false;
+    }
+    if b != 0 {
+        return false;
+    }
+    if c != 0 {
+        return false;
+    }
+    d == 0
+}
+
 // The entry at rank i: if it is of translation page t and changed, its word is set in the page at q, and it becomes unchanged.
 fn set_if_changed(g: Geometry, q: u32, t: u32, i: usize, cache: &mut [u32], chip: &mut [u32])
     requires { ⌜ Chip-lent (geometry g) (now chip) × (q < pages (geometry g)) ⌝ }
@@ -59,22 +80,31 @@ fn set_if_changed(g: Geometry, q: u32, t: u32, i: usize, cache: &mut [u32], chip
     cache[i * ENTRY_WORDS + 2] = 0;
 }
 
-// The four from rank i on; how many of them are of the page is handed back.
-fn set_four(g: Geometry, q: u32, t: u32, i: usize, cache: &mut [u32], chip: &mut [u32]) -> usize
+// The four from rank i on. How many entries of the page were met is handed back, those before with these.
+fn set_four(
+    met: usize,
+    g: Geometry,
+    q: u32,
+    t: u32,
+    i: usize,
+    cache: &mut [u32],
+    chip: &mut [u32],
+) -> usize
     requires { ⌜ Chip-lent (geometry g) (now chip) × (q < pages (geometry g)) ⌝ }
     requires { ⌜ Of-pages (geometry g) t × ((i + 4) * entry-words ≤ length (now cache)) ⌝ }
-    ensures { λ r. ⌜ r ≡ count 4 (λ k. of-page-at (geometry g) t (now (cache .entry)) (i + k)) ⌝ }
+    requires { ⌜ (i < 4294967296) × (met ≤ 4294967296) ⌝ }
+    ensures { λ r. ⌜ r ≡ met + count 4 (λ k. of-page-at (geometry g) t (now (cache .entry)) (i + k)) ⌝ }
     ensures { λ _. ⌜ Looks-at (geometry g) q t i (i + 4) (now (cache .entry)) (now (chip .entry)) (now (cache .exit)) (now (chip .exit)) ⌝ }
 {
-    let met = four_of_page(g, t, i, cache);
-    if met == 0 {
-        return 0;
+    if none_of_page(g, t, i, cache) {
+        return met;
     }
+    let more = four_of_page(g, t, i, cache);
     set_if_changed(g, q, t, i + 3, cache, chip);
     set_if_changed(g, q, t, i + 2, cache, chip);
     set_if_changed(g, q, t, i + 1, cache, chip);
     set_if_changed(g, q, t, i, cache, chip);
-    met
+    met + more
 }
 
 // All of the first n. A page has no more entries than words: once so many were met the others are of other pages.
@@ -87,7 +117,7 @@ pub(crate) fn set_changed(
     chip: &mut [u32],
 )
     requires { ⌜ Chip-lent (geometry g) (now chip) × (q < pages (geometry g)) ⌝ }
-    requires { ⌜ Entries-lent (geometry g) t n (now cache) ⌝ }
+    requires { ⌜ Entries-lent (geometry g) t n (now cache) × (n < 4294967296) ⌝ }
     ensures { λ _. ⌜ now (chip .exit) ≡ sets (now (chip .entry)) (q * g .w)
         (set-words (geometry g) (changed-of (geometry g) t n (now (cache .entry))) (words-of (geometry g) q (now (chip .entry)))) ⌝ }
     ensures { λ _. ⌜ now (cache .exit) ≡ unchanged-of (geometry g) t n (now (cache .entry)) ⌝ }
@@ -97,7 +127,7 @@ pub(crate) fn set_changed(
     let mut met = 0;
     while 4 <= i {
         i -= 4;
-        met += set_four(g, q, t, i, cache, chip);
+        met = set_four(met, g, q, t, i, cache, chip);
         if w <= met {
             return;
         }

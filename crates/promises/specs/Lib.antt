@@ -13,6 +13,7 @@ pub mod Settle
 pub mod Follow
 pub mod Keeping
 pub mod Translate
+pub mod Neighbours
 pub mod HeldWords
 pub mod Read
 pub mod Write

@@ -83,7 +83,7 @@ module _ {g : Geometry} (s : State) (len : Lengths g s) (sound : Sound g s) (i :
   holds = cache-holds g s len (cache-of sound)
 
   -- Written back: they are set, which moves no page, and then unchanged, which moves none either.
-  updated-can-go : (o : Outcome (Unit {0})) → Updated g t set (update-bound g) s o
+  pub updated-can-go : (o : Outcome (Unit {0})) → Updated g t set (update-bound g) s o
       → Can-go g i s (record {
         value = tt;
         after = become-unchanged g t (o .after) .after;

@@ -43,7 +43,7 @@ set-changed-requires c κs =
     let at = c .before .before .before in
     let begins = begun at .begin .ensures .0 in
     let pre = start (begun at) .pre in
-    ((chip-of (still-roomy (pre .0) begins .lent), next-here (pre .0) begins (at .next-page .ensures)), pre .1 .0)
+    ((chip-of (still-roomy (pre .0) begins .lent), next-here (pre .0) begins (at .next-page .ensures)), (pre .1 .0, search needs))
 
 finish-requires : tie.Need-finish-requires
 finish-requires c κs =

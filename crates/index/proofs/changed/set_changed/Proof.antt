@@ -52,7 +52,7 @@ turn c = c .before .before .before
 to : (c : tie.After-set-four Inv-loop μ-loop Inv-loop2 μ-loop2)
     → let a = start (turn c .before) .args in
     let i = turn c .before .loop .i - 4 in
-    Met-from (geometry (a .g)) (a .t) (a .n) i (a .cache .now) (turn c .before .loop .met + c .set-four .result)
+    Met-from (geometry (a .g)) (a .t) (a .n) i (a .cache .now) (c .set-four .result)
 to c = let before = from (turn c) in met-more (turn c .before .loop .i - 4) (before .0) (before .1) (c .set-four .ensures .0)
 
 cast-w : tie.Need-cast-w Inv-loop μ-loop Inv-loop2 μ-loop2
@@ -64,18 +64,19 @@ loop-holds c = let pre = c .before .before .before .pre .0 in (all-left (pre .0)
 set-four-requires : tie.Need-set-four-requires Inv-loop μ-loop Inv-loop2 μ-loop2
 set-four-requires c κs =
     let at = c .before .before in
-    let inv = at .before .loop .inv .0 in
-    let pre = start (at .before) .pre in (
-      (chip-still (pre .0 .0) (inv .is-set .as-long), pre .0 .1),
-      (pre .1 .of-pages, omega (arith, inv .long, inv .upto, pre .1 .lie, at .loop-test .taken)),
-    )
-
-add-met : tie.Need-add-met Inv-loop μ-loop Inv-loop2 μ-loop2
-add-met c =
-    let called = c .before .before .before .before in
-    let first = start (turn called .before) in
+    let (inv, met) = at .before .loop .inv in
+    let first = start (at .before) in
     let a = first .args in
-    omega (arith, to called .so-far, count-le (a .n) (of-page-at (geometry (a .g)) (a .t) (a .cache .now)), first .fits)
+    let pre = first .pre in (
+      (chip-still (pre .0 .0) (inv .is-set .as-long), pre .0 .1),
+      (
+        (pre .1 .0 .of-pages, omega (arith, inv .long, inv .upto, pre .1 .0 .lie, at .loop-test .taken)),
+        (
+          omega (arith, inv .upto, pre .1 .1),
+          omega (arith, met .so-far, count-le (a .n) (of-page-at (geometry (a .g)) (a .t) (a .cache .now)), pre .1 .1),
+        ),
+      ),
+    )
 
 same-length : tie.Need-same-length Inv-loop μ-loop Inv-loop2 μ-loop2
 same-length c = search needs
@@ -87,7 +88,7 @@ returns : tie.Need-returns Inv-loop μ-loop Inv-loop2 μ-loop2
 returns c =
     let called = c .before .before .before .before .before in
     let first = start (turn called .before) in
-    none-left (called .set-four .ensures .1 _ _ _ (from (turn called) .0)) (all-met (first .pre .1) (to called) (c .if1 .taken))
+    none-left (called .set-four .ensures .1 _ _ _ (from (turn called) .0)) (all-met (first .pre .1 .0) (to called) (c .if1 .taken))
 
 loop-less : tie.Need-loop-less Inv-loop μ-loop Inv-loop2 μ-loop2
 loop-less c = search needs
@@ -110,7 +111,7 @@ set-if-changed-requires c κs =
     let before = fours (at .before) .loop .inv .0 in
     let pre = start (fours (at .before)) .pre in (
       (chip-still (pre .0 .0) (inv .2 ∙ before .is-set .as-long), pre .0 .1),
-      (pre .1 .of-pages, omega (arith, inv .0, inv .1, before .long, before .upto, pre .1 .lie, at .loop2-test .taken)),
+      (pre .1 .0 .of-pages, omega (arith, inv .0, inv .1, before .long, before .upto, pre .1 .0 .lie, at .loop2-test .taken)),
     )
 
 loop2-less : tie.Need-loop2-less Inv-loop μ-loop Inv-loop2 μ-loop2
@@ -153,7 +154,6 @@ set-changed-spec =
     cast-w
     loop-holds
     set-four-requires
-    add-met
     same-length
     same-length-2
     returns
