@@ -7,6 +7,10 @@ closed instance a session, and proved by computation in a scratch repository.
 A session on which the two differ is refused by the prover with both values.
 So are records and geometries that are read and written as settings.
 
+Every other session begins from a state in the midst of others' work, in some with
+entries set to *none* by hand, on a geometry with several cached entries of one
+translation page: dropped ones are then written back with neighbours.
+
 usage: compare.py [--seed N] [--sessions N] [--settings N]
 """
 import argparse
@@ -31,43 +35,81 @@ use Rattle.scope.specs.Tables.Play.{computed, W, R, Played, formatted, play}
 """
 
 
-def geometries():
-    """Every accepted geometry of at most 40 words, the corners among them."""
+def geometries(words, widths, entries):
+    """Every accepted geometry of so many words at most, these words in a page and these cache entries, the corners among them."""
     for p in range(1, 5):
-        for w in range(1, 4):
+        for w in widths:
             for d in range(2, 5):
                 for t in range(2, 5):
                     for l in range(1, (d - 1) * p):
                         m = -(-l // w)
-                        if m <= (t - 1) * p - 1 and (d + t) * p * w <= 40:
-                            yield from ((p, w, d, t, l, c) for c in (1, 2, 3))
+                        if m <= (t - 1) * p - 1 and (d + t) * p * w <= words:
+                            yield from ((p, w, d, t, l, c) for c in entries)
 
 
-def session(rng, l):
+SMALL = list(geometries(40, (1, 2, 3), (1, 2, 3)))
+# Drops with neighbours need entries of one translation page, and fewer entries than pages. There is a list for each W and C, since where
+# both are great geometries are few.
+SHAPES = ((2, 2), (2, 3), (2, 4), (3, 2), (3, 3), (3, 4), (4, 2), (4, 3))
+CROWDED = [[g for g in geometries(48, (w,), (c,)) if c < g[4]] for w, c in SHAPES]
+
+
+def session(rng, l, least, most):
     """Lines of a session, now and then with a page past the limit."""
     lines = []
-    for i in range(rng.randint(8, 14)):
+    for i in range(rng.randint(least, most)):
         page = rng.randrange(l + (rng.random() < 0.1))
         lines.append(f"W {page} {10 + i}" if rng.random() < 0.75 else f"R {page}")
     return lines
+
+
+def small_session(rng):
+    """From a formatted node."""
+    geometry = rng.choice(SMALL)
+    return geometry, [], session(rng, geometry[4], 8, 14)
+
+
+def crowded_session(rng):
+    """From a state after other requests, in which up to three entries of the last ones are then set to *none*, changed."""
+    geometry = rng.choice(rng.choice(CROWDED))
+    l = geometry[4]
+    before = session(rng, l, 4, 16)
+    emptied = [f"E {line.split()[1]}" for line in rng.sample(before[-4:], rng.randint(0, 3))]
+    return geometry, before + emptied + ["B"], session(rng, l, 6, 12)
 
 
 def as_list(items):
     return "(" + "".join(f"{x} ∷ " for x in items) + "[])"
 
 
-def instance(driver, number, geometry, lines):
-    """The statement that the definitions give what the independent program gave."""
-    played = subprocess.run([driver, *map(str, geometry)], input="\n".join(lines), text=True,
-                            capture_output=True, check=True).stdout.splitlines()
-    prints = [as_list(x.split()[1:]) for x in played if x.startswith("L")]
-    sides = [x.split()[1:] for x in played if x.startswith("S")]
+def as_state(sides):
+    """The state of the driver's five lines `S`."""
     small = "; ".join(f"{k} = {v}" for k, v in zip(RECORD, sides[4]))
-    left = "; ".join(f"{k} = {as_list(v)}" for k, v in zip(["chip", "spare", "directory", "cache"], sides))
+    lists = "; ".join(f"{k} = {as_list(v)}" for k, v in zip(["chip", "spare", "directory", "cache"], sides))
+    return f"record {{ {lists}; small = record {{ {small} }} }}"
+
+
+def instance(driver, number, geometry, before, lines):
+    """The statement that the definitions give what the independent program gave, and the neighbours it wrote back, all and at *none*."""
+    run = subprocess.run([driver, *map(str, geometry)], input="\n".join(before + lines), text=True, capture_output=True, check=True)
+    played = [x.split() for x in run.stdout.splitlines()]
+    prints = [as_list(x[1:]) for x in played if x[0] == "L"][-len(lines):]
+    sides = [x[1:] for x in played if x[0] == "S"]
     g = "(record { " + "; ".join(f"{k} = {v}" for k, v in zip(NUMBERS, geometry)) + " })"
-    return (f"session-{number} : record {{ lines = {as_list(prints)}; left = record {{ {left}; "
-            f"small = record {{ {small} }} }} }}\n    ≡ play {g} {as_list(lines)} (formatted {g})\n"
-            f"unfolding computed\nsession-{number} = refl\n\n")
+    start = f"({as_state(sides[:5])})" if before else f"(formatted {g})"
+    return (f"session-{number} : record {{ lines = {as_list(prints)}; left = {as_state(sides[-5:])} }}\n"
+            f"    ≡ play {g} {as_list(lines)} {start}\n"
+            f"unfolding computed\nsession-{number} = refl\n\n"), [int(x) for x in played[-1][1:]]
+
+
+def sessions(rng, driver, count):
+    """The statements of so many sessions, and the neighbours that were written back, all and at *none*."""
+    text, met = HEAD, (0, 0)
+    for number in range(count):
+        stated, neighbours = instance(driver, number, *(crowded_session if number % 2 else small_session)(rng))
+        text += stated
+        met = tuple(map(sum, zip(met, neighbours)))
+    return text, met
 
 
 def crates_under(names):
@@ -95,10 +137,8 @@ def main():
     arguments.add_argument("--settings", type=int, default=200)
     asked = arguments.parse_args()
     rng = random.Random(asked.seed)
-    choice = list(geometries())
     with tempfile.TemporaryDirectory() as scratch:
         scratch = pathlib.Path(scratch)
-        driver = compiled(scratch, "driver.c")
         crate = scratch / "crates/compared"
         for folder in ("src", "specs"):
             (crate / folder).mkdir(parents=True)
@@ -109,10 +149,7 @@ def main():
         (scratch / "crates.txt").write_text("\n".join(under) + "\ncompared: scope settings\n")
         (crate / "src/lib.rt").write_text("// Sessions and settings of the independent program. No code.\n")
         (crate / "specs/Lib.antt").write_text("pub mod Sessions\npub mod Settings\n")
-        text = HEAD
-        for number in range(asked.sessions):
-            geometry = rng.choice(choice)
-            text += instance(driver, number, geometry, session(rng, geometry[4]))
+        text, (neighbours, at_none) = sessions(rng, compiled(scratch, "driver.c"), asked.sessions)
         (crate / "specs/Sessions.antt").write_text(text)
         text, answers = settings.instances(rng, compiled(scratch, "settings.c"), asked.settings)
         (crate / "specs/Settings.antt").write_text(text)
@@ -123,7 +160,10 @@ def main():
             sys.stderr.write(proved.stdout + proved.stderr)
             sys.exit(f"error: the definitions and the independent program differ; replay with --seed {asked.seed} "
                      f"--sessions {asked.sessions} --settings {asked.settings}")
-    print(f"definitions: {asked.sessions} sessions agree in every printed line and every word of the state")
+    print(f"definitions: {asked.sessions} sessions agree in every printed line and every word of the state; in them {neighbours} "
+          f"neighbours were written back, {at_none} at none")
+    if asked.sessions >= 100 and at_none == 0:
+        sys.exit(f"error: seed {asked.seed} never wrote a neighbour at none back")
     print(f"definitions: {asked.settings} settings read or written agree: {answers}")
 
 

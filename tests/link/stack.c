@@ -1,12 +1,13 @@
 /* How deep each call goes: it is made on a stack of its own that was painted before, and what is no longer paint was used.  No call may
- * go deeper than the header says (STACK_KIB, taken from it).  The node is small, so that writes drop entries and collect in both regions. */
+ * go deeper than the header says (STACK_KIB, taken from it).  The node is small and full, so that writes drop entries, with neighbours, and
+ * collect in both regions. */
 #define _XOPEN_SOURCE 700
 #include <stdbool.h>
 #include <stdio.h>
 #include <ucontext.h>
 #include "trianglefire.h"
 
-#define NODE 4, 2, 6, 8, 14, 2
+#define NODE 4, 2, 5, 3, 14, 4
 #define STATE                                                                                                             \
     chip, TF_CHIP_WORDS(NODE), spare, TF_SPARE_WORDS(NODE), directory, TF_DIRECTORY_WORDS(NODE), cache, TF_CACHE_WORDS(NODE), \
         record, TF_RECORD_WORDS
@@ -36,7 +37,6 @@ static void check(void)
 static void run(void)
 {
     refused |= tf_run(NODE, STATE, requests, REQUESTS * TF_WORDS_IN_REQUEST, data, REQUESTS * W, answers, REQUESTS, COUNTS) != TF_DONE;
-    erased |= counts[TF_COUNTS_ERASES] != 0;
 }
 
 static void write_all(void)

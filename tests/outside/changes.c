@@ -96,3 +96,18 @@ void changes_set(const struct changes *c, struct world *x, const uint32_t value[
         *row_word(x, c->at[i], &slice, &index) = value[i];
     }
 }
+
+bool fill_emptied(struct world *x, uint64_t seed)
+{
+    uint32_t used = x->slice[RECORD][4], from = random_below(&seed, x->c);
+    for (uint32_t i = 0; i < used; i++) {
+        uint32_t *entry = x->slice[CACHE] + (size_t)((from + i) % used) * 3;
+        if (entry[1] == NONE)
+            continue;
+        x->slice[SPARE][2 * (size_t)entry[1]] = 0;
+        entry[1] = NONE;
+        entry[2] = 1;
+        return true;
+    }
+    return false;
+}

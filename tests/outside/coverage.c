@@ -70,10 +70,16 @@ static bool has_empty_slice(const struct call *c)
     return false;
 }
 
+void coverage_before(struct coverage *v, const struct play *p, const struct step *step)
+{
+    neighbours_before(&v->neighbours, p, step);
+}
+
 void coverage_step(struct coverage *v, const struct play *p, const struct step *step)
 {
     if (!p->called) {
-        v->odd++;
+        v->odd += step->kind == ODD_WORDS;
+        v->emptied += p->emptied;
         look_at_region(v, &p->state[OF_ARCHIVE]);
         return;
     }
@@ -91,6 +97,7 @@ void coverage_step(struct coverage *v, const struct play *p, const struct step *
         v->broken[p->broken]++;
     v->still_sound += step->kind == CHANGED_WORD && p->reply == DONE && p->call.which != FORMAT;
     count_collections(v, p, step);
+    neighbours_after(&v->neighbours, p, step);
 }
 
 static const char *const reply_name[REPLIES] = {"DONE",    "UNWRITTEN", "GEOMETRY", "LENGTH",
@@ -110,9 +117,11 @@ void coverage_print(const struct coverage *v)
     tell_row("first rule broken", rule_name, v->broken, 1, RULES + 1);
     tell_row("sessions with", corner_name, v->corners, 0, CORNERS);
     printf("  changed words that left a sound state %" PRIu64 ", odd words %" PRIu64
+           ", entries emptied %" PRIu64
            "; writes that found the open block at offset P %" PRIu64
            "; calls with NULL, 0 %" PRIu64 "\n",
-           v->still_sound, v->odd, v->full_offset, v->null);
+           v->still_sound, v->odd, v->emptied, v->full_offset, v->null);
+    neighbours_print(&v->neighbours);
 }
 
 bool coverage_whole(const struct coverage *v)
@@ -144,6 +153,8 @@ bool coverage_whole(const struct coverage *v)
     whole &= tell_met("a collection of", "translation", v->collections[1]);
     whole &= tell_met("a changed word that leaves", "a sound state", v->still_sound);
     whole &= tell_met("words changed that", "no rule binds", v->odd);
+    whole &= tell_met("an entry set to", "none", v->emptied);
     whole &= tell_met("an empty slice as", "NULL, 0", v->null);
-    return whole & tell_met("a write at", "offset P", v->full_offset);
+    whole &= tell_met("a write at", "offset P", v->full_offset);
+    return whole & neighbours_whole(&v->neighbours);
 }

@@ -2,7 +2,7 @@
 #ifndef COVERAGE_H
 #define COVERAGE_H
 
-#include "play.h"
+#include "neighbours.h"
 
 enum { REGIONS = 2, RULES = 7 };
 
@@ -22,12 +22,16 @@ struct coverage {
     uint64_t erases;                   /* in runs */
     uint64_t full_offset;              /* writes that found the open block at offset P */
     uint64_t odd;                      /* times that words bound by no rule were changed */
+    uint64_t emptied;                  /* times that an entry was set to *none* */
     uint64_t null;                     /* calls with an empty slice given as NULL, 0 */
     uint64_t corners[CORNERS];         /* sessions by corner of the geometry */
     uint32_t open, offset, erased;     /* of the data region, as the step before left it */
+    struct neighbours neighbours;
 };
 
 void coverage_start(struct coverage *v, const struct play *p);
+/* Before and after each step; what was met is counted if the two sides agree in it. */
+void coverage_before(struct coverage *v, const struct play *p, const struct step *step);
 void coverage_step(struct coverage *v, const struct play *p, const struct step *step);
 void coverage_print(const struct coverage *v);
 /* False, with a line for each, if something was never met. */

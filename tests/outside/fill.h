@@ -19,6 +19,13 @@ void fill_call(struct call *c, const struct world state[2], const struct lent le
 struct changes fill_changes(const struct world *x, const struct step *step);
 void changes_set(const struct changes *c, struct world *x, const uint32_t value[MOST_CHANGES]);
 
+/*
+ * Sets a cached entry of a sound state to *none*, changed, and marks its page
+ * invalid: sound too, and a state that no call leaves.  False if no entry names a
+ * page.
+ */
+bool fill_emptied(struct world *x, uint64_t seed);
+
 /* A word of the five slices taken as one row: its slice and index there. */
 uint32_t *row_word(const struct world *x, size_t at, int *slice, size_t *index);
 

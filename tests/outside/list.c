@@ -44,8 +44,9 @@ static void list_step(const struct play *p, const struct step *step, size_t numb
 {
     const struct call *c = &p->call;
     printf("%5zu  ", number);
-    if (step->kind == ODD_WORDS) {
-        printf("words that no rule binds changed\n");
+    if (step->kind == ODD_WORDS || step->kind == EMPTIED) {
+        printf(step->kind == EMPTIED ? "a cached entry set to none, changed, and its page invalid\n"
+                                     : "words that no rule binds changed\n");
         return;
     }
     for (uint32_t i = 0; step->kind == CHANGED_WORD && i < p->changes.n; i++) {

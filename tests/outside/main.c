@@ -33,7 +33,7 @@ struct options {
 
 static uint32_t sessions_of(const struct options *o, int part)
 {
-    static const uint32_t usual[PARTS] = {6000, 300, 54, 2};
+    static const uint32_t usual[PARTS] = {6000, 300, 60, 2};
     uint32_t n = (uint32_t)((uint64_t)usual[part] * o->percent / 100);
     return n == 0 ? 1 : n;
 }
@@ -47,6 +47,7 @@ static bool play_counted(int part, uint64_t seed, uint32_t number, enum placing 
     bool agrees = play_start(&p, &s);
     coverage_start(v, &p);
     for (size_t i = 0; agrees && i < s.steps; i++) {
+        coverage_before(v, &p, &s.step[i]);
         agrees = play_step(&p, &s.step[i], true);
         if (agrees)
             coverage_step(v, &p, &s.step[i]);

@@ -13,6 +13,8 @@
 #define ind_sound tf_sound
 #define ind_step_read tf_step_read
 #define ind_step_write tf_step_write
+#define ind_rule tf_rule
+#define ind_translation_programs tf_translation_programs
 #define ind_settings_read tf_settings_read
 #define ind_settings_write tf_settings_write
 #define ind_settings_where tf_settings_where

@@ -140,22 +140,25 @@ static bool changed_word(struct play *p, const struct step *step, bool whole)
     return true;
 }
 
-/* On a sound state only: what a rule binds is followed to find what none does. */
-static void odd_words(struct play *p, const struct step *step)
+/* On a sound state only: what a rule binds is followed to find what may be changed. */
+static void change_soundly(struct play *p, const struct step *step)
 {
     fill_call(&p->call, p->state, sides(), &(struct step){CHECK, 0, step->seed, NULL});
     if (checked(&p->call) != DONE)
         return;
     for (int side = 0; side < 2; side++)
-        world_make_odd(&p->state[side], &(uint64_t){step->seed});
+        if (step->kind == EMPTIED)
+            p->emptied = fill_emptied(&p->state[side], step->seed);
+        else
+            world_make_odd(&p->state[side], &(uint64_t){step->seed});
 }
 
 bool play_step(struct play *p, const struct step *step, bool whole)
 {
-    p->called = false;
+    p->called = p->emptied = false;
     p->broken = -1;
-    if (step->kind == ODD_WORDS) {
-        odd_words(p, step);
+    if (step->kind == ODD_WORDS || step->kind == EMPTIED) {
+        change_soundly(p, step);
         return true;
     }
     if (step->kind == CHANGED_WORD)

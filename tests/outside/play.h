@@ -13,6 +13,7 @@ struct play {
     struct call call;       /* the last call */
     uint32_t reply;         /* what the independent program answered */
     bool called;            /* whether the last step made a call */
+    bool emptied;           /* whether it set an entry to *none* */
     struct changes changes; /* for CHANGED_WORD: what was changed */
     int broken;             /* the first rule that broke by it, where that was asked; else -1 */
     char text[160];         /* what differs, after a step that failed */

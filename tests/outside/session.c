@@ -10,6 +10,7 @@ static const uint32_t middle[][6] = {
     {64, 512, 4, 3, 191, 100}, {64, 1, 4, 5, 191, 64}, {16, 8, 20, 4, 300, 4096},
     {64, 5, 6, 4, 319, 50},    {64, 2, 3, 3, 127, 1},  {33, 9, 3, 2, 65, 7},
     {64, 1, 6, 6, 319, 200},   {13, 7, 9, 3, 100, 13}, {1, 3, 40, 14, 36, 5},
+    {32, 50, 8, 4, 220, 60},
 };
 
 /* As many words, and as many entries of the map, as there can be. */
@@ -37,7 +38,7 @@ static void choose_geometry(struct session *s, int part, uint32_t number, uint64
         s->g[i] = from[i];
 }
 
-static void add(struct session *s, int kind, uint32_t at, uint64_t *seed)
+void session_add(struct session *s, int kind, uint32_t at, uint64_t *seed)
 {
     s->step[s->steps++] = (struct step){kind, at, random_64(seed), NULL};
 }
@@ -68,8 +69,8 @@ static void add_any(struct session *s, int part, uint64_t *seed)
     } weights[] = {
         {WRITE, {440, 300, 100}},     {READ, {200, 150, 100}},       {RUN, {80, 250, 600}},
         {CHECK, {60, 50, 40}},        {OTHER_LENGTH, {40, 40, 40}},  {OTHER_GEOMETRY, {40, 40, 40}},
-        {TOO_MANY, {5, 5, 20}},       {CHANGED_WORD, {90, 120, 40}}, {ODD_WORDS, {42, 42, 20}},
-        {FORMAT, {3, 3, 0}},
+        {TOO_MANY, {5, 5, 20}},       {CHANGED_WORD, {90, 120, 40}}, {ODD_WORDS, {30, 30, 12}},
+        {EMPTIED, {12, 12, 8}},       {FORMAT, {3, 3, 0}},
     };
     int column = part == LARGEST ? 2 : part == MIDDLE;
     uint32_t left = random_below(seed, 1000), i = 0;
@@ -83,7 +84,7 @@ static void add_any(struct session *s, int part, uint64_t *seed)
         at = choose_records(s, part, seed);
     else if (kind == CHANGED_WORD)
         at = (uint32_t)random_64(seed);
-    add(s, kind, at, seed);
+    session_add(s, kind, at, seed);
 }
 
 /* Every word of the state changed in turn, those of the chip, which has the most, less often. */
@@ -104,9 +105,9 @@ static void add_changes(struct session *s, uint64_t *seed)
 {
     size_t chip = words_of_chip(s), others = words_of_others(s);
     for (size_t i = 0; i < chip * TIMES_CHIP; i++)
-        add(s, CHANGED_WORD, (uint32_t)(i / TIMES_CHIP), seed);
+        session_add(s, CHANGED_WORD, (uint32_t)(i / TIMES_CHIP), seed);
     for (size_t i = 0; i < others * TIMES_OTHERS; i++)
-        add(s, CHANGED_WORD, (uint32_t)(chip + i / TIMES_OTHERS), seed);
+        session_add(s, CHANGED_WORD, (uint32_t)(chip + i / TIMES_OTHERS), seed);
 }
 
 static int choose_start(int part, uint64_t *seed)
@@ -131,7 +132,7 @@ struct session session_make(int part, uint64_t seed, uint32_t number, enum placi
     REQUIRE(s.step != NULL);
     for (uint32_t i = 0; i < plain_steps[part]; i++) {
         if (s.start == ANY_WORDS && i == 10)
-            add(&s, FORMAT, 0, &own);
+            session_add(&s, FORMAT, 0, &own);
         add_any(&s, part, &own);
     }
     if (part == DAMAGE)

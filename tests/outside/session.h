@@ -15,6 +15,7 @@ enum {
     TOO_MANY,             /* a run of more than 1,024 records, whose lengths fit each other */
     CHANGED_WORD,         /* a word of the state changed, then a call */
     ODD_WORDS,            /* no call: words that no rule binds changed */
+    EMPTIED,              /* no call: a cached entry set to *none*, changed, and its page invalid */
 };
 
 /* One to three words of a state, taken as one row, with their values before and after. */
@@ -50,11 +51,15 @@ struct session {
 enum { SMALL, DAMAGE, MIDDLE, LARGEST, PARTS };
 extern const char *const part_name[PARTS];
 
+/* A further step, with a seed of its own drawn from `seed`. */
+void session_add(struct session *s, int kind, uint32_t at, uint64_t *seed);
+
 struct session session_make(int part, uint64_t seed, uint32_t number, enum placing placing);
 void session_free(struct session *s);
 
 /* session_bounds.c: the sessions of soak and bounds, whose requests are all good. */
 struct session session_bounds(uint32_t p, uint64_t seed);
+struct session session_bounds_together(uint32_t p, uint64_t seed);
 struct session session_soak(uint64_t seed, size_t calls);
 
 #endif

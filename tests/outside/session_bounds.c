@@ -13,6 +13,11 @@
  *   write          program                                                   1
  *
  * These are (2P+1)(P+1); a read is the first two and one read more, 2P+3.
+ *
+ * A neighbour written back costs nothing more, and the same is reached with one:
+ * W = C = 2, M = 3P-1 as before, and of the data region two pages are invalid,
+ * mostly in two blocks.  First the even pages are written and then the odd, and
+ * later even ones again, so that a block seldom has two of one translation page.
  */
 #include "session.h"
 
@@ -30,22 +35,42 @@ static struct session of_good_requests(const uint32_t g[6], uint64_t seed, size_
 
 struct session session_bounds(uint32_t p, uint64_t seed)
 {
-    enum { AFTERWARDS = 60 };
+    enum { AFTERWARDS = 120 };
     const uint32_t l = 3 * p - 1, g[6] = {p, 1, 4, 4, l, 1};
     struct session s = of_good_requests(g, seed, l + AFTERWARDS);
     for (uint32_t i = 0; i < l + AFTERWARDS; i++) {
         bool first = i < l;
         int kind = first || random_below(&seed, 2) ? WRITE : READ;
         uint32_t page = first ? i : random_below(&seed, l);
-        s.step[s.steps++] = (struct step){kind, page, random_64(&seed), NULL};
+        session_add(&s, kind, page, &seed);
     }
     return s;
 }
 
-/* A cache of two: entries follow moved pages with their rank kept.  Last, every page is read. */
+/* The third request of each round drops the entry of page 0, with page 1 for a neighbour. */
+struct session session_bounds_together(uint32_t p, uint64_t seed)
+{
+    enum { ROUNDS = 60 };
+    const uint32_t m = 3 * p - 1, l = 2 * m, g[6] = {p, 2, 7, 4, l, 2};
+    struct session s = of_good_requests(g, seed, l + ROUNDS * 3);
+    for (uint32_t i = 0; i < l; i++)
+        session_add(&s, WRITE, i % m * 2 + i / m, &seed);
+    for (uint32_t i = 0; i < ROUNDS; i++) {
+        session_add(&s, WRITE, 0, &seed);
+        session_add(&s, WRITE, 1, &seed);
+        session_add(&s, random_below(&seed, 2) ? WRITE : READ, 2 + 2 * random_below(&seed, m - 1),
+                    &seed);
+    }
+    return s;
+}
+
+/*
+ * A cache of three and two words a page: entries follow moved pages with their
+ * rank kept, and are written back together.  Last, every page is read.
+ */
 struct session session_soak(uint64_t seed, size_t calls)
 {
-    static const uint32_t g[6] = {4, 1, 4, 4, 11, 2};
+    static const uint32_t g[6] = {4, 2, 7, 4, 22, 3};
     struct session s = of_good_requests(g, seed, calls);
     s.placing = BEGINNING;
     while (s.steps < calls) {
@@ -55,7 +80,7 @@ struct session session_soak(uint64_t seed, size_t calls)
         uint32_t at = kind == RUN ? random_below(&seed, 8) : random_below(&seed, g[4]);
         if (last)
             kind = READ, at = (uint32_t)(calls - s.steps) - 1;
-        s.step[s.steps++] = (struct step){kind, at, random_64(&seed), NULL};
+        session_add(&s, kind, at, &seed);
     }
     return s;
 }

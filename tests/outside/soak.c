@@ -4,19 +4,24 @@
  */
 #include "soak.h"
 
-#include "play.h"
+#include "neighbours.h"
 #include "tell.h"
 
+#include <inttypes.h>
 #include <stdio.h>
 #include <string.h>
 
-enum { MOST_PAGES = 191, STATE_EVERY = 64 };
+enum { MOST_PAGES = 382, STATE_EVERY = 64 };
 
-/* The last word written to each page of one word, and the greatest costs seen. */
+/* Requests by whether they wrote neighbours back. */
+enum { ALONE, WITH_OTHERS };
+
+/* The first word last written to each page, and the greatest costs seen. */
 struct watch {
     bool written[MOST_PAGES];
     uint32_t word[MOST_PAGES];
-    uint32_t most_read, most_write;
+    uint32_t most_read[2], most_write[2];
+    struct neighbours neighbours;
 };
 
 static bool lost(struct play *p, uint32_t page)
@@ -43,12 +48,22 @@ static bool watch_run(struct watch *h, struct play *p)
 {
     const uint32_t *requests = play_slice(p, OF_ARCHIVE, REQUESTS);
     const uint32_t *data = play_slice(p, OF_ARCHIVE, DATA);
-    const uint32_t *answers = play_slice(p, OF_ARCHIVE, ANSWERS);
+    const uint32_t *answers = play_slice(p, OF_ARCHIVE, ANSWERS), w = p->call.g[1];
     for (size_t i = 0; i < p->call.n[ANSWERS]; i++)
         if (answers[i] <= UNWRITTEN &&
-            !watch_request(h, p, requests[2 * i], requests[2 * i + 1], answers[i], data[i]))
+            !watch_request(h, p, requests[2 * i], requests[2 * i + 1], answers[i], data[i * w]))
             return false;
     return true;
+}
+
+static uint32_t read_bound(uint32_t pages)
+{
+    return 2 * pages + 3;
+}
+
+static uint32_t write_bound(uint32_t pages)
+{
+    return (2 * pages + 1) * (pages + 1);
 }
 
 static bool watch_cost(struct watch *h, struct play *p)
@@ -56,10 +71,11 @@ static bool watch_cost(struct watch *h, struct play *p)
     const uint32_t *counts = play_slice(p, OF_ARCHIVE, COUNTS);
     uint32_t cost = counts[0] + counts[1] + counts[2], pages = p->call.g[0];
     bool write = p->call.which == WRITE;
-    uint32_t *most = write ? &h->most_write : &h->most_read;
-    uint32_t bound = write ? (2 * pages + 1) * (pages + 1) : 2 * pages + 3;
-    if (cost > *most)
-        *most = cost;
+    uint32_t *most = write ? h->most_write : h->most_read;
+    uint32_t bound = write ? write_bound(pages) : read_bound(pages);
+    int by = h->neighbours.bits >> TOGETHER & 1 ? WITH_OTHERS : ALONE;
+    if (cost > most[by])
+        most[by] = cost;
     if (cost <= bound)
         return true;
     snprintf(p->text, sizeof p->text, "%s: costs %u, more than %u", call_name[p->call.which], cost,
@@ -88,7 +104,11 @@ static bool play_watched(const struct session *s, struct watch *h, struct play *
         return false;
     for (size_t i = 0; i < s->steps; i++) {
         bool whole = i % STATE_EVERY == 0 || i + 1 == s->steps;
-        if (!play_step(p, &s->step[i], whole) || !watch_step(h, p))
+        neighbours_before(&h->neighbours, p, &s->step[i]);
+        if (!play_step(p, &s->step[i], whole))
+            return false;
+        neighbours_after(&h->neighbours, p, &s->step[i]);
+        if (!watch_step(h, p))
             return false;
         ++*calls;
         if (progress != NULL)
@@ -106,10 +126,32 @@ bool soak(uint64_t seed, size_t calls)
     bool good = play_watched(&s, &h, &p, &played, "soak: calls");
     if (good)
         printf("soak: %zu calls on one chip, nothing lost; most for a read %u of %u, for a write "
-               "%u of %u\n",
-               played, h.most_read, 2 * s.g[0] + 3, h.most_write, (2 * s.g[0] + 1) * (s.g[0] + 1));
+               "%u of %u; of %" PRIu64 " that wrote neighbours back %u and %u\n",
+               played, h.most_read[ALONE], read_bound(s.g[0]), h.most_write[ALONE],
+               write_bound(s.g[0]), h.neighbours.met[TOGETHER], h.most_read[WITH_OTHERS],
+               h.most_write[WITH_OTHERS]);
     else
         tell_failure("soak", seed, 0, played + 1, &s, p.text);
+    session_free(&s);
+    return good;
+}
+
+/* A session whose requests, of this sort, must reach the bounds; the calls it made are added. */
+static bool reach_bounds(struct session s, int by, uint64_t seed, size_t *calls)
+{
+    const uint32_t pages = s.g[0];
+    struct watch h;
+    struct play p;
+    size_t played;
+    bool good = play_watched(&s, &h, &p, &played, NULL);
+    if (good && (h.most_read[by] != read_bound(pages) || h.most_write[by] != write_bound(pages))) {
+        snprintf(p.text, sizeof p.text, "P=%u%s: most for a read %u, for a write %u", pages,
+                 by == WITH_OTHERS ? " with neighbours" : "", h.most_read[by], h.most_write[by]);
+        good = false;
+    }
+    *calls += played;
+    if (!good)
+        tell_failure("bounds", seed, pages, *calls + 1, &s, p.text);
     session_free(&s);
     return good;
 }
@@ -118,27 +160,13 @@ bool bounds(uint64_t seed)
 {
     size_t calls = 0;
     for (uint32_t pages = 1; pages <= 64; pages++) {
-        struct session s = session_bounds(pages, seed + pages);
-        struct watch h;
-        struct play p;
-        size_t played;
-        bool good = play_watched(&s, &h, &p, &played, NULL);
-        if (good && (h.most_read != 2 * pages + 3 ||
-                     h.most_write != (2 * pages + 1) * (pages + 1))) {
-            snprintf(p.text, sizeof p.text, "P=%u: most for a read %u, for a write %u", pages,
-                     h.most_read, h.most_write);
-            good = false;
-        }
-        calls += played;
-        if (!good)
-            tell_failure("bounds", seed, pages, calls + 1, &s, p.text);
-        session_free(&s);
-        if (!good)
+        if (!reach_bounds(session_bounds(pages, seed + pages), ALONE, seed, &calls) ||
+            !reach_bounds(session_bounds_together(pages, seed + pages), WITH_OTHERS, seed, &calls))
             return false;
         tell_progress("bounds: P", pages, 64);
     }
     printf("bounds: for every P from 1 to 64 the most for a read is 2P+3 and for a write "
-           "(2P+1)(P+1), both reached (%zu calls)\n",
+           "(2P+1)(P+1), both reached, also where neighbours are written back (%zu calls)\n",
            calls);
     return true;
 }
