@@ -29,27 +29,10 @@ fn of_page(g: Geometry, t: u32, i: usize, cache: &[u32]) -> usize
     if behind < g.w { 1 } else { 0 }
 }
 
-// How many of the four entries from rank i on are.
-fn four_of_page(g: Geometry, t: u32, i: usize, cache: &[u32]) -> usize
-    requires { ⌜ Of-pages (geometry g) t × ((i + 4) * entry-words ≤ length (now cache)) ⌝ }
-    ensures { λ r. ⌜ r ≡ count 4 (λ k. of-page-at (geometry g) t (now (cache .entry)) (i + k)) ⌝ }
+// Whether all four numbers are 0.
+fn none(a: usize, b: usize, c: usize, d: usize) -> bool
+    ensures { λ r. ⌜ (r ≡ true → (a ≡ 0) × (b ≡ 0) × (c ≡ 0) × (d ≡ 0)) ⌝ }
 {
-    let a = of_page(g, t, i, cache);
-    let b = of_page(g, t, i + 1, cache);
-    let c = of_page(g, t, i + 2, cache);
-    let d = of_page(g, t, i + 3, cache);
-    a + b + c + d
-}
-
-// Whether none of them is, which is so of most: all four are read before the first is looked at.
-fn none_of_page(g: Geometry, t: u32, i: usize, cache: &[u32]) -> bool
-    requires { ⌜ Of-pages (geometry g) t × ((i + 4) * entry-words ≤ length (now cache)) ⌝ }
-    ensures { λ r. ⌜ (r ≡ true → count 4 (λ k. of-page-at (geometry g) t (now (cache .entry)) (i + k)) ≡ 0) ⌝ }
-{
-    let a = of_page(g, t, i, cache);
-    let b = of_page(g, t, i + 1, cache);
-    let c = of_page(g, t, i + 2, cache);
-    let d = of_page(g, t, i + 3, cache);
     if a != 0 {
         return false;
     }
@@ -80,7 +63,8 @@ fn set_if_changed(g: Geometry, q: u32, t: u32, i: usize, cache: &mut [u32], chip
     cache[i * ENTRY_WORDS + 2] = 0;
 }
 
-// The four from rank i on. How many entries of the page were met is handed back, those before with these.
+// The four from rank i on. How many entries of the page were met is handed back, those before with these. Most often none of the four is, so
+// that all are read before the first is looked at.
 fn set_four(
     met: usize,
     g: Geometry,
@@ -96,15 +80,18 @@ fn set_four(
     ensures { λ r. ⌜ r ≡ met + count 4 (λ k. of-page-at (geometry g) t (now (cache .entry)) (i + k)) ⌝ }
     ensures { λ _. ⌜ Looks-at (geometry g) q t i (i + 4) (now (cache .entry)) (now (chip .entry)) (now (cache .exit)) (now (chip .exit)) ⌝ }
 {
-    if none_of_page(g, t, i, cache) {
+    let a = of_page(g, t, i, cache);
+    let b = of_page(g, t, i + 1, cache);
+    let c = of_page(g, t, i + 2, cache);
+    let d = of_page(g, t, i + 3, cache);
+    if none(a, b, c, d) {
         return met;
     }
-    let more = four_of_page(g, t, i, cache);
     set_if_changed(g, q, t, i + 3, cache, chip);
     set_if_changed(g, q, t, i + 2, cache, chip);
     set_if_changed(g, q, t, i + 1, cache, chip);
     set_if_changed(g, q, t, i, cache, chip);
-    met + more
+    met + a + b + c + d
 }
 
 // All of the first n. A page has no more entries than words: once so many were met the others are of other pages.
