@@ -40,6 +40,7 @@ module _ (g : Geometry) (t : ℕ) (cache : List ℕ) where
         of-t = ap (translation-page g) (sym is-l) ∙ eqb-true (translation-page g (logical-at i cache)) t of-t;
       }
 
+  -- The test, by the entry's page.
   pub test-of-page : (i : ℕ) → translation-page g (logical-at i cache) ≡ t → is-changed-of g t i cache ≡ is-changed i cache
   test-of-page i of-t = rw (eq-eqb (translation-page g (logical-at i cache)) t of-t) (and-passed (is-changed i cache))
 
@@ -47,6 +48,7 @@ module _ (g : Geometry) (t : ℕ) (cache : List ℕ) where
   test-of-other i other =
       rw (ne-eqb (translation-page g (logical-at i cache)) t other) (on (is-changed i cache) (λ e. rw e refl) (λ e. rw e refl))
 
+  -- One entry more.
   pub changed-more : (n : ℕ) → is-changed-of g t n cache ≡ true → changed-of g t (suc n) cache ≡ mapping-at n cache ∷ changed-of g t n cache
   unfolding changed-of
   changed-more n e = rw e refl
@@ -135,7 +137,7 @@ module _ (g : Geometry) (t : ℕ) (cache : List ℕ) where
       let before = none-changed n (λ i h. none i (omega arith)) in
       (rw (none n (omega arith)) (before .0), rw (none n (omega arith)) (before .1))
 
-  -- That one is 0 where the entry was changed and of the page.
+  -- The third word of an entry is 0 where it was changed and of the page.
   pub changed-then : (n i : ℕ) → i < n → n * entry-words ≤ length cache
       → changed-at i (unchanged-of g t n cache) ≡ cond (is-changed-of g t i cache) 0 (changed-at i cache)
   unfolding unchanged-of

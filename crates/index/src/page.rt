@@ -1,5 +1,5 @@
-// A translation page updated, in the parts that one mapping and all that waits have in common: what comes before the words are set in the
-// new page, and what comes after.
+// A translation page updated, in the parts that its changed entries and all that waits have in common: what comes before the words are set in
+// the new page, and what comes after.
 use crate::room::room;
 use lent::Geometry;
 use lent::Region;

@@ -1,4 +1,5 @@
--- 01's cache: its words, and its order behind a few definitions: what is dropped, where a found and where a new entry goes.
+-- 01's cache: its words, and its order behind a few definitions: what is dropped, where a found and where a new entry goes; and the entries
+-- that 02's P2 writes back with a dropped one.
 -- "Replacement is least recently used, as in source 003." Translate knows no more of the order than what stands here.
 use Prim.Native.Nat.{ℕ, zero, suc, _+_, _*_, _-_}
 use mathlib.Core.Bool.{Bool, cond, _&&_}

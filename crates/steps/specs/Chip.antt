@@ -172,17 +172,13 @@ begun-is g r {q = q} {chip = chip} {w = w} e is-next stored kept counting =
       counting = counting ∙ (rw e refl);
     }
 
--- No word set; one more set in a page that is stored at q.
-pub no-word-set : (g : Geometry) (words : List ℕ) → set-words g [] words ≡ words
-unfolding set-words
-no-word-set g words = refl
-
 set-words-snoc : (g : Geometry) (ms : List Mapping) (m : Mapping) (words : List ℕ)
     → set-words g (ms ++ m ∷ []) words ≡ set (set-words g ms words) (translation-word g (m .logical)) (m .physical)
 unfolding set-words
 set-words-snoc g [] m words = refl
 set-words-snoc g (x ∷ ms) m words = set-words-snoc g ms m (set words (translation-word g (x .logical)) (x .physical))
 
+-- One more word set in a page that is stored at q.
 pub one-word-set : (g : Geometry) (q : ℕ) (ms : List Mapping) (m : Mapping) (chip₀ words : List ℕ) {chip chip′ : List ℕ}
     → 1 ≤ g .W → length (set-words g ms words) ≡ g .W → chip ≡ sets chip₀ (q * g .W) (set-words g ms words)
     → chip′ ≡ set chip (q * g .W + translation-word g (m .logical)) (m .physical)
