@@ -148,11 +148,15 @@ static bool entry_fits(struct survey *y, const uint32_t *entry)
     return true;
 }
 
-/* Rule 5, and what the cache says of rules 6 and 7. */
+/*
+ * Rule 5, with P5's "at most C/2 and at most the used ones" of the protected
+ * entries, and what the cache says of rules 6 and 7.
+ */
 static bool cache_fits(struct survey *y)
 {
     uint32_t used = y->v->record[IND_USED];
-    if (used > y->g->c)
+    uint32_t protected = y->v->record[IND_PROTECTED];
+    if (used > y->g->c || protected > y->g->c / 2 || protected > used)
         return false;
     memset(y->s->cached, 0, (y->g->l + 31) / 32 * sizeof *y->s->cached);
     for (uint32_t rank = 0; rank < used; rank++)

@@ -28,7 +28,7 @@ enum {
 
 /* Places in the small record, in its order; a region's two are adjacent. */
 enum { IND_DATA = 0, IND_TRANSLATION = 1, IND_REGIONS = 2 };
-enum { IND_USED = 4, IND_RECORD_WORDS = 5 };
+enum { IND_USED = 4, IND_PROTECTED = 5, IND_RECORD_WORDS = 6 };
 #define IND_OPEN(region) (2 * (region))
 #define IND_NEXT(region) (2 * (region) + 1)
 
@@ -142,6 +142,18 @@ bool ind_lengths_fit(const struct ind_geometry *g, const struct ind_lengths *n);
 
 /* ind_check.c: whether all seven rules hold; the summary is filled if so. */
 bool ind_sound(const struct ind_geometry *g, const struct ind_view *v, struct ind_summary *s);
+
+/*
+ * ind_steps.c.  Update translation page t, all but "set the words": that is left
+ * to the caller, in the words handed back.
+ */
+uint32_t *ind_update(struct ind_work *k, uint32_t t);
+
+/*
+ * ind_cache.c.  Translate l: its entry, which stays at its rank until the next
+ * translation.
+ */
+uint32_t *ind_translate(struct ind_work *k, uint32_t l);
 
 /* ind_steps.c: the steps of a sound state for a page below l; the reply number. */
 uint32_t ind_step_read(struct ind_work *k, uint32_t l, uint32_t *buffer);

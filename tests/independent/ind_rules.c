@@ -133,8 +133,8 @@ static bool rule_4(struct rules *r)
 
 static bool rule_5(struct rules *r)
 {
-    uint32_t used = r->v.record[IND_USED];
-    if (used > r->g.c)
+    uint32_t used = r->v.record[IND_USED], protected = r->v.record[IND_PROTECTED];
+    if (used > r->g.c || protected > r->g.c / 2 || protected > used)
         return fails_at(r, r->g.c);
     for (uint32_t l = 0; l < r->g.l; l++)
         r->rank_of[l] = IND_NONE;

@@ -1,7 +1,7 @@
 /*
- * The steps: translate, update a translation page, make room, collect, read and
- * write.  They start from a sound state, so every page number they meet is in
- * range and every region has room; they keep the summary as they go.
+ * The steps on pages and blocks: update a translation page, make room, collect,
+ * read and write.  They start from a sound state, so every page number they meet
+ * is in range and every region has room; they keep the summary as they go.
  */
 #include "ind_internal.h"
 
@@ -104,6 +104,7 @@ static void copy_valid_pages(struct ind_work *k, int region, uint32_t victim,
         if (spare[0] != IND_VALID)
             continue;
         k->reads++;
+        ind_translation_reads += region == IND_TRANSLATION;
         moved_to[i] = program(k, region, spare[1]);
         memcpy(ind_page_words(k, moved_to[i]), ind_page_words(k, first + i), ind_page_bytes(k));
         mark_invalid(k, first + i);
@@ -124,11 +125,10 @@ static void collect_translation(struct ind_work *k)
 }
 
 /*
- * Update translation page t, all but "set the words": that is left to the caller,
- * in the words handed back.  Room is made first, since that may move the page the
- * directory names.  A page that begins "with W times *none*" is one still erased.
+ * Room is made first, since that may move the page the directory names.  A page
+ * that begins "with W times *none*" is one still erased.
  */
-static uint32_t *update(struct ind_work *k, uint32_t t)
+uint32_t *ind_update(struct ind_work *k, uint32_t t)
 {
     if (!room_without_collecting(k, IND_TRANSLATION))
         collect_translation(k);
@@ -137,6 +137,7 @@ static uint32_t *update(struct ind_work *k, uint32_t t)
     uint32_t *words = ind_page_words(k, page);
     if (former != IND_NONE) {
         k->reads++;
+        ind_translation_reads++;
         memcpy(words, ind_page_words(k, former), ind_page_bytes(k));
         mark_invalid(k, former);
     }
@@ -184,7 +185,7 @@ static void follow_in_flash(struct ind_work *k, uint32_t first, const uint32_t m
     }
     for (uint32_t i = 0; i < n;) {
         uint32_t t = moves[i].t;
-        uint32_t *words = update(k, t);
+        uint32_t *words = ind_update(k, t);
         for (; i < n && moves[i].t == t; i++)
             words[moves[i].index] = moves[i].place;
     }
@@ -202,105 +203,32 @@ static void collect_data(struct ind_work *k)
     erase(k, IND_DATA, victim);
 }
 
-/* Puts an entry in front, moving those of the ranks before `rank` one back. */
-static void put_in_front(struct ind_work *k, uint32_t rank, uint32_t l, uint32_t place,
-                         uint32_t changed)
-{
-    memmove(k->cache + 3, k->cache, (size_t)rank * 3 * sizeof *k->cache);
-    k->cache[0] = l;
-    k->cache[1] = place;
-    k->cache[2] = changed;
-}
-
-/*
- * P2: "all changed cached entries of the same translation page are to be set in
- * that one update and become unchanged, ranks kept", the dropped one among them.
- * Unchanged ones need no test: by rule 7 their words are their places already.
- * The pass begins at the last entry and ends at the foremost of the page.
- */
-static void set_neighbours(struct ind_work *k, uint32_t *words, uint32_t first)
-{
-    uint32_t w = k->g.w, end = first + w < k->g.l ? first + w : k->g.l;
-    uint32_t *entry = k->cache + (size_t)k->g.c * 3;
-    for (uint32_t left = ind_cached_among(&k->s, first, end); left > 0;) {
-        entry -= 3;
-        uint32_t i = entry[0] - first; /* wraps, and so is W or more, if before the page */
-        if (i >= w)
-            continue;
-        words[i] = entry[1];
-        entry[2] = 0;
-        left--;
-    }
-}
-
-/*
- * "if all C entries are used, drop the last; if it is changed, first write it
- * back: update its translation page", and before P2 "with that one entry".
- */
-static void drop_last(struct ind_work *k)
-{
-    const uint32_t *entry = k->cache + (size_t)(k->g.c - 1) * 3;
-    if (entry[2] == 1) {
-        uint32_t t = entry[0] / k->g.w, first = t * k->g.w;
-        uint32_t *words = update(k, t);
-        if (ind_rule == IND_NEIGHBOURS)
-            set_neighbours(k, words, first);
-        else
-            words[entry[0] - first] = entry[1];
-    }
-    ind_clear_cached(&k->s, entry[0]);
-    k->record[IND_USED]--;
-}
-
-/* Translate l: afterwards its entry is in front. */
-static void translate(struct ind_work *k, uint32_t l)
-{
-    if (ind_is_cached(&k->s, l)) {
-        uint32_t rank = 0;
-        while (k->cache[(size_t)rank * 3] != l)
-            rank++;
-        const uint32_t *entry = k->cache + (size_t)rank * 3;
-        put_in_front(k, rank, l, entry[1], entry[2]);
-        return;
-    }
-    if (k->record[IND_USED] == k->g.c)
-        drop_last(k);
-    /* "if l's translation page exists, read it and take the word; else *none*" */
-    uint32_t place = IND_NONE;
-    uint32_t named = k->directory[l / k->g.w];
-    if (named != IND_NONE) {
-        k->reads++;
-        place = ind_page_words(k, named)[l % k->g.w];
-    }
-    put_in_front(k, k->record[IND_USED]++, l, place, 0);
-    ind_set_cached(&k->s, l);
-}
-
 /* "translate; *none* answers UNWRITTEN; else read the page." */
 uint32_t ind_step_read(struct ind_work *k, uint32_t l, uint32_t *buffer)
 {
-    translate(k, l);
-    if (k->cache[1] == IND_NONE)
+    const uint32_t *entry = ind_translate(k, l);
+    if (entry[1] == IND_NONE)
         return IND_UNWRITTEN;
     k->reads++;
-    memcpy(buffer, ind_page_words(k, k->cache[1]), ind_page_bytes(k));
+    memcpy(buffer, ind_page_words(k, entry[1]), ind_page_bytes(k));
     return IND_DONE;
 }
 
 /*
  * "mark invalid the page that the cached entry names now": after room is made,
- * since a collection may have moved it.
+ * since a collection may have moved it.  The entry itself stays where it is, as
+ * a collection keeps ranks.
  */
 uint32_t ind_step_write(struct ind_work *k, uint32_t l, const uint32_t *buffer)
 {
-    translate(k, l);
+    uint32_t *entry = ind_translate(k, l);
     if (!room_without_collecting(k, IND_DATA))
         collect_data(k);
     uint32_t page = program(k, IND_DATA, l);
     memcpy(ind_page_words(k, page), buffer, ind_page_bytes(k));
-    if (k->cache[1] != IND_NONE)
-        mark_invalid(k, k->cache[1]);
-    k->cache[1] = page;
-    k->cache[2] = 1;
+    if (entry[1] != IND_NONE)
+        mark_invalid(k, entry[1]);
+    entry[1] = page;
+    entry[2] = 1;
     return IND_DONE;
 }

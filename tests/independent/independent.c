@@ -11,7 +11,9 @@
 enum { COUNTS_WORDS = 3 };
 
 enum ind_rule ind_rule = IND_NEIGHBOURS;
+enum ind_order ind_order = IND_SEGMENTED;
 uint64_t ind_translation_programs = 0;
+uint64_t ind_translation_reads = 0;
 
 /* The counts are written in every answer if their slice has three words. */
 static uint32_t answer(uint32_t reply, uint32_t reads, uint32_t programs, uint32_t erases,
@@ -73,6 +75,7 @@ uint32_t ind_format(uint32_t p, uint32_t w, uint32_t d, uint32_t t, uint32_t l, 
     record[IND_OPEN(IND_TRANSLATION)] = d;
     record[IND_NEXT(IND_TRANSLATION)] = 0;
     record[IND_USED] = 0;
+    record[IND_PROTECTED] = 0;
     return answer(IND_DONE, 0, 0, d + t, counts, counts_n);
 }
 

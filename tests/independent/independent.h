@@ -5,14 +5,15 @@
  * Every slice is a pointer to 32-bit words followed by its count of words (bytes
  * in the settings record); an empty slice may come as NULL, 0.  Slices do not
  * overlap.  The whole state is the lent memory: nothing else is kept between calls
- * but the two variables for studies.
+ * but the four variables for studies.
  *
  * The geometry is six numbers: p pages in a block, w words in a page, d data
  * blocks, t translation blocks, l logical pages, c cache entries.
  *
  * The lent state is five slices: chip, spare (two words a page), directory,
- * cache (three words an entry) and record (five words: open data block, its
- * next offset, open translation block, its next offset, used cache entries).
+ * cache (three words an entry) and record (six words: open data block, its next
+ * offset, open translation block, its next offset, used cache entries, protected
+ * cache entries).
  *
  * `counts` takes three words: reads, programs, erases.  With any other length
  * nothing is written there; with three they are written in every answer.
@@ -84,7 +85,8 @@ uint32_t ind_run(uint32_t p, uint32_t w, uint32_t d, uint32_t t, uint32_t l, uin
  *             of range, or if its region has no erased block besides it; else
  *             the block whose pages are wrong
  *   rule 4    the translation page number
- *   rules 5, 7  the cache rank (c if too many entries are said to be used)
+ *   rules 5, 7  the cache rank (c if too many entries are said to be used or
+ *             protected)
  *   rule 6    the logical page (l or more for a word past the last)
  * It keeps about 770 KiB of scratch on the stack.
  */
@@ -98,13 +100,23 @@ int ind_first_broken_rule(uint32_t p, uint32_t w, uint32_t d, uint32_t t, uint32
 /*
  * For studies of the rules, not for a recorder.  ind_rule says by which rule a
  * dropped entry is written back: P2's, all changed entries of its translation
- * page together, or 01's as it stood before P2, that one entry.  And the
- * translation pages programmed by all calls, whoever made them, which a call's
- * counts don't tell from data pages: set it to 0 to begin anew.
+ * page together, or 01's as it stood before P2, that one entry.
+ *
+ * ind_order says how the cache is kept: as P5 has it, in a protected and a trial
+ * part, or as 01 had it before, plain least recently used: hit or miss, the entry
+ * goes in front, and the record's number of protected entries is left as it is, 0
+ * from a format on.  What a sound state is doesn't go by ind_order.
+ *
+ * And the programs and the reads of translation pages by all calls, whoever made
+ * them, which a call's counts don't tell from those of data pages: set them to 0
+ * to begin anew.
  */
 enum ind_rule { IND_NEIGHBOURS, IND_ONE_ENTRY };
 extern enum ind_rule ind_rule; /* IND_NEIGHBOURS at the start */
+enum ind_order { IND_SEGMENTED, IND_PLAIN };
+extern enum ind_order ind_order; /* IND_SEGMENTED at the start */
 extern uint64_t ind_translation_programs;
+extern uint64_t ind_translation_reads;
 
 /* The answers of the settings record, tried in this order but for PLACE. */
 enum {

@@ -1,6 +1,6 @@
 /*
  * The self-test: the session in full with the state it leaves, the six marked
- * cases, drops made by hand, the random parts, then the settings record.  Usage:
+ * cases, states made by hand, the random parts, then the settings record.  Usage:
  * selftest [seed [effort]]; the seed is 1 and the effort 1 by default, so that a
  * plain run is always the same.
  */
@@ -57,12 +57,12 @@ static void session_state(const struct world *x)
                               n, n, n, n, 0, 0, v, 1, 0, 0, v, 0};
     const uint32_t chip[] = {14, 14, 15, 15, 12, 12, 13, 13, n, n, n, n,
                              n,  n,  n,  n,  2,  1,  3,  n,  2, 5, 2, 0};
-    const uint32_t directory[] = {11, 9}, cache[] = {0, 1, 1}, record[] = {0, 2, 5, 2, 1};
+    const uint32_t directory[] = {11, 9}, cache[] = {0, 1, 1}, record[] = {0, 2, 5, 2, 1, 0};
     REQUIRE(same(x->slice[CHIP], chip, 24));
     REQUIRE(same(x->slice[SPARE], spare, 24));
     REQUIRE(same(x->slice[DIRECTORY], directory, 2));
     REQUIRE(same(x->slice[CACHE], cache, 3));
-    REQUIRE(same(x->slice[RECORD], record, 5));
+    REQUIRE(same(x->slice[RECORD], record, 6));
 }
 
 /* Single words changed in that state: the first rule broken, and where. */
@@ -80,6 +80,7 @@ static void broken_rules(struct world *x)
         {DIRECTORY, 1, NONE, 4, 1},    {RECORD, 4, 2, 5, 1},   {CACHE, 2, 2, 5, 0},
         {CACHE, 1, NONE, 6, 0},        {CHIP, 19, 0, 6, 3},    {CACHE, 2, 0, 7, 0},
         {CHIP, 22, 77, 0, 0},          {CHIP, 16, 77, 0, 0},   {RECORD, 0, 1, 0, 0},
+        {RECORD, 5, 1, 5, 1},          {RECORD, 5, NONE, 5, 1}, {RECORD, 4, 0, 5, 0},
     };
     for (size_t i = 0; i < sizeof cases / sizeof *cases; i++) {
         uint32_t *word = &x->slice[cases[i].slice][cases[i].index];
@@ -99,95 +100,44 @@ static void marked_cases(struct world *x)
 {
     uint32_t counts[3] = {7, 7, 7}, buffer[2] = {5, 6};
     const uint32_t cache[] = {2, NONE, 0};
-    uint32_t chip[12], spare[12], directory[1], own_cache[3], record[5];
+    uint32_t chip[12], spare[12], directory[1], own_cache[3], record[6];
     REQUIRE(ind_format(2, 2, 3, 3, 4, 1, STATE_OF(x), counts, 3) == IND_GEOMETRY);
     REQUIRE(ind_format(2, 2, 3, 3, 0, 1, STATE_OF(x), counts, 3) == IND_GEOMETRY);
     REQUIRE(ind_format(2, 2, 3, 2, 3, 1, STATE_OF(x), counts, 3) == IND_GEOMETRY);
     REQUIRE(counts[0] == 0 && counts[1] == 0 && counts[2] == 0);
-    REQUIRE(ind_format(1, 2, 3, 3, 1, 1, chip, 12, spare, 12, directory, 1, own_cache, 3, record, 5,
+    REQUIRE(ind_format(1, 2, 3, 3, 1, 1, chip, 12, spare, 12, directory, 1, own_cache, 3, record, 6,
                        counts, 3) == IND_DONE);
     REQUIRE(ind_format(GEOMETRY_OF(x), STATE_OF(x), counts, 3) == IND_DONE);
     REQUIRE(ind_read(GEOMETRY_OF(x), 3, STATE_OF(x), buffer, 2, counts, 3) == IND_PAGE);
     REQUIRE(ind_read(GEOMETRY_OF(x), 2, STATE_OF(x), buffer, 2, counts, 3) == IND_UNWRITTEN);
     REQUIRE(counts[0] == 0 && counts[1] == 0 && counts[2] == 0);
-    REQUIRE(same(x->slice[CACHE], cache, 3) && x->slice[RECORD][4] == 1);
+    REQUIRE(same(x->slice[CACHE], cache, 3));
+    REQUIRE(x->slice[RECORD][4] == 1 && x->slice[RECORD][5] == 0);
     REQUIRE(buffer[0] == 5 && buffer[1] == 6);
 }
 
-static const char *const met_names[MET_KINDS] = {
-    [MET_ALONG] = "neighbours along",
-    [MET_AT_NONE] = "of them at none",
-    [MET_UNCHANGED] = "left unchanged",
-    [MET_CHANGED] = "left changed",
-    [MET_ELSEWHERE] = "changed of another page",
-    [MET_COLLECTED] = "collected first",
-    [MET_FIRST] = "page didn't exist",
-    [MET_FULL_READ] = "reads at their full bound",
-    [MET_FULL_WRITE] = "writes",
-};
-
-/*
- * What stood beside the dropped entries.  By P2 no changed neighbour is left, by
- * the rule before it none goes along; what else was never met is a failure.
- */
-static void require_met(const struct coverage *seen)
+/* With a cache of one entry the rules are one, and so are the orders. */
+static void session_by_all(struct world *x)
 {
-    for (int rule = IND_NEIGHBOURS; rule <= IND_ONE_ENTRY; rule++) {
-        printf("written back by %s:", rule == IND_NEIGHBOURS ? "P2" : "01 before P2");
-        for (int kind = 0; kind < MET_KINDS; kind++) {
-            bool never = rule == IND_NEIGHBOURS ? kind == MET_CHANGED
-                                                : kind == MET_ALONG || kind == MET_AT_NONE;
-            printf("%s %s %llu", kind > 0 ? "," : "", met_names[kind],
-                   (unsigned long long)seen->met[rule][kind]);
-            snprintf(test_context, sizeof test_context, "rule %d, met: %s", rule,
-                     met_names[kind]);
-            REQUIRE((seen->met[rule][kind] == 0) == never);
-        }
-        printf("\n");
-    }
-}
-
-static void print_coverage(const struct coverage *seen)
-{
-    printf("calls %llu, runs %llu, unwritten reads %llu, erases %llu\n",
-           (unsigned long long)seen->calls, (unsigned long long)seen->runs,
-           (unsigned long long)seen->unwritten, (unsigned long long)seen->erases);
-    printf("programs %llu, of data pages %llu by writes, %llu by collections\n",
-           (unsigned long long)seen->programs, (unsigned long long)seen->host,
-           (unsigned long long)seen->copied);
-    printf("writes at their full bound %llu, reads %llu\n",
-           (unsigned long long)seen->full_bound_writes,
-           (unsigned long long)seen->full_bound_reads);
-    printf("states corrupted %llu, verdicts compared %llu, still sound %llu\nfirst broken rule:",
-           (unsigned long long)seen->states, (unsigned long long)seen->corruptions,
-           (unsigned long long)seen->broken[0]);
-    for (int rule = 1; rule <= 7; rule++)
-        printf(" %d: %llu", rule, (unsigned long long)seen->broken[rule]);
-    printf("\nsettings written %llu, not written %llu; records read by answer:",
-           (unsigned long long)seen->writes[0], (unsigned long long)seen->writes[1]);
-    for (int answer = 0; answer <= 6; answer++)
-        printf(" %d: %llu", answer, (unsigned long long)seen->records[answer]);
-    printf("\n");
-}
-
-/* With a cache of one entry the rules are one. */
-static void session_by_both(struct world *x)
-{
-    for (int rule = IND_ONE_ENTRY; rule >= IND_NEIGHBOURS; rule--) {
-        ind_rule = (enum ind_rule)rule;
+    for (int i = 3; i >= 0; i--) {
+        ind_rule = i % 2 == 0 ? IND_NEIGHBOURS : IND_ONE_ENTRY;
+        ind_order = i / 2 == 0 ? IND_SEGMENTED : IND_PLAIN;
         session_lines(x);
         session_state(x);
     }
 }
 
-static void sessions_by_both(uint64_t base, uint32_t effort, struct coverage *seen)
+/* Fewer sessions by the rules and orders of before, the last ones by those of now. */
+static void sessions_by_all(uint64_t base, uint32_t effort, struct coverage *seen)
 {
-    ind_rule = IND_ONE_ENTRY;
-    test_sessions(base + 9, 500 * effort, 120, seen);
-    test_medium(base + 10, 100 * effort, seen);
-    ind_rule = IND_NEIGHBOURS;
-    test_sessions(base + 4, 1200 * effort, 120, seen);
-    test_medium(base + 5, 250 * effort, seen);
+    for (uint32_t i = 0; i < 4; i++) {
+        uint32_t share = i == 3 ? 8 : 2;
+        ind_rule = i % 2 == 1 ? IND_NEIGHBOURS : IND_ONE_ENTRY;
+        ind_order = i / 2 == 1 ? IND_SEGMENTED : IND_PLAIN;
+        uint64_t own = base + ((i + UINT64_C(1)) << 24);
+        test_sessions(own, 150 * share * effort, 120, seen);
+        test_medium(own - 8, 30 * share * effort, seen);
+    }
 }
 
 int main(int argc, char **argv)
@@ -197,26 +147,24 @@ int main(int argc, char **argv)
     struct coverage seen = {0};
     struct world g = world_make(2, 2, 3, 3, 3, 1, &(uint64_t){seed});
     printf("seed %llu, effort %u\n", (unsigned long long)seed, effort);
-    session_by_both(&g);
+    session_by_all(&g);
     broken_rules(&g);
     marked_cases(&g);
     world_free(&g);
     printf("the session and the six marked cases agree\n");
-    test_neighbours();
     uint64_t base = seed << 32;
+    test_neighbours();
+    test_replacement(base + 11, 400 * effort);
+    test_protected();
     test_geometry_edges(base + 1, 200000 * effort);
     test_lengths(base + 2, 300 * effort);
     test_arbitrary_input(base + 3, 20000 * effort);
-    sessions_by_both(base, effort, &seen);
+    sessions_by_all(base, effort, &seen);
     test_many_pages(base + 6, 6 * effort, &seen);
     test_damage(base + 7, 1200 * effort, &seen);
     test_settings(base + 8, 16 * effort, &seen);
     print_coverage(&seen);
-    require_met(&seen);
-    for (int rule = 0; rule <= 7; rule++)
-        REQUIRE(seen.broken[rule] > 0);
-    for (int answer = 0; answer <= 6; answer++)
-        REQUIRE(seen.records[answer] > 1000);
+    require_coverage(&seen);
     printf("all passed\n");
     return 0;
 }

@@ -13,8 +13,8 @@
 #define G 2, 2, 3, 3, 3, 1
 enum { W = 2, PAGES = 12 };
 
-static uint32_t chip[PAGES * W], spare[PAGES * 2], directory[2], cache[3], record[5];
-#define STATE chip, PAGES * W, spare, PAGES * 2, directory, 2, cache, 3, record, 5
+static uint32_t chip[PAGES * W], spare[PAGES * 2], directory[2], cache[3], record[6];
+#define STATE chip, PAGES * W, spare, PAGES * 2, directory, 2, cache, 3, record, 6
 
 /*
  * Reads " " and a decimal of 32 bits from standard input.  False if there is

@@ -36,8 +36,7 @@ static uint32_t telling_value(const struct world *x, uint32_t old, uint64_t *see
     }
 }
 
-/* Every call must answer DAMAGED, with counts 0, 0, 0, and change nothing. */
-static void refused_everywhere(struct world *x)
+void refused_everywhere(struct world *x)
 {
     struct world before = world_copy(x);
     uint32_t buffer[512], untouched[512], counts[3] = {7, 7, 7};
@@ -95,6 +94,23 @@ static void corrupt_single_words(struct world *x, uint64_t *seed, struct coverag
     }
 }
 
+/*
+ * Every number of protected entries up to C and one more: "at most C/2 and at
+ * most the used ones in a sound state".
+ */
+static void corrupt_protected(struct world *x, uint64_t *seed, struct coverage *seen)
+{
+    uint32_t *protected = &x->slice[RECORD][5], old = *protected;
+    uint32_t used = x->slice[RECORD][4], limit = x->c / 2;
+    for (*protected = 0; *protected <= x->c + 1; ++*protected) {
+        bool over = *protected > limit, unused = *protected > used;
+        REQUIRE(naive_first_broken(x) == (over || unused ? 5 : 0));
+        compare_verdicts(x, seed, seen);
+        seen->bordered[over][unused]++;
+    }
+    *protected = old;
+}
+
 /* Two or three words at once, which can turn one sound state into another. */
 static void corrupt_several_words(struct world *x, uint64_t *seed, struct coverage *seen)
 {
@@ -140,6 +156,7 @@ void test_damage(uint64_t seed, uint32_t states, struct coverage *seen)
         REQUIRE(naive_first_broken(&x) == 0);
         compare_verdicts(&x, &own, seen);
         corrupt_single_words(&x, &own, seen);
+        corrupt_protected(&x, &own, seen);
         for (int k = 0; k < 200; k++)
             corrupt_several_words(&x, &own, seen);
         seen->states++;

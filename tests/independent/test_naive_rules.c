@@ -105,8 +105,10 @@ static bool rule_4(const struct world *x)
 static bool rule_5(const struct world *x)
 {
     const uint32_t *cache = x->slice[CACHE];
-    uint32_t used = x->slice[RECORD][4];
+    uint32_t used = x->slice[RECORD][4], protected = x->slice[RECORD][5];
     if (used > x->c)
+        return false;
+    if (protected > x->c / 2 || protected > used)
         return false;
     for (uint32_t a = 0; a < used; a++) {
         if (cache[3 * a] >= x->l || (cache[3 * a + 2] != 0 && cache[3 * a + 2] != 1))

@@ -19,11 +19,21 @@ static uint32_t *open_block(struct world *x, int region) { return x->slice[RECOR
 static uint32_t *offset(struct world *x, int region) { return x->slice[RECORD] + 2 * region + 1; }
 static uint32_t *used(struct world *x) { return x->slice[RECORD] + 4; }
 
+/* Adds to one of two kinds that P5's order met, by the part that an entry is in. */
+static void note_part(const struct world *x, const uint32_t *entry, int if_protected,
+                      int if_trial, struct tally *n)
+{
+    bool protected = entry < x->slice[CACHE] + 3 * x->slice[RECORD][5];
+    if (ind_order == IND_SEGMENTED)
+        n->order[protected ? if_protected : if_trial]++;
+}
+
 static void read_page(struct world *x, uint32_t page, uint32_t *into, struct tally *n)
 {
     REQUIRE(spare(x, page)[0] == 65535);
     memcpy(into, words(x, page), x->w * sizeof(uint32_t));
     n->reads++;
+    n->translation_reads += page >= x->d * x->p;
 }
 
 static uint32_t program_next(struct world *x, int region, const uint32_t *from, uint32_t owner,
@@ -133,6 +143,7 @@ static void collect(struct world *x, int region, uint32_t erased, struct tally *
         } else if (entry != NULL) {
             entry[1] = place;
             entry[2] = 1;
+            note_part(x, entry, ORDER_MOVED_PROTECTED, ORDER_MOVED_TRIAL, n);
         } else {
             moved[owner] = place;
         }
@@ -167,28 +178,6 @@ static void make_room(struct world *x, int region, struct tally *n)
     }
 }
 
-/* Takes the entry at a rank out, closing the gap. */
-static void take_out(struct world *x, uint32_t rank)
-{
-    uint32_t *cache = x->slice[CACHE];
-    for (uint32_t i = 3 * rank; i < 3 * (*used(x) - 1); i++)
-        cache[i] = cache[i + 3];
-    --*used(x);
-    for (uint32_t i = 0; i < 3; i++)
-        cache[3 * *used(x) + i] = NONE;
-}
-
-static void put_in_front(struct world *x, uint32_t l, uint32_t place, uint32_t changed)
-{
-    uint32_t *cache = x->slice[CACHE];
-    for (uint32_t i = 3 * *used(x); i-- > 0;)
-        cache[i + 3] = cache[i];
-    ++*used(x);
-    cache[0] = l;
-    cache[1] = place;
-    cache[2] = changed;
-}
-
 /*
  * Whether the update that writes `dropped` back sets the word of l: "all changed
  * cached entries of the same translation page", or before P2 "that one entry".
@@ -204,6 +193,7 @@ static bool is_set(struct world *x, uint32_t l, uint32_t dropped)
 static void note_met(struct world *x, uint32_t dropped, bool collected, bool first,
                      struct tally *n)
 {
+    struct tally along = {0};
     uint32_t neighbours = 0;
     for (uint32_t rank = 0; rank < *used(x); rank++) {
         const uint32_t *entry = x->slice[CACHE] + 3 * rank;
@@ -218,8 +208,15 @@ static void note_met(struct world *x, uint32_t dropped, bool collected, bool fir
             neighbours++;
             n->met[set ? MET_ALONG : MET_CHANGED]++;
             n->met[MET_AT_NONE] += set && entry[1] == NONE;
+            if (set)
+                note_part(x, entry, ORDER_ALONG_PROTECTED, ORDER_ALONG_TRIAL, &along);
         }
     }
+    uint64_t in_protected = along.order[ORDER_ALONG_PROTECTED];
+    uint64_t in_trial = along.order[ORDER_ALONG_TRIAL];
+    n->order[ORDER_ALONG_PROTECTED] += in_protected;
+    n->order[ORDER_ALONG_TRIAL] += in_trial;
+    n->order[ORDER_ALONG_BOTH] += in_protected > 0 && in_trial > 0;
     n->met[MET_COLLECTED] += neighbours > 0 && collected;
     n->met[MET_FIRST] += neighbours > 0 && first;
 }
@@ -249,25 +246,22 @@ static void write_back(struct world *x, uint32_t dropped, struct tally *n)
 static void translate(struct world *x, uint32_t l, struct tally *n)
 {
     uint32_t page[512];
-    uint32_t *entry = cached(x, l);
-    if (entry != NULL) {
-        uint32_t place = entry[1], changed = entry[2];
-        take_out(x, (uint32_t)(entry - x->slice[CACHE]) / 3);
-        put_in_front(x, l, place, changed);
+    if (cached(x, l) != NULL) {
+        naive_hit(x, l, n);
         return;
     }
     if (*used(x) == x->c) {
-        uint32_t *last = x->slice[CACHE] + 3 * (x->c - 1);
-        if (last[2] == 1)
-            write_back(x, last[0], n);
-        take_out(x, x->c - 1);
+        uint32_t victim = naive_victim(x);
+        if (cached(x, victim)[2] == 1)
+            write_back(x, victim, n);
+        naive_drop(x, n);
     }
     uint32_t place = NONE;
     if (x->slice[DIRECTORY][l / x->w] != NONE) {
         read_page(x, x->slice[DIRECTORY][l / x->w], page, n);
         place = page[l % x->w];
     }
-    put_in_front(x, l, place, 0);
+    naive_enter(x, l, place, n);
 }
 
 uint32_t naive_read(struct world *x, uint32_t l, uint32_t *buffer, struct tally *n)
@@ -283,10 +277,12 @@ uint32_t naive_read(struct world *x, uint32_t l, uint32_t *buffer, struct tally 
 uint32_t naive_write(struct world *x, uint32_t l, const uint32_t *buffer, struct tally *n)
 {
     translate(x, l, n);
+    uint32_t former = cached(x, l)[1];
     make_room(x, DATA, n);
     uint32_t page = program_next(x, DATA, buffer, l, n);
     n->host++;
     uint32_t *entry = cached(x, l);
+    n->order[ORDER_MOVED_OWN] += entry[1] != former && entry > x->slice[CACHE];
     if (entry[1] != NONE)
         mark_invalid(x, entry[1]);
     entry[1] = page;

@@ -58,16 +58,20 @@ static void add_tally(struct tally *sum, const struct tally *n, struct coverage 
     sum->erases += n->erases;
     seen->host += n->host;
     seen->copied += n->copied;
+    seen->translation_reads += n->translation_reads;
     for (int kind = 0; kind < MET_KINDS; kind++)
         seen->met[ind_rule][kind] += n->met[kind];
+    for (int kind = 0; kind < ORDER_KINDS; kind++)
+        seen->order[kind] += n->order[kind];
 }
 
-/* The other rule, if the cache has one entry: it must make no difference then. */
-static enum ind_rule rule_of_twin(const struct world *x)
+/* The other rule and order, if the cache has one entry: they make no difference then. */
+static void switch_for_twin(const struct world *x)
 {
     if (x->c > 1)
-        return ind_rule;
-    return ind_rule == IND_NEIGHBOURS ? IND_ONE_ENTRY : IND_NEIGHBOURS;
+        return;
+    ind_rule = ind_rule == IND_NEIGHBOURS ? IND_ONE_ENTRY : IND_NEIGHBOURS;
+    ind_order = ind_order == IND_SEGMENTED ? IND_PLAIN : IND_SEGMENTED;
 }
 
 /* The literal steps of one request on the twin, with the oracle's view of it. */
@@ -77,8 +81,7 @@ static uint32_t serve_twin(struct world *twin, struct oracle *o, bool write, uin
     size_t bytes = twin->w * sizeof(uint32_t);
     struct tally n = {0};
     uint32_t reply;
-    enum ind_rule rule = ind_rule;
-    ind_rule = rule_of_twin(twin);
+    switch_for_twin(twin);
     if (write) {
         reply = naive_write(twin, l, words, &n);
         REQUIRE(reply == IND_DONE);
@@ -91,7 +94,7 @@ static uint32_t serve_twin(struct world *twin, struct oracle *o, bool write, uin
             REQUIRE(memcmp(words, o->words + (size_t)l * twin->w, bytes) == 0);
         seen->unwritten += reply == IND_UNWRITTEN;
     }
-    ind_rule = rule;
+    switch_for_twin(twin); /* back */
     check_bound(twin, write, &n, seen);
     add_tally(sum, &n, seen);
     return reply;
@@ -175,11 +178,15 @@ void random_call(struct world *x, struct oracle *o, uint64_t *seed, struct cover
     world_free(&twin);
 }
 
-/* All programs since `before` are of data pages or counted as of translation pages. */
-static void check_programs(const struct coverage *before, const struct coverage *seen)
+/*
+ * All programs since `before` are of data pages or counted as of translation
+ * pages, and the reads of translation pages are those that the literal steps made.
+ */
+static void check_translation(const struct coverage *before, const struct coverage *seen)
 {
     uint64_t data = seen->host - before->host + seen->copied - before->copied;
     REQUIRE(seen->programs - before->programs == data + ind_translation_programs);
+    REQUIRE(seen->translation_reads - before->translation_reads == ind_translation_reads);
 }
 
 static void session(struct world *x, uint64_t *seed, uint32_t calls, struct coverage *seen)
@@ -190,10 +197,11 @@ static void session(struct world *x, uint64_t *seed, uint32_t calls, struct cove
         REQUIRE(counts[0] == 0 && counts[1] == 0 && counts[2] == x->d + x->t);
     } else {
         world_random_sound(x, seed);
+        seen->lent_protected += x->slice[RECORD][5] > 0;
     }
     REQUIRE(naive_first_broken(x) == 0);
     const struct coverage before = *seen;
-    ind_translation_programs = 0;
+    ind_translation_programs = ind_translation_reads = 0;
     struct oracle o = oracle_of(x);
     for (uint32_t i = 0; i < calls; i++) {
         random_call(x, &o, seed, seen);
@@ -203,7 +211,7 @@ static void session(struct world *x, uint64_t *seed, uint32_t calls, struct cove
         }
         REQUIRE(ind_check(GEOMETRY_OF(x), STATE_OF(x), counts, 3) == IND_DONE);
     }
-    check_programs(&before, seen);
+    check_translation(&before, seen);
     oracle_free(&o);
     world_free(x);
 }
@@ -247,14 +255,14 @@ void test_many_pages(uint64_t seed, uint32_t runs, struct coverage *seen)
     struct world twin = world_copy(&x);
     struct oracle o = oracle_of(&x);
     const struct coverage before = *seen;
-    ind_translation_programs = 0;
+    ind_translation_programs = ind_translation_reads = 0;
     for (uint32_t i = 0; i < runs; i++) {
         run_call(&x, &twin, &o, 1024, &own, seen);
         REQUIRE(world_equal(&x, &twin));
         REQUIRE(ind_first_broken_rule(GEOMETRY_OF(&x), STATE_OF(&x), NULL) == 0);
         REQUIRE(ind_check(GEOMETRY_OF(&x), STATE_OF(&x), counts, 3) == IND_DONE);
     }
-    check_programs(&before, seen);
+    check_translation(&before, seen);
     oracle_free(&o);
     world_free(&twin);
     world_free(&x);

@@ -39,7 +39,7 @@ struct world world_make(uint32_t p, uint32_t w, uint32_t d, uint32_t t, uint32_t
 {
     struct world x = {p, w, d, t, l, c, (l + w - 1) / w, {0}, {0}};
     size_t pages = (size_t)(d + t) * p;
-    const size_t n[SLICES] = {pages * w, pages * 2, x.m, (size_t)c * 3, 5};
+    const size_t n[SLICES] = {pages * w, pages * 2, x.m, (size_t)c * 3, 6};
     for (int i = 0; i < SLICES; i++) {
         x.n[i] = n[i];
         x.slice[i] = malloc(n[i] * sizeof(uint32_t));
@@ -150,6 +150,14 @@ static void random_owners(struct world *x, int region, uint32_t owners, const bo
     }
 }
 
+/* Some of the used entries protected, often none or as many as may be. */
+static void random_protected(struct world *x, uint64_t *seed)
+{
+    uint32_t most = least(x->c / 2, x->slice[RECORD][4]);
+    uint32_t some = random_below(seed, most + 1);
+    x->slice[RECORD][5] = random_below(seed, 2) ? some : random_below(seed, 2) ? most : 0;
+}
+
 /* Some used entries of different pages, with marks; the places come later. */
 static void random_cache(struct world *x, bool *changed_of, uint64_t *seed)
 {
@@ -158,6 +166,7 @@ static void random_cache(struct world *x, bool *changed_of, uint64_t *seed)
     REQUIRE(taken != NULL);
     memset(x->slice[CACHE], 0xff, x->n[CACHE] * sizeof(uint32_t));
     x->slice[RECORD][4] = used;
+    random_protected(x, seed);
     for (uint32_t rank = 0; rank < used; rank++) {
         uint32_t l = random_below(seed, x->l);
         while (taken[l])
@@ -199,6 +208,8 @@ void world_random_sound(struct world *x, uint64_t *seed)
 
 void world_make_odd(struct world *x, uint64_t *seed)
 {
+    if (random_below(seed, 2))
+        random_protected(x, seed);
     for (uint32_t page = 0; page < (x->d + x->t) * x->p; page++) {
         uint32_t *spare = x->slice[SPARE] + 2 * page;
         if (spare[0] != 0 || random_below(seed, 2))

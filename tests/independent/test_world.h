@@ -46,7 +46,10 @@ void world_free(struct world *x);
 struct world world_random_small(uint64_t *seed);
 /* Fills the world with a random sound state, of shapes no session need reach. */
 void world_random_sound(struct world *x, uint64_t *seed);
-/* Changes words that no rule binds, and the changed mark where that is allowed. */
+/*
+ * Changes words that no rule binds, and the changed mark and the number of
+ * protected entries where that is allowed.
+ */
 void world_make_odd(struct world *x, uint64_t *seed);
 
 #endif
