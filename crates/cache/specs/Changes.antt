@@ -1,5 +1,5 @@
 -- What the cache holds after each change that scope's Cache.antt makes to its words, and which rank has the page that it is about.
-use Prim.Native.Nat.{ℕ, suc, _*_, _<_}
+use Prim.Native.Nat.{ℕ, suc, _*_, _≤_, _<_}
 use native.Mathlib.Omega.{arith}
 use mathlib.Core.Path.{_≡_, refl, ap, sym, _∙_}
 use mathlib.Core.List.{List, [], _∷_}
@@ -7,23 +7,23 @@ use lib.Seq.{sets}
 use Rattle.flash.specs.Cases.{same?}
 use Rattle.scope.specs.Geometry.{Geometry}
 use Rattle.scope.specs.Lent.{none, entry-words, logical-at}
-use Rattle.scope.specs.Cache.{without}
-use Rattle.cache.specs.Entries.{CacheEntry, put-entry, placed, to-front, Stores, put-stores, placed-stores, to-front-entry, new-in-front}
+use Rattle.cache.specs.Entries.{CacheEntry, put-entry, placed, to-front, Stores, put-stores, placed-stores, to-front-entry}
 use Rattle.cache.specs.Ranks.{Has-rank}
 use Rattle.cache.specs.Holds.{Found, Hit, Miss, updated, Cache-holds, miss-not-cached, changed-holds, added-holds, dropped-holds}
-use Rattle.cache.specs.Order.{front-holds}
+use Rattle.cache.specs.Order.{reordered-holds, front-reorders, entered, Entered, enters}
 
 -- A cache that holds m, and in which logical page l has rank i.
 pub record Holds-at (g : Geometry) (cache : List ℕ) (used : ℕ) (m : ℕ → Found) (l i : ℕ) : Type 0 where
   pub holds : Cache-holds g cache used m
   pub rank : Has-rank cache used l i
 
--- "A cached entry moves to the front."
+-- A hit "moves to the front".
 pub touched-holds : (g : Geometry) (cache : List ℕ) (used : ℕ) (m : ℕ → Found) → Cache-holds g cache used m
     → (l i : ℕ) → Has-rank cache used l i → Holds-at g (to-front i cache) used m l 0
 touched-holds g cache used m h l i r =
     record {
-      holds = front-holds g cache used m i h (r .in-use);
+      holds = reordered-holds g cache (to-front i cache) used m h
+          (front-reorders (g .C) cache used i (h .long) (h .entries .at-most) (r .in-use));
       rank =
           record {
             in-use = omega (arith, r .in-use);
@@ -35,20 +35,22 @@ touched-holds g cache used m h l i r =
     below = omega (arith, r .in-use, h .entries .at-most)
 
 module _ (g : Geometry) (cache : List ℕ) (used : ℕ) (m : ℕ → Found) (h : Cache-holds g cache used m) where
-  -- "Put the entry in front, unchanged": it is stored behind those in use, and comes to the front.
-  pub entered-holds : (l place : ℕ) → used < g .C → m l ≡ Miss → l < g .L
-      → Holds-at g (l ∷ place ∷ 0 ∷ without used cache) (suc used) (updated m l (Hit place 0)) l 0
-  entered-holds l place room miss below =
-      rw (new-in-front (g .C) cache (h .long) used room e)
-      (touched-holds g (put-entry used e cache) (suc used) (updated m l (Hit place 0))
-      (added-holds g cache used m h e (put-entry used e cache) stores room (miss-not-cached g cache used m h l miss) below (omega arith))
-      l used (record { in-use = omega arith; is-l = ap (λ x. x .logical) (stores .here) }))
+  -- "A miss enters at the trial front", behind b others.
+  pub entered-holds : (b l place : ℕ) → b ≤ used → used < g .C → m l ≡ Miss → l < g .L
+      → Holds-at g (entered b used (record { logical = l; physical = place; changed = 0 }) cache) (suc used) (updated m l (Hit place 0)) l b
+  entered-holds b l place before room miss below =
+      record {
+        holds = reordered-holds g (new .between) (entered b used e cache) (suc used) (updated m l (Hit place 0))
+            (added-holds g cache used m h e (new .between) (new .stores) room (miss-not-cached g cache used m h l miss) below (omega arith))
+            (new .reorders);
+        rank = record { in-use = omega arith; is-l = ap (λ x. x .logical) (new .here) };
+      }
     where
       e : CacheEntry
       e = record { logical = l; physical = place; changed = 0 }
 
-      stores : Stores (g .C) used e cache (put-entry used e cache)
-      stores = put-stores (g .C) cache (h .long) used room e
+      new : Entered (g .C) b used e cache (entered b used e cache)
+      new = enters (g .C) cache (h .long) b used before room e
 
   -- "Drop the last": its entry "becomes an unused one, *none* throughout".
   pub forgotten-holds : (i : ℕ) → suc i ≡ used

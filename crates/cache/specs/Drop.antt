@@ -1,6 +1,6 @@
 -- Dropping an entry. If it is changed it is written back first: flash comes to store the places of all changed entries of its translation
 -- page, and these become unchanged. An unchanged entry can go. Every current place stays, and rule 7 holds, at each of the three steps.
-use Prim.Native.Nat.{ℕ, suc, _<_}
+use Prim.Native.Nat.{ℕ, suc, _≤_, _<_}
 use native.Mathlib.Omega.{arith}
 use mathlib.Core.Path.{_≡_, refl, ap, sym, _∙_, subst}
 use mathlib.Core.Logic.{_≢_}
@@ -84,15 +84,15 @@ module _ (g : Geometry) (t : ℕ) (s s′ : State) (m : ℕ → Found) (h : Hold
   unfolding become-unchanged set-cache
   unchanged-in-page i in-use of-t = rw (stores .cache, stores .used) (no-longer-changed g t (s .cache) used m h i in-use of-t)
 
--- An unchanged entry, the last, is forgotten.
+-- An unchanged entry, the last and a trial one, is forgotten.
 pub record Dropped (g : Geometry) (i : ℕ) (s : State) (m : ℕ → Found) : Type 0 where
   pub step : Cache-step g s (forget i s) [] i (updated m (logical-at i (s .cache)) Miss)
   pub places : Places-kept g s (forget i s .after)
 
 pub drop-law : (g : Geometry) (s : State) (m : ℕ → Found) → Holds-in g s m → Unchanged-agree g s → (i : ℕ) → suc i ≡ s .small .used
-    → is-changed i (s .cache) ≡ false → Dropped g i s m
-drop-law g s m h seven i last unchanged =
-    let step = forget-law g s m h i last in
+    → s .small .protected ≤ i → is-changed i (s .cache) ≡ false → Dropped g i s m
+drop-law g s m h seven i last trial unchanged =
+    let step = forget-law g s m h i last trial in
     record {
       step = step;
       places = forget-keeps-places g s m h seven i step (omega arith)

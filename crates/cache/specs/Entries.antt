@@ -1,5 +1,6 @@
 -- The cache's flat words as entries: which entry stands at each rank once an entry is stored at a rank, and once one is brought
--- to the front. The four changes of scope's Cache.antt are these two, so that nothing outside this file speaks of places of words.
+-- to the front, the others kept or behind others that are. The changes of scope's Cache.antt are these, so that nothing outside this file
+-- speaks of places of words.
 use Prim.Native.Nat.{ℕ, zero, suc, _+_, _*_, _-_, _≤_, _<_}
 use native.Mathlib.Nat.{add-zero}
 use native.Mathlib.Numerals.{add-one}
@@ -79,6 +80,12 @@ entry-behind n m j p r long h =
     let e : j * entry-words ≡ length p + m * entry-words = omega arith in
     ap (λ k. take entry-words (drop k (p ++ r))) e ∙ ap (take entry-words) (drop-append-add p r (m * entry-words))
 
+pub entry-front : (n j : ℕ) (p r : List ℕ) → length p ≡ n * entry-words → j < n → entry j (p ++ r) ≡ entry j p
+entry-front n j p r long h = same-entry j (p ++ r) j p (entry-in-front n j p r long h)
+
+pub entry-back : (n m j : ℕ) (p r : List ℕ) → length p ≡ n * entry-words → n + m ≡ j → entry j (p ++ r) ≡ entry m r
+entry-back n m j p r long h = same-entry j (p ++ r) m r (entry-behind n m j p r long h)
+
 -- The entries before rank i, and those after it.
 abbrev before : ℕ → List ℕ → List ℕ
 before i cache = take (i * entry-words) cache
@@ -98,6 +105,20 @@ pub record Stores (n i : ℕ) (e : CacheEntry) (cache cache′ : List ℕ) : Typ
   pub long : length cache′ ≡ n * entry-words
   pub here : entry i cache′ ≡ e
   pub elsewhere : (j : ℕ) → j ≢ i → entry j cache′ ≡ entry j cache
+
+-- Behind b entries that stay.
+pub stores-behind : (b n i : ℕ) {k m : ℕ} (kept : List ℕ) {cache cache′ : List ℕ} {e : CacheEntry} → length kept ≡ b * entry-words
+    → b + m ≡ n → b + k ≡ i → Stores m k e cache cache′ → Stores n i e (kept ++ cache) (kept ++ cache′)
+stores-behind b n i {k} kept {cache} {cache′} long all here st =
+    record {
+      long = length-append kept cache′ ∙ omega (arith, st .long);
+      here = entry-back b k i kept cache′ long here ∙ st .here;
+      elsewhere = λ j d. below? j b
+          (λ h. entry-front b j kept cache′ long h ∙ sym (entry-front b j kept cache long h))
+          (λ h. entry-back b (j - b) j kept cache′ long (omega arith)
+          ∙ st .elsewhere (j - b) (λ q. d (omega arith))
+          ∙ sym (entry-back b (j - b) j kept cache long (omega arith)));
+    }
 
 module _ (n : ℕ) (cache : List ℕ) (long : length cache ≡ n * entry-words) (i : ℕ) (h : i < n) where
   length-before : length (before i cache) ≡ i * entry-words

@@ -1,5 +1,5 @@
 -- Translate where l isn't cached and an entry is free: "if l's translation page exists, read it and take the word; else *none*,
--- with no read. Put the entry in front, unchanged." The word is what flash stores for l.
+-- with no read." The entry enters, unchanged. The word is what flash stores for l.
 use Prim.Native.Nat.{ℕ, suc, _≤_, _<_}
 use native.Mathlib.Nat.{mod-lt}
 use native.Mathlib.Omega.{arith}
@@ -35,13 +35,18 @@ fetch-is g l s wide = go (named (translation-page g l) (s .directory))
         ap (λ w. listed (Read p ∷ []) (enter l w s)) (words-at g p (translation-word g l) (s .chip) (mod-lt l (omega arith)))
     go Nowhere = refl
 
+-- So it leaves what entering that word leaves.
+pub fetch-enters : (g : Geometry) (l : ℕ) (s : State) → 1 ≤ g .W → fetch g l s .after ≡ enter l (stored-in g s l) s .after
+unfolding listed
+fetch-enters g l s wide = ap (λ (o : Outcome ℕ). o .after) (fetch-is g l s wide)
+
 pub fetch-law : (g : Geometry) (s : State) (m : ℕ → Found) → Holds-in g s m → 1 ≤ g .W
-    → (l : ℕ) → s .small .used < g .C → m l ≡ Miss → l < g .L
+    → (l : ℕ) → s .small .protected ≤ s .small .used → s .small .used < g .C → m l ≡ Miss → l < g .L
     → Rank-handed g s (fetch g l s) (page-read (named (translation-page g l) (s .directory))) (suc (s .small .used))
     (updated m l (Hit (stored-in g s l) 0)) l
 unfolding listed
-fetch-law g s m h wide l room miss below =
-    let e = enter-law g s m h l (stored-in g s l) room miss below in
+fetch-law g s m h wide l before room miss below =
+    let e = enter-law g s m h l (stored-in g s l) before room miss below in
     rw (fetch-is g l s wide)
     (record {
       step =
@@ -51,6 +56,7 @@ fetch-law g s m h wide l room miss below =
             directory = e .step .directory;
             heads = e .step .heads;
             used = e .step .used;
+            border = e .step .border;
             holds = e .step .holds;
           };
       rank = e .rank;

@@ -35,6 +35,7 @@ pub record Followed (g : Geometry) (w : List Mapping) (l place : ℕ) (s : State
   pub directory : o .after .directory ≡ s .directory
   pub heads : (r : Region) → Same-head r (s .small) (o .after .small)
   pub used : o .after .small .used ≡ s .small .used
+  pub protected : o .after .small .protected ≡ s .small .protected
   pub long : length (o .after .cache) ≡ cache-size g
   pub entries : Entries-fit g (o .after .cache) (o .after .small .used)
   pub ranks : (i : ℕ) → logical-at i (o .after .cache) ≡ logical-at i (s .cache)
@@ -57,6 +58,7 @@ module _ (g : Geometry) (w : List Mapping) (s : State) (long : length (s .cache)
         directory = set .step .directory;
         heads = set .step .heads;
         used = set .step .used;
+        protected = set .protected;
         long = set .step .holds .long;
         entries = set .step .holds .entries;
         ranks = set .ranks;
@@ -98,6 +100,7 @@ module _ (g : Geometry) (w : List Mapping) (s : State) (long : length (s .cache)
         directory = refl;
         heads = λ r. head-same r refl;
         used = refl;
+        protected = refl;
         long = long;
         entries = fits;
         ranks = λ i. refl;

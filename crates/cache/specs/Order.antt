@@ -1,21 +1,25 @@
--- The cache's order: its entries in use stand in another order and hold the same, as when one of them comes to the front.
-use Prim.Native.Nat.{ℕ, zero, suc, _≤_, _<_}
+-- The cache's order: its entries in use stand in another order and hold the same, as when one of them comes to the front, or to the front of
+-- the part behind some that stay; and a new entry comes there.
+use Prim.Native.Nat.{ℕ, zero, suc, _+_, _*_, _-_, _≤_, _<_}
 use native.Mathlib.Omega.{arith}
 use mathlib.Core.Path.{_≡_, refl, ap, sym, _∙_, subst}
 use mathlib.Core.Bool.{cond}
-use mathlib.Core.List.{List}
+use mathlib.Core.List.{List, _++_}
 use lib.Dec.{eqb, ltb}
-use lib.ListN.{length}
+use lib.ListN.{length, take, drop, length-append, length-drop, take-append-drop}
+use lib.Seq.{length-take-le}
 use borrow.Author.Tests.{eq-eqb, ne-eqb, lt-ltb, le-ltb}
 use Rattle.flash.specs.Cases.{same?, below?}
 use Rattle.scope.specs.Geometry.{Geometry}
-use Rattle.scope.specs.Lent.{cache-size, logical-at}
-use Rattle.cache.specs.Entries.{entry, to-front, rank-before, length-to-front, to-front-entry}
+use Rattle.scope.specs.Lent.{entry-words, logical-at}
+use Rattle.scope.specs.Cache.{without}
+use Rattle.cache.specs.Entries.{CacheEntry, entry, words-of-entry, put-entry, to-front, rank-before, Stores, entry-front, entry-back, stores-behind, put-stores, length-to-front, to-front-entry, new-in-front}
 use Rattle.cache.specs.Holds.{Found, Cache-holds, Says, Unused}
 
--- The entries in use stand in another order, and the unused ones where they stood. `from` is the rank that the one now at a rank
+-- Of n entries those in use stand in another order, and the unused ones where they stood. `from` is the rank that the one now at a rank
 -- had, and `to` the rank that it has now.
-pub record Reordered (g : Geometry) (used : ℕ) (cache cache′ : List ℕ) : Type 0 where
+pub record Reordered (n used : ℕ) (cache cache′ : List ℕ) : Type 0 where
+  pub long : length cache′ ≡ length cache
   pub from : ℕ → ℕ
   pub to : ℕ → ℕ
   pub from-used : (j : ℕ) → j < used → from j < used
@@ -23,13 +27,13 @@ pub record Reordered (g : Geometry) (used : ℕ) (cache cache′ : List ℕ) : T
   pub to-from : (j : ℕ) → j < used → to (from j) ≡ j
   pub from-to : (i : ℕ) → i < used → from (to i) ≡ i
   pub moved : (j : ℕ) → j < used → entry j cache′ ≡ entry (from j) cache
-  pub stayed : (j : ℕ) → j < g .C → used ≤ j → entry j cache′ ≡ entry j cache
+  pub stayed : (j : ℕ) → j < n → used ≤ j → entry j cache′ ≡ entry j cache
 
 pub reordered-holds : (g : Geometry) (cache cache′ : List ℕ) (used : ℕ) (m : ℕ → Found)
-    → Cache-holds g cache used m → length cache′ ≡ cache-size g → Reordered g used cache cache′ → Cache-holds g cache′ used m
-reordered-holds g cache cache′ used m h long r =
+    → Cache-holds g cache used m → Reordered (g .C) used cache cache′ → Cache-holds g cache′ used m
+reordered-holds g cache cache′ used m h r =
     record {
-      long = long;
+      long = r .long ∙ h .long;
       entries =
           record {
             at-most = h .entries .at-most;
@@ -96,23 +100,139 @@ rank-before-after i k =
     (λ e. rw (e, rank-after-here i))
     (λ e. rw (rank-after-above i k (omega arith)) (rank-before-above i k (omega arith))))
 
-front-reorders : (g : Geometry) (cache : List ℕ) (used i : ℕ) → length cache ≡ cache-size g → used ≤ g .C → i < used
-    → Reordered g used cache (to-front i cache)
-front-reorders g cache used i long most h =
+-- The one at rank i is foremost, those before it are one rank further, and those behind it stay.
+pub front-further : (n : ℕ) (cache : List ℕ) (i : ℕ) → length cache ≡ n * entry-words → i < n → (j : ℕ) → j < i
+    → entry (suc j) (to-front i cache) ≡ entry j cache
+front-further n cache i long h j k =
+    to-front-entry n cache long i h (suc j) ∙ ap (λ (x : ℕ). entry x cache) (rank-before-below i j k)
+
+pub front-stays : (n : ℕ) (cache : List ℕ) (i : ℕ) → length cache ≡ n * entry-words → i < n → (j : ℕ) → i < j
+    → entry j (to-front i cache) ≡ entry j cache
+front-stays n cache i long h j k =
+    to-front-entry n cache long i h j ∙ ap (λ (x : ℕ). entry x cache) (rank-before-above i j k)
+
+pub front-reorders : (n : ℕ) (cache : List ℕ) (used i : ℕ) → length cache ≡ n * entry-words → used ≤ n → i < used
+    → Reordered n used cache (to-front i cache)
+front-reorders n cache used i long most h =
     record {
+      long = length-to-front n cache long i (omega arith) ∙ sym long;
       from = rank-before i;
       to = rank-after i;
       from-used = λ j k. rank-before-used used i j h k;
       to-used = λ k u. rank-after-used used i k h u;
       to-from = λ j k. rank-after-before i j;
       from-to = λ k u. rank-before-after i k;
-      moved = λ j k. to-front-entry (g .C) cache long i (omega arith) j;
-      stayed = λ j k u.
-          to-front-entry (g .C) cache long i (omega arith) j ∙ ap (λ x. entry x cache) (rank-before-above i j (omega arith));
+      moved = λ j k. to-front-entry n cache long i (omega arith) j;
+      stayed = λ j k u. front-stays n cache i long (omega arith) j (omega arith);
     }
 
-pub front-holds : (g : Geometry) (cache : List ℕ) (used : ℕ) (m : ℕ → Found) (i : ℕ) → Cache-holds g cache used m → i < used
-    → Cache-holds g (to-front i cache) used m
-front-holds g cache used m i h k =
-    reordered-holds g cache (to-front i cache) used m h (length-to-front (g .C) cache (h .long) i (omega (arith, h .entries .at-most)))
-    (front-reorders g cache used i (h .long) (h .entries .at-most) k)
+-- ---- behind b entries that stay
+
+-- A rank among those behind them, moved as f says.
+abbrev behind : ℕ → (ℕ → ℕ) → ℕ → ℕ
+behind b f j = cond (ltb j b) j (b + f (j - b))
+
+module _ (b : ℕ) (f : ℕ → ℕ) where
+  behind-below : (j : ℕ) → j < b → behind b f j ≡ j
+  behind-below j h = rw (lt-ltb j b h)
+
+  behind-above : (j : ℕ) → b ≤ j → behind b f j ≡ b + f (j - b)
+  behind-above j h = rw (le-ltb j b h)
+
+  behind-used : {used all : ℕ} → b + used ≡ all → ((j : ℕ) → j < used → f j < used) → (j : ℕ) → j < all → behind b f j < all
+  behind-used sum h j k =
+      below? j b (λ l. omega (arith, behind-below j l)) (λ l. omega (arith, behind-above j l, h (j - b) (omega arith)))
+
+  behind-back : {used all : ℕ} → b + used ≡ all → (back : ℕ → ℕ) → ((j : ℕ) → j < used → back (f j) ≡ j)
+      → (j : ℕ) → j < all → behind b back (behind b f j) ≡ j
+  behind-back sum back h j k =
+      below? j b
+      (λ l. rw (behind-below j l) (rw (lt-ltb j b l)))
+      (λ l. rw (behind-above j l, le-ltb (b + f (j - b)) b (omega arith))
+      (ap (λ (x : ℕ). b + back x) (omega arith) ∙ ap (λ (x : ℕ). b + x) (h (j - b) (omega arith)) ∙ omega arith))
+
+reordered-behind : (b n all : ℕ) {m used : ℕ} (kept : List ℕ) {cache cache′ : List ℕ} → length kept ≡ b * entry-words
+    → b + m ≡ n → b + used ≡ all → Reordered m used cache cache′ → Reordered n all (kept ++ cache) (kept ++ cache′)
+reordered-behind b n all kept {cache} {cache′} long ranks sum r =
+    record {
+      long = length-append kept cache′ ∙ ap (λ (x : ℕ). length kept + x) (r .long) ∙ sym (length-append kept cache);
+      from = behind b (r .from);
+      to = behind b (r .to);
+      from-used = behind-used b (r .from) sum (r .from-used);
+      to-used = behind-used b (r .to) sum (r .to-used);
+      to-from = behind-back b (r .from) sum (r .to) (r .to-from);
+      from-to = behind-back b (r .to) sum (r .from) (r .from-to);
+      moved = λ j k. below? j b
+          (λ l. rw (behind-below b (r .from) j l) (front j l))
+          (λ l. rw (behind-above b (r .from) j l)
+          (entry-back b (j - b) j kept cache′ long (omega arith)
+          ∙ r .moved (j - b) (omega arith)
+          ∙ sym (entry-back b (r .from (j - b)) (b + r .from (j - b)) kept cache long refl)));
+      stayed = λ j k u.
+          entry-back b (j - b) j kept cache′ long (omega arith)
+          ∙ r .stayed (j - b) (omega arith) (omega arith)
+          ∙ sym (entry-back b (j - b) j kept cache long (omega arith));
+    }
+  where
+    front : (j : ℕ) → j < b → entry j (kept ++ cache′) ≡ entry j (kept ++ cache)
+    front j l = entry-front b j kept cache′ long l ∙ sym (entry-front b j kept cache long l)
+
+-- ---- a new entry behind b that stay
+
+abbrev pub entered : ℕ → ℕ → CacheEntry → List ℕ → List ℕ
+entered b used e cache = take (b * entry-words) cache ++ (words-of-entry e ++ without (used - b) (drop (b * entry-words) cache))
+
+-- It is stored at the first unused rank, and then comes to rank b in another order: those before keep their ranks, and the others that are in
+-- use are one further.
+pub record Entered (n b used : ℕ) (e : CacheEntry) (cache cache′ : List ℕ) : Type 0 where
+  pub between : List ℕ
+  pub stores : Stores n used e cache between
+  pub reorders : Reordered n (suc used) between cache′
+  pub here : entry b cache′ ≡ e
+  pub before : (j : ℕ) → j < b → entry j cache′ ≡ entry j cache
+  pub further : (j : ℕ) → b ≤ j → j < used → entry (suc j) cache′ ≡ entry j cache
+
+pub enters : (n : ℕ) (cache : List ℕ) → length cache ≡ n * entry-words → (b used : ℕ) → b ≤ used → used < n → (e : CacheEntry)
+    → Entered n b used e cache (entered b used e cache)
+enters n cache long b used before room e =
+    record {
+      between = kept ++ put-entry k e rest;
+      stores = subst (λ (c : List ℕ). Stores n used e c (kept ++ put-entry k e rest)) (take-append-drop (b * entry-words) cache)
+          (stores-behind b n used kept kept-long (omega arith) (omega arith) put);
+      reorders = rw (new-in-front (n - b) rest rest-long k (omega arith) e)
+          (reordered-behind b n (suc used) kept kept-long (omega arith) (omega arith)
+          (front-reorders (n - b) (put-entry k e rest) (suc k) k (put .long) (omega arith) (omega arith)));
+      here = rw (new-in-front (n - b) rest rest-long k (omega arith) e)
+          (entry-back b 0 b kept (to-front k (put-entry k e rest)) kept-long (omega arith)
+          ∙ to-front-entry (n - b) (put-entry k e rest) (put .long) k (omega arith) 0
+          ∙ put .here);
+      before = λ j h.
+          entry-front b j kept (words-of-entry e ++ without k rest) kept-long h
+          ∙ sym (entry-front b j kept rest kept-long h)
+          ∙ ap (entry j) (take-append-drop (b * entry-words) cache);
+      further = λ j h u. rw (new-in-front (n - b) rest rest-long k (omega arith) e)
+          (entry-back b (suc (j - b)) (suc j) kept (to-front k (put-entry k e rest)) kept-long (omega arith)
+          ∙ to-front-entry (n - b) (put-entry k e rest) (put .long) k (omega arith) (suc (j - b))
+          ∙ ap (λ (x : ℕ). entry x (put-entry k e rest)) (rank-before-below k (j - b) (omega arith))
+          ∙ put .elsewhere (j - b) (omega arith)
+          ∙ sym (entry-back b (j - b) j kept rest kept-long (omega arith))
+          ∙ ap (entry j) (take-append-drop (b * entry-words) cache));
+    }
+  where
+    k : ℕ
+    k = used - b
+
+    kept : List ℕ
+    kept = take (b * entry-words) cache
+
+    rest : List ℕ
+    rest = drop (b * entry-words) cache
+
+    kept-long : length kept ≡ b * entry-words
+    kept-long = length-take-le (b * entry-words) cache (omega arith)
+
+    rest-long : length rest ≡ (n - b) * entry-words
+    rest-long = length-drop (b * entry-words) cache ∙ omega arith
+
+    put : Stores (n - b) k e rest (put-entry k e rest)
+    put = put-stores (n - b) rest rest-long k (omega arith) e

@@ -8,3 +8,5 @@ pub mod Traces
 pub mod Theorems
 -- What they come to at one call, and at two in a row.
 pub mod ReadAfterWrite
+-- 02, P5.
+pub mod Replacement

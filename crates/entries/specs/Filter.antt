@@ -1,5 +1,5 @@
 -- The filter of the cached pages from step to step: what each leaf does to the cache and to the filter keeps every entry in use its bit.
-use Prim.Native.Nat.{ℕ, zero, suc, _+_, _*_, _≤_, _<_}
+use Prim.Native.Nat.{ℕ, suc, _+_, _*_, _≤_, _<_}
 use mathlib.Core.Path.{_≡_, sym, ap, _∙_}
 use mathlib.Core.Logic.{_≢_}
 use mathlib.Core.Bool.{true, false}
@@ -13,10 +13,10 @@ use borrow.Author.Tests.{eqb-true, ltb-true, lt-ltb, le-ltb}
 use Rattle.scope.specs.Geometry.{Geometry}
 use Rattle.scope.specs.Lent.{none, entry-words, logical-at}
 use Rattle.scope.specs.Sound.{rank-of}
-use Rattle.scope.specs.Cache.{without}
 use Rattle.flash.specs.Stores.{getD-sets-outside}
 use Rattle.flash.specs.Cases.{same?, below?, and-true, clash, is-false}
-use Rattle.cache.specs.Entries.{CacheEntry, entry, put-entry, to-front, placed, put-stores, rank-before, length-to-front, to-front-entry, new-in-front}
+use Rattle.cache.specs.Entries.{CacheEntry, entry, to-front, placed, Stores, put-stores}
+use Rattle.cache.specs.Order.{Reordered, front-reorders, entered, enters}
 use Rattle.lent.specs.Notes.{filter-words}
 use Rattle.words.specs.Bitmap.{has, put, length-put, has-put-same, has-put-other}
 use Rattle.words.specs.Filter.{Filter, bit-of, bit-below}
@@ -39,51 +39,47 @@ module _ {cache filter : List ℕ} {used : ℕ} (f : Filter cache used filter) w
       let q = and-true (ltb i used) (eqb (logical-at i cache) l) p in
       clash (ap (λ (k : ℕ). has filter (bit-of k)) (sym (eqb-true (logical-at i cache) l (q .1))) ∙ f .each i (ltb-true i used (q .0))) clear))
 
-  in-ranks : {i : ℕ} → i < used → i < f .ranks
-  in-ranks h = omega (arith, f .used-to)
-
-  -- An entry comes to the front.
-  pub filter-moved : (i : ℕ) → i < used → Filter (to-front i cache) used filter
-  filter-moved i h =
+  -- The entries stand in another order, as when one comes to the front.
+  filter-reordered : {cache′ : List ℕ} → Reordered (f .ranks) used cache cache′ → Filter cache′ used filter
+  filter-reordered r =
       record {
         ranks = f .ranks;
-        cache-fits = length-to-front (f .ranks) cache (f .cache-fits) i (in-ranks h);
+        cache-fits = r .long ∙ f .cache-fits;
         used-to = f .used-to;
         filter-fits = f .filter-fits;
-        each = λ j k.
-            ap (λ (e : CacheEntry). has filter (bit-of (e .logical))) (to-front-entry (f .ranks) cache (f .cache-fits) i (in-ranks h) j)
-            ∙ f .each (rank-before i j) (was-in-use j k);
+        each = λ j k. ap (λ (e : CacheEntry). has filter (bit-of (e .logical))) (r .moved j k) ∙ f .each (r .from j) (r .from-used j k);
       }
-    where
-      was-in-use : (j : ℕ) → j < used → rank-before i j < used
-      was-in-use zero k = h
-      was-in-use (suc j) k = below? j i (λ b. rw (lt-ltb j i b) (omega arith)) (λ b. rw (le-ltb j i b) k)
+
+  pub filter-moved : (i : ℕ) → i < used → Filter (to-front i cache) used filter
+  filter-moved i h = filter-reordered (front-reorders (f .ranks) cache used i (f .cache-fits) (f .used-to) h)
 
   -- The entry at rank i is another, whose page has its bit in another filter, as the pages of the other entries have.
-  stored : (n i : ℕ) (e : CacheEntry) {filter′ : List ℕ} → i < f .ranks → n ≤ f .ranks → length filter′ ≡ filter-words
-      → has filter′ (bit-of (e .logical)) ≡ true
-      → ((j : ℕ) → j < n → j ≢ i → has filter′ (bit-of (logical-at j cache)) ≡ true) → Filter (put-entry i e cache) n filter′
-  stored n i e {filter′} room all long new others =
-      let stores = put-stores (f .ranks) cache (f .cache-fits) i room e in
+  stored : (n i : ℕ) (e : CacheEntry) {cache′ filter′ : List ℕ} → Stores (f .ranks) i e cache cache′ → n ≤ f .ranks
+      → length filter′ ≡ filter-words → has filter′ (bit-of (e .logical)) ≡ true
+      → ((j : ℕ) → j < n → j ≢ i → has filter′ (bit-of (logical-at j cache)) ≡ true) → Filter cache′ n filter′
+  stored n i e {cache′} {filter′} stores all long new others =
       record {
         ranks = f .ranks;
         cache-fits = stores .long;
         used-to = all;
         filter-fits = long;
         each = λ j h. same? j i
-            (λ q. ap (λ (x : CacheEntry). has filter′ (bit-of (x .logical))) (ap (λ (k : ℕ). entry k (put-entry i e cache)) q ∙ stores .here) ∙ new)
+            (λ q. ap (λ (x : CacheEntry). has filter′ (bit-of (x .logical))) (ap (λ (k : ℕ). entry k cache′) q ∙ stores .here) ∙ new)
             (λ q. ap (λ (x : CacheEntry). has filter′ (bit-of (x .logical))) (stores .elsewhere j q) ∙ others j h q);
       }
 
 module _ {cache filter : List ℕ} {used : ℕ} (f : Filter cache used filter) where
-  -- One more in front.
-  pub filter-entered : (l place : ℕ) → used < f .ranks → Filter (l ∷ place ∷ 0 ∷ without used cache) (used + 1) (put filter (bit-of l))
-  filter-entered l place room =
+  -- One more, behind b others.
+  pub filter-entered : (b l place : ℕ) → b ≤ used → used < f .ranks
+      → Filter (entered b used (record { logical = l; physical = place; changed = 0 }) cache) (used + 1) (put filter (bit-of l))
+  unfolding stored
+  filter-entered b l place before room =
       let e : CacheEntry = record { logical = l; physical = place; changed = 0 } in
-      rw (new-in-front (f .ranks) cache (f .cache-fits) used room e, add-one)
-      (filter-moved
-      (stored f (suc used) used e room room (length-put filter (bit-of l) ∙ f .filter-fits) (put-there filter l (f .filter-fits))
-      (λ j h q. still filter l (f .filter-fits) (logical-at j cache) (f .each j (omega arith)))) used (omega arith))
+      let new = enters (f .ranks) cache (f .cache-fits) b used before room e in
+      rw add-one
+      (filter-reordered
+      (stored f (suc used) used e (new .stores) room (length-put filter (bit-of l) ∙ f .filter-fits) (put-there filter l (f .filter-fits))
+      (λ j h q. still filter l (f .filter-fits) (logical-at j cache) (f .each j (omega arith)))) (new .reorders))
 
   -- The last is dropped: fewer entries keep the filter.
   pub filter-forgotten : (i : ℕ) → suc i ≡ used → Filter (sets cache (i * entry-words) (none ∷ none ∷ none ∷ [])) i filter
@@ -117,8 +113,8 @@ filter-placed {cache} f i place =
     (λ j. getD-sets-outside cache (i * entry-words + 1) (place ∷ 1 ∷ []) (j * entry-words) none (λ k m e. omega arith))
 
 -- As the leaves leave them.
-pub filter-gains : {cache filter cache′ filter′ : List ℕ} {used used′ b : ℕ} → Filter cache used filter → (l place : ℕ)
-    → used * 3 + 3 ≤ length cache → used′ ≡ used + 1 → b ≡ bit-of l → filter′ ≡ put filter b
-    → cache′ ≡ l ∷ place ∷ 0 ∷ without used cache → Filter cache′ used′ filter′
-filter-gains f l place room more is-bit is-put stored =
-    rw (more, is-put, is-bit, stored) (filter-entered f l place (omega (arith, f .cache-fits)))
+pub filter-gains : {cache filter cache′ filter′ : List ℕ} {used used′ bit : ℕ} → Filter cache used filter → (b l place : ℕ) → b ≤ used
+    → used * 3 + 3 ≤ length cache → used′ ≡ used + 1 → bit ≡ bit-of l → filter′ ≡ put filter bit
+    → cache′ ≡ entered b used (record { logical = l; physical = place; changed = 0 }) cache → Filter cache′ used′ filter′
+filter-gains f b l place before room more is-bit is-put stored =
+    rw (more, is-put, is-bit, stored) (filter-entered f b l place before (omega (arith, f .cache-fits)))

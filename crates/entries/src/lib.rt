@@ -1,4 +1,4 @@
-// The cache's entries: found, moved to the front, entered, dropped and set, with the number of those in use.
+// The cache's entries: found, moved to the front, entered, dropped and set, with the numbers of those in use and of the protected ones.
 use lent::ENTRY_WORDS;
 use lent::FILTER_BITS;
 use lent::FILTER_WORDS;
@@ -16,7 +16,7 @@ ghost use mathlib.Core.Path.{_≡_};
 ghost use Prim.Native.Nat.{_+_, _*_, _≤_, _<_};
 ghost use lib.ListN.{length};
 ghost use Rattle.scope.specs.Sound.{rank-of};
-ghost use Rattle.scope.specs.Cache.{is-changed, touch, enter, forget, set-entry};
+ghost use Rattle.scope.specs.Cache.{is-changed, protected-after, touch, enter, forget, set-entry};
 ghost use Rattle.scope.specs.Lent.{entry-words, logical-at, physical-at};
 ghost use Rattle.lent.specs.declared.Work.{Work};
 ghost use Rattle.lent.specs.Model.{geometry};
@@ -73,15 +73,33 @@ pub fn is_changed(i: usize, cache: &[u32]) -> bool
     cache[i * ENTRY_WORDS + 2] == 1
 }
 
-// The entry at rank i moves to the front.
-pub fn touch(i: usize, cache: &mut [u32])
-    requires { ⌜ i * entry-words + entry-words ≤ length (now cache) ⌝ }
-    ensures { λ _. ⌜ ((w : Work) → Does-cache (touch i) (now (cache .entry)) w 0 (now (cache .exit)) w) ⌝ }
+// How many are protected after a hit at rank i, where n were. One in trial comes to them; where they are as many as may be, the last of them
+// goes to the trial part, and their number stays.
+fn protected_after(g: Geometry, i: usize, n: u32) -> u32
+    ensures { λ r. ⌜ r ≡ protected-after (geometry g) i n ⌝ }
 {
-    to_front(cache, i);
+    if i < n as usize {
+        return n;
+    }
+    if n < g.c / 2 {
+        return n + 1;
+    }
+    n
 }
 
-// An entry for logical page l, in front and unchanged, in the place of the first unused one.
+// The entry at rank i moves to the front.
+pub fn touch(work: Work, g: Geometry, i: usize, cache: &mut [u32]) -> Work
+    requires { ⌜ i * entry-words + entry-words ≤ length (now cache) ⌝ }
+    ensures { λ r. ⌜ Does-cache (touch (geometry g) i) (now (cache .entry)) work 0 (now (cache .exit)) r ⌝ }
+{
+    let mut next = work;
+    to_front(cache, i);
+    let after = protected_after(g, i, work.rec.protected);
+    next.rec.protected = after;
+    next
+}
+
+// An entry for logical page l, at the trial front and unchanged, in the place of the first unused one.
 pub fn enter(
     work: Work,
     l: u32,
@@ -89,15 +107,19 @@ pub fn enter(
     cache: &mut [u32],
     filter: &mut [u64; FILTER_WORDS],
 ) -> Work
-    requires { ⌜ (work .rec .used * entry-words + entry-words ≤ length (now cache)) × (work .rec .used < 4294967295) ⌝ }
+    requires { ⌜ (work .rec .used * entry-words + entry-words ≤ length (now cache)) × (work .rec .used < 4294967295)
+        × (work .rec .protected ≤ work .rec .used) ⌝ }
     requires { ⌜ Filter (now cache) (work .rec .used) (now filter) ⌝ }
-    ensures { λ r. ⌜ Does-cache (enter l place) (now (cache .entry)) work 0 (now (cache .exit)) r ⌝ }
+    ensures { λ r. ⌜ Does-cache (enter l place) (now (cache .entry)) work (r .rec .protected) (now (cache .exit)) r ⌝ }
     ensures { λ r. ⌜ Filter (now (cache .exit)) (r .rec .used) (now (filter .exit)) ⌝ }
 {
     let mut next = work;
     let used = work.rec.used;
     bitmap::put(filter, bit_of(l));
-    put_front(cache, used as usize, l, place, 0);
+    let before = work.rec.protected;
+    let trial = before as usize * ENTRY_WORDS;
+    let behind = (used - before) as usize;
+    put_front(&mut cache[trial..], behind, l, place, 0);
     let more = used + 1;
     next.rec.used = more;
     next

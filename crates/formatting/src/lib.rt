@@ -46,6 +46,7 @@ pub fn format(
             open_translation: g.d,
             translation_offset: 0,
             used: 0,
+            protected: 0,
         },
         counts: Counts {
             reads: 0,

@@ -26,6 +26,7 @@ small r =
       open-translation = r .«open_translation»;
       translation-offset = r .«translation_offset»;
       used = r .used;
+      protected = r .protected;
     }
 
 abbrev pub counts : Counted → Counts

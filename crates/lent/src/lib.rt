@@ -22,7 +22,7 @@ pub const SPARE_WORDS: usize = 2;
 pub const ENTRY_WORDS: usize = 3;
 
 // Words of the small record.
-pub const RECORD_WORDS: usize = 5;
+pub const RECORD_WORDS: usize = 6;
 
 // Words of what a call keeps on its stack: the census, and the filter of the cached pages, whose words have 64 bits.
 pub const CENSUS_WORDS: usize = 1024;
@@ -41,13 +41,14 @@ pub struct Geometry {
     pub c: u32,
 }
 
-// The small record, in document 01's order.
+// The small record, in document 01's order, with the number that document 02 adds.
 pub struct Record {
     pub open_data: u32,
     pub data_offset: u32,
     pub open_translation: u32,
     pub translation_offset: u32,
     pub used: u32,
+    pub protected: u32,
 }
 
 // Reads, programs and erases.
@@ -104,6 +105,7 @@ pub fn as_it_is(rec: Record) -> Record
         open_translation: rec.open_translation,
         translation_offset: rec.translation_offset,
         used: rec.used,
+        protected: rec.protected,
     }
 }
 

@@ -10,9 +10,10 @@ use lib.Seq.{getD-drop}
 use borrow.Author.Tests.{ltb-true}
 use Rattle.scope.specs.Counting.{all}
 use Rattle.scope.specs.Geometry.{Geometry}
+use Rattle.scope.specs.SmallRecord.{SmallRecord}
 use Rattle.scope.specs.Laws.Decides.{Decides, by-equal, by-below, by-most, by-same, by-and, by-not, by-all, by-some}
-use Rattle.scope.specs.Lent.{none, logical-at, physical-at, changed-at, cache-size}
-use Rattle.scope.specs.Sound.{Entries-fit}
+use Rattle.scope.specs.Lent.{none, logical-at, physical-at, changed-at, cache-size, most-protected}
+use Rattle.scope.specs.Sound.{Entries-fit, Protected-fit}
 use Rattle.flash.specs.Cases.{same?, below?, clash, and-true}
 use Rattle.lent.specs.Notes.{filter-bits}
 use Rattle.words.specs.Erased.{is-erased-word}
@@ -33,6 +34,9 @@ behind cache used = drop (used * 3) cache
 
 pub too-many : (g : Geometry) (cache : List ℕ) (used : ℕ) → g .C < used → Decides false (Entries-fit g cache used)
 too-many g cache used h = record { holds = λ p. clash p refl; passes = λ f. absurd (omega (arith, f .at-most)) }
+
+pub too-many-protected : (g : Geometry) (r : SmallRecord) → most-protected g < r .protected → Decides false (Protected-fit g r)
+too-many-protected g r h = record { holds = λ p. clash p refl; passes = λ f. absurd (omega (arith, f .at-most-half)) }
 
 module _ (g : Geometry) (cache : List ℕ) (used : ℕ) (most : used ≤ g .C) (long : length cache ≡ cache-size g) where
   Used-fit : Type 0

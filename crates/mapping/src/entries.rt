@@ -1,4 +1,5 @@
-// Rule 5: used entries number at most C, have different logical pages below L and changed 0 or 1; unused entries are none throughout.
+// Rule 5: used entries number at most C, have different logical pages below L and changed 0 or 1; unused entries are none throughout; protected
+// ones number at most C/2 and at most the used ones.
 // Any words may stand in the cache, and any number may come as used. The pages differ where each is new to the filter, which takes them one
 // after the other; where the rule holds, it is the filter of the cached pages.
 ghost use mathlib.Core.Path.{_≡_};
@@ -8,8 +9,8 @@ ghost use lib.ListN.{length};
 ghost use Rattle.scope.specs.Geometry.{Accepted};
 ghost use Rattle.scope.specs.Laws.Decides.{Decides};
 ghost use Rattle.scope.specs.Lent.{cache-size, logical-at, entry-words};
-ghost use Rattle.scope.specs.Sound.{Entries-fit};
-ghost use Rattle.lent.specs.Model.{geometry};
+ghost use Rattle.scope.specs.Sound.{Entries-fit, Protected-fit};
+ghost use Rattle.lent.specs.Model.{geometry, small};
 ghost use Rattle.lent.specs.Notes.{filter-bits};
 ghost use Rattle.words.specs.Bitmap.{has, put};
 ghost use Rattle.words.specs.Filter.{Filter};
@@ -18,6 +19,7 @@ ghost use Rattle.mapping.specs.Seen.{Seen};
 use lent::ENTRY_WORDS;
 use lent::FILTER_WORDS;
 use lent::Geometry;
+use lent::Record;
 use words::bitmap;
 use words::erased::only_erased;
 
@@ -57,7 +59,7 @@ fn used_fit(cache: &[u32], l: u32, n: usize, filter: &mut [u64; FILTER_WORDS]) -
     true
 }
 
-// Rule 5.
+// Rule 5, but for its last sentence.
 pub fn entries_fit(g: Geometry, cache: &[u32], used: u32, filter: &mut [u64; FILTER_WORDS]) -> bool
     requires { ⌜ Accepted (geometry g) ⌝ }
     requires { ⌜ length (now cache) ≡ cache-size (geometry g) ⌝ }
@@ -73,4 +75,14 @@ pub fn entries_fit(g: Geometry, cache: &[u32], used: u32, filter: &mut [u64; FIL
     }
     let behind = n * ENTRY_WORDS;
     only_erased(&cache[behind..])
+}
+
+// That sentence.
+pub fn protected_fit(g: Geometry, rec: Record) -> bool
+    ensures { λ r. ⌜ Decides r (Protected-fit (geometry g) (small rec)) ⌝ }
+{
+    if g.c / 2 < rec.protected {
+        return false;
+    }
+    rec.protected <= rec.used
 }

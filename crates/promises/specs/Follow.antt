@@ -23,7 +23,7 @@ use Rattle.cache.specs.Stored.{Settled, stored-settles, stored-keeps-places}
 use Rattle.cache.specs.Waiting.{latest}
 use Rattle.cache.specs.Follow.{Waiting-fits, cache-or-wait-law}
 use Rattle.promises.specs.Stored.{table}
-use Rattle.promises.specs.Parts.{Index-fits, Cache-fits, index-same, cached, cache-holds}
+use Rattle.promises.specs.Parts.{Index-fits, Cache-fits, index-same, border-same, cached, cache-holds}
 use Rattle.promises.specs.Update.{update-bound}
 use Rattle.promises.specs.Settle.{Index-settled, settle-law}
 
@@ -56,7 +56,7 @@ module _ {g : Geometry} (ok : Accepted g) (l i : ℕ) where
         inv =
             record {
               index = index-same (f .flash) (f .directory) (f .heads Translation) (inv .index);
-              cache = record { entries = f .entries; agree = f .agree };
+              cache = record { entries = f .entries; border = border-same (f .used) (f .protected) (inv .cache .border); agree = f .agree };
               waiting = f .waiting;
               rank = record { in-use = rw (f .used) (inv .rank .in-use); is-l = f .ranks i ∙ inv .rank .is-l };
             };
@@ -75,7 +75,12 @@ module _ {g : Geometry} (ok : Accepted g) (l i : ℕ) where
           lengths = did .lengths;
           inv = record {
             index = did .index;
-            cache = record { entries = rw (did .only .cache, used) (inv .cache .entries); agree = settled .agree };
+            cache =
+                record {
+                  entries = rw (did .only .cache, used) (inv .cache .entries);
+                  border = border-same used (did .only .rest .protected) (inv .cache .border);
+                  agree = settled .agree;
+                };
             waiting = none-waits;
             rank = rw (did .only .cache, used) (inv .rank);
           };
@@ -118,7 +123,12 @@ module _ {g : Geometry} (ok : Accepted g) (l i : ℕ) where
                 (holds-same (same .pages) (inv .index .pages));
             past-L = λ t n h k m. ap (λ (words : List ℕ). getD words n none) (same-table t h) ∙ inv .index .past-L t n h k m;
           };
-          cache = record { entries = rw (same .cache, same-used) (inv .cache .entries); agree = same-places .agree };
+          cache =
+              record {
+                entries = rw (same .cache, same-used) (inv .cache .entries);
+                border = border-same same-used (same .rest .protected) (inv .cache .border);
+                agree = same-places .agree;
+              };
           waiting = rw (same .cache, same-used) (inv .waiting);
           rank = rw (same .cache, same-used) (inv .rank);
         }

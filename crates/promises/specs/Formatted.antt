@@ -184,6 +184,7 @@ module _ (g : Geometry) (ok : Accepted g) (s : State) (len : Lengths g s) where
         rule-3 = blocks-fit;
         rule-4 = λ t h. rw (directory-none t h) (λ p k v. absurd (none-valid Translation p k v));
         rule-5 = rw is-fresh entries-fit;
+        rule-5-protected = rw is-fresh (record { at-most-half = omega arith; at-most-used = omega arith });
         rule-6 = record {
           current-place = λ l h. rw (unwritten l h) (λ p k v. absurd (none-valid Data p k v));
           past-L = λ t q i h e k m. absurd (nowhere-no-place (sym (directory-none t h) ∙ e));

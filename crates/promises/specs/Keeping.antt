@@ -125,7 +125,8 @@ pub cache-kept : {A : Type 0} {g : Geometry} {s : State} {o : Outcome A} {used b
     → Kept g bound s o
 cache-kept {g = g} {s} {o} e sound len step places few =
     record {
-      sound = kept-sound sound (step-index step (index-of sound)) (record { entries = step .holds .entries; agree = places .agree })
+      sound = kept-sound sound (step-index step (index-of sound))
+          (record { entries = step .holds .entries; border = step .border (sound .rule-5-protected); agree = places .agree })
           (step-pages step) (step .heads Data) (places .places);
       lengths = step-lengths step len;
       places = places .places;

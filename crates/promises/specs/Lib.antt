@@ -14,6 +14,7 @@ pub mod Follow
 pub mod Keeping
 pub mod Translate
 pub mod Neighbours
+pub mod Replacement
 pub mod HeldWords
 pub mod Read
 pub mod Write

@@ -31,10 +31,11 @@ pub record Written-together (g : Geometry) (i : ℕ) (s : State) (o : Outcome (U
   -- One of another page is changed if it was.
   pub others : (j : ℕ) → j < s .small .used → translation-page g (logical-at j (s .cache)) ≢ translation-page g (logical-at i (s .cache))
       → changed-at j (o .after .cache) ≡ changed-at j (s .cache)
-  -- Each entry has the rank and the place that it had, and as many are in use.
+  -- Each entry has the rank and the place that it had, and as many are in use and protected.
   pub ranks : (j : ℕ) → logical-at j (o .after .cache) ≡ logical-at j (s .cache)
   pub places : (j : ℕ) → physical-at j (o .after .cache) ≡ physical-at j (s .cache)
   pub used : o .after .small .used ≡ s .small .used
+  pub protected : o .after .small .protected ≡ s .small .protected
   -- The bound is that of one update, with one entry or with many.
   pub costs : cost (o .did) ≤ update-bound g
 
@@ -67,5 +68,6 @@ module _ {g : Geometry} (ok : Accepted g) (s : State) (len : Lengths g s) (sound
         ranks = go .ranks;
         places = λ j. physical-stays g t (s₁ .cache) (s₁ .small .used) j ∙ ap (physical-at j) (stores .cache);
         used = go .used;
+        protected = go .protected;
         costs = go .kept .costs;
       }

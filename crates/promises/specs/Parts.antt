@@ -6,8 +6,8 @@ use mathlib.Core.List.{List}
 use Rattle.scope.specs.Geometry.{Geometry}
 use Rattle.scope.specs.Lent.{State}
 use Rattle.scope.specs.Regions.{Region, Data, Translation}
-use Rattle.scope.specs.SmallRecord.{open-block, next-offset}
-use Rattle.scope.specs.Sound.{Pages-fit, Owners-differ, Blocks-fit, Entries-fit, Unchanged-agree, current, Sound}
+use Rattle.scope.specs.SmallRecord.{SmallRecord, open-block, next-offset}
+use Rattle.scope.specs.Sound.{Pages-fit, Owners-differ, Blocks-fit, Entries-fit, Protected-fit, Unchanged-agree, current, Sound}
 use Rattle.region.specs.Holds.{Region-fits, Region-holds, Holds, rules-fit, fits-blocks}
 use Rattle.flash.specs.Lengths.{Lengths}
 use Rattle.flash.specs.Heads.{Same-head}
@@ -29,6 +29,7 @@ Index-fits g s =
 -- Rules 5 and 7.
 pub record Cache-fits (g : Geometry) (s : State) : Type 0 where
   pub entries : Entries-fit g (s .cache) (s .small .used)
+  pub border : Protected-fit g (s .small)
   pub agree : Unchanged-agree g s
 
 module _ {g : Geometry} {s : State} where
@@ -56,7 +57,7 @@ module _ {g : Geometry} {s : State} where
       }
 
   pub cache-of : Sound g s → Cache-fits g s
-  cache-of sound = record { entries = sound .rule-5; agree = sound .rule-7 }
+  cache-of sound = record { entries = sound .rule-5; border = sound .rule-5-protected; agree = sound .rule-7 }
 
   -- The parts together.
   pub sound-from : Index-fits g s → Holds g Data s (current g s) → Cache-fits g s → Sound g s
@@ -67,6 +68,7 @@ module _ {g : Geometry} {s : State} where
         rule-3 = three;
         rule-4 = index .pages .maps .names;
         rule-5 = cache .entries;
+        rule-5-protected = cache .border;
         rule-6 = record { current-place = pages .maps .names; past-L = none-past g (s .chip) (s .directory) (index .past-L) };
         rule-7 = cache .agree;
       }
@@ -94,3 +96,8 @@ cache-holds g s len fits = holds-lookup g (s .cache) (s .small .used) (len .cach
 pub index-same : {g : Geometry} {s s′ : State} → Same-flash s′ s → s′ .directory ≡ s .directory
     → Same-head Translation (s .small) (s′ .small) → Index-fits g s → Index-fits g s′
 index-same flash directory head index = rw (flash .chip, flash .spare, directory, head .opened, head .offset) index
+
+-- As many are protected as were, of as many in use.
+pub border-same : {g : Geometry} {r r′ : SmallRecord} → r′ .used ≡ r .used → r′ .protected ≡ r .protected
+    → Protected-fit g r → Protected-fit g r′
+border-same used protected fit = record { at-most-half = rw protected (fit .at-most-half); at-most-used = rw (protected, used) (fit .at-most-used) }

@@ -1,4 +1,4 @@
--- Translate: l's entry comes to the front, or is fetched, and another one is dropped and written back where it must be. Every logical
+-- Translate: l's entry is found, or is fetched, and another one is dropped and written back where it must be. Every logical
 -- page stays where it is, and it costs at most 2P+2.
 use Prim.Native.Nat.{ℕ, suc, _+_, _*_, _-_, _≤_, _<_}
 use mathlib.Core.Path.{_≡_, refl, sym, _∙_, ap, subst}
@@ -19,12 +19,12 @@ use Rattle.flash.specs.Listed.{cost-none}
 use Rattle.cache.specs.Ranks.{Has-rank, rank-found, rank-missing}
 use Rattle.cache.specs.Holds.{Miss, updated, updated-here, updated-elsewhere, holds-found}
 use Rattle.cache.specs.Neighbours.{changed-of-waits, page-unchanged, unchanged-misses}
-use Rattle.cache.specs.Steps.{Holds-in, Ranks-kept, touch-law}
+use Rattle.cache.specs.Steps.{Holds-in, Ranks-kept, full-has-trial, dropped-is-trial, forget-ranks, forget-protected, touch-law}
 use Rattle.cache.specs.Current.{stored-in, touch-keeps-places, enter-keeps-places}
 use Rattle.cache.specs.Drop.{Changed-stored, update-keeps-places, unchanged-then, become-unchanged-keeps-places, unchanged-in-page, drop-law}
 use Rattle.cache.specs.Fetch.{page-read, fetch-law}
 use Rattle.promises.specs.Index.{page-below}
-use Rattle.promises.specs.Parts.{index-of, cache-of, cached, cache-holds}
+use Rattle.promises.specs.Parts.{index-of, cache-of, cached, cache-holds, border-same}
 use Rattle.promises.specs.Update.{update-bound, Updated, update-law}
 use Rattle.promises.specs.Stored.{Mappings-of}
 use Rattle.promises.specs.Keeping.{Kept, within, kept-none, kept-then, kept-sound, cache-kept}
@@ -47,14 +47,19 @@ page-read-cost Nowhere = omega arith
 pub record Can-go (g : Geometry) (i : ℕ) (s : State) (o : Outcome (Unit {0})) : Type 0 where
   pub kept : Kept g (update-bound g) s o
   pub used : o .after .small .used ≡ s .small .used
+  pub protected : o .after .small .protected ≡ s .small .protected
   pub ranks : (j : ℕ) → logical-at j (o .after .cache) ≡ logical-at j (s .cache)
   pub missing : (k : ℕ) → cached g s k ≡ Miss → cached g (o .after) k ≡ Miss
   pub unchanged : is-changed i (o .after .cache) ≡ false
 
--- An entry is free, and no page has come into the cache.
+-- An entry is free, and no page has come into the cache; of those in use only the last may have gone.
 pub record Free (g : Geometry) (s : State) (o : Outcome (Unit {0})) : Type 0 where
   pub kept : Kept g (update-bound g) s o
   pub room : o .after .small .used < g .C
+  pub none-gone : s .small .used < g .C → o .after .small .used ≡ s .small .used
+  pub one-gone : g .C ≤ s .small .used → suc (o .after .small .used) ≡ s .small .used
+  pub protected : o .after .small .protected ≡ s .small .protected
+  pub ranks : (j : ℕ) → j < o .after .small .used → logical-at j (o .after .cache) ≡ logical-at j (s .cache)
   pub missing : (k : ℕ) → cached g s k ≡ Miss → cached g (o .after) k ≡ Miss
 
 -- ---- the entry that goes
@@ -93,6 +98,7 @@ module _ {g : Geometry} (s : State) (len : Lengths g s) (sound : Sound g s) (i :
       record {
         kept = within (update-bound g) (omega arith) (kept-then o (become-unchanged g t (o .after)) updated settled);
         used = marked .step .used ∙ stores .used;
+        protected = marked .protected ∙ u .only .rest .protected;
         ranks = λ j. marked .ranks j ∙ ap (logical-at j) (stores .cache);
         missing = λ k e. holds-found g (after .cache) (after .small .used) (page-unchanged g t (cached g s)) (marked .step .holds) k
             ∙ unchanged-misses g t (cached g s) k e;
@@ -113,7 +119,11 @@ module _ {g : Geometry} (s : State) (len : Lengths g s) (sound : Sound g s) (i :
           let places = update-keeps-places g t s (o .after) (cached g s) holds (sound .rule-7) stores in
           record {
             sound = kept-sound sound (u .index)
-                (record { entries = rw (stores .cache, stores .used) (sound .rule-5); agree = places .agree })
+                (record {
+                  entries = rw (stores .cache, stores .used) (sound .rule-5);
+                  border = border-same (stores .used) (u .only .rest .protected) (sound .rule-5-protected);
+                  agree = places .agree;
+                })
                 (u .only .data-pages) (u .only .rest .head) (places .places);
             lengths = u .lengths;
             places = places .places;
@@ -133,26 +143,37 @@ module _ {g : Geometry} (s : State) (len : Lengths g s) (sound : Sound g s) (i :
   can-go ok =
       on (is-changed i (s .cache))
       (λ e. rw e (updated-can-go (update g t set s) (changed-updated ok)))
-      (λ e. rw e (record { kept = kept-none tt sound len; used = refl; ranks = λ j. refl; missing = λ k q. q; unchanged = e }))
+      (λ e. rw e (record {
+        kept = kept-none tt sound len;
+        used = refl;
+        protected = refl;
+        ranks = λ j. refl;
+        missing = λ k q. q;
+        unchanged = e;
+      }))
 
-  -- The last entry goes.
-  forgotten : suc i ≡ used → (o : Outcome (Unit {0})) → Can-go g i s o
+  -- The last entry goes, a trial one.
+  forgotten : g .C ≤ used → s .small .protected ≤ i → suc i ≡ used → (o : Outcome (Unit {0})) → Can-go g i s o
       → Free g s (record {
         value = forget i (o .after) .value;
         after = forget i (o .after) .after;
         did = o .did ++ forget i (o .after) .did;
       })
-  forgotten last o go =
+  forgotten full trial last o go =
       let s₁ = o .after in
       let m = cached g s₁ in
       let f = forget i s₁ in
       let d = drop-law g s₁ m (cache-holds g s₁ (go .kept .lengths) (cache-of (go .kept .sound))) (go .kept .sound .rule-7) i
-      (last ∙ sym (go .used)) (go .unchanged) in
+      (last ∙ sym (go .used)) (omega (arith, go .protected)) (go .unchanged) in
       let gone : Kept g 0 s₁ f = cache-kept Nowhere (go .kept .sound) (go .kept .lengths) (d .step) (d .places) (omega (arith, cost-none)) in
       let l = logical-at i (s₁ .cache) in
       record {
         kept = within (update-bound g) (omega arith) (kept-then o f (go .kept) gone);
         room = omega (arith, d .step .used, sound .rule-5 .at-most);
+        none-gone = λ h. absurd (omega arith);
+        one-gone = λ h. omega (arith, d .step .used);
+        protected = forget-protected i s₁ ∙ go .protected;
+        ranks = λ j h. forget-ranks s₁ i j (omega (arith, d .step .used)) ∙ go .ranks j;
         missing = λ k e.
             holds-found g (f .after .cache) (f .after .small .used) (updated m l Miss) (d .step .holds) k
             ∙ same? k l (λ q. rw q (updated-here m l Miss)) (λ q. updated-elsewhere m l Miss k q ∙ go .missing k e);
@@ -165,13 +186,24 @@ module _ {g : Geometry} (ok : Accepted g) where
   unfolding drop-if-full drop-entry dropped look give _>>=_
   dropped-law s len sound =
       let used = s .small .used in
-      let i = used - 1 in
+      let i = dropped s in
       below? used (g .C)
-      (λ h. rw (lt-ltb used (g .C) h) (record { kept = kept-none tt sound len; room = h; missing = λ k e. e }))
-      (λ h. rw (le-ltb used (g .C) h)
-      (forgotten s len sound i (omega (arith, ok .C-from)) (omega (arith, ok .C-from))
+      (λ h. rw (lt-ltb used (g .C) h)
+      (record {
+        kept = kept-none tt sound len;
+        room = h;
+        none-gone = λ k. refl;
+        one-gone = λ k. absurd (omega arith);
+        protected = refl;
+        ranks = λ j k. refl;
+        missing = λ k e. e;
+      }))
+      (λ h.
+      let (trial, last) = dropped-is-trial s (full-has-trial g (s .small) (ok .C-from) (sound .rule-5-protected) h) in
+      rw (le-ltb used (g .C) h)
+      (forgotten s len sound i (omega (arith, last)) h trial last
       (cond (is-changed i (s .cache)) (write-back g i) nothing s)
-      (can-go s len sound i (omega (arith, ok .C-from)) ok)))
+      (can-go s len sound i (omega (arith, last)) ok)))
 
   -- Where l is not cached: an entry is made free, and what flash stores for l enters.
   fetched : (l : ℕ) (s : State) → l < g .L → cached g s l ≡ Miss → (o : Outcome (Unit {0})) → Free g s o
@@ -185,7 +217,7 @@ module _ {g : Geometry} (ok : Accepted g) where
       let m = cached g s₁ in
       let page = named (translation-page g l) (s₁ .directory) in
       let holds = cache-holds g s₁ (free .kept .lengths) (cache-of (free .kept .sound)) in
-      let handed = fetch-law g s₁ m holds (ok .W-from) l (free .room) (free .missing l miss) below in
+      let handed = fetch-law g s₁ m holds (ok .W-from) l (free .kept .sound .rule-5-protected .at-most-used) (free .room) (free .missing l miss) below in
       let places = enter-keeps-places g s₁ m holds (free .kept .sound .rule-7) l (stored-in g s₁ l)
       (handed .step) (free .missing l miss) refl in
       let entered : Kept g 1 s₁ (fetch g l s₁) = cache-kept page (free .kept .sound) (free .kept .lengths) (handed .step) places
@@ -203,7 +235,7 @@ module _ {g : Geometry} (ok : Accepted g) where
       (rank-missing g (s .cache) (s .small .used) l (sound .rule-5 .at-most) h))
       (drop-if-full g s) (dropped-law s len sound)))
     where
-      touched : (i : ℕ) → Has-rank (s .cache) (s .small .used) l i → Translated g l s (touch i s)
+      touched : (i : ℕ) → Has-rank (s .cache) (s .small .used) l i → Translated g l s (touch g i s)
       touched i r =
           let holds = cache-holds g s len (cache-of sound) in
           let handed = touch-law g s (cached g s) holds l i r in

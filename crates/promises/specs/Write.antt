@@ -73,7 +73,7 @@ module _ {g : Geometry} (ok : Accepted g) (l i : ℕ) (buffer : List ℕ) (s : S
       record {
         sound = sound-from (follows .index)
             (written-holds w (holds .besides) (current g s₄) renames)
-            (record { entries = set .step .holds .entries; agree = places .agree });
+            (record { entries = set .step .holds .entries; border = set .step .border (follows .cache .border); agree = places .agree });
         lengths = lengths-with-cache (o .after) (w .lengths) (set .step .holds .long);
         written = w .replacement .written (current g s₄) renames;
         keeps = w .replacement .keeps (current g s₄) renames;

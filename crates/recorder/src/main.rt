@@ -81,6 +81,7 @@ fn formatted(
         open_translation: 0,
         translation_offset: 0,
         used: 0,
+        protected: 0,
     };
     let mut counts = [NONE; 3];
     let out = lending::format(any, G, chip, spare, directory, cache, &mut counts);
@@ -105,6 +106,7 @@ fn checked(
         rec.open_translation,
         rec.translation_offset,
         rec.used,
+        rec.protected,
     ];
     tell_numbers(b"record ", &numbers);
 }

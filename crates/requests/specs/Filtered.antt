@@ -50,10 +50,13 @@ pub filter-still : {cache filter : List ℕ} {n m : ℕ} → m ≡ n → Filter 
 filter-still {cache} {filter} e f = subst (λ (k : ℕ). Filter cache k filter) (sym e) f
 
 module _ {cache cache′ filter : List ℕ} {w : Work} (f : Filter cache (w .rec .used) filter) where
-  pub touched-filter : {i : ℕ} → i < w .rec .used → Does-cache (touch i) cache w 0 cache′ w → Filter cache′ (w .rec .used) filter
-  unfolding touch set-cache give _>>=_
-  touched-filter {i} in-use does =
-      subst (λ (x : List ℕ). Filter x (w .rec .used) filter) (ap (λ (s : State). s .cache) (does some-state .after)) (filter-moved f i in-use)
+  pub touched-filter : (g : Geometry) {i : ℕ} {w′ : Work} → i < w .rec .used → Does-cache (touch g i) cache w 0 cache′ w′
+      → Filter cache′ (w′ .rec .used) filter
+  unfolding touch set-cache set-small give _>>=_
+  touched-filter g {i} in-use does =
+      let after = does some-state .after in
+      subst₂ (λ (x : List ℕ) (n : ℕ). Filter x n filter) (ap (λ (s : State). s .cache) after) (ap (λ (s : State). s .small .used) after)
+      (filter-moved f i in-use)
 
   pub placed-filter : (i place : ℕ) → Does-cache (set-entry i place) cache w tt cache′ w → Filter cache′ (w .rec .used) filter
   unfolding set-entry set-cache

@@ -22,7 +22,7 @@ use Rattle.promises.specs.Update.{update-bound}
 use Rattle.promises.specs.Translate.{translate-bound, changed-updated, Can-go, can-go, dropped-law}
 use Rattle.lent.specs.declared.Counts.{Counts as Counted}
 use Rattle.lent.specs.declared.Work.{Work}
-use Rattle.lent.specs.Model.{Lists, together, with-rec, counts}
+use Rattle.lent.specs.Model.{Lists, together, with-rec, small, counts}
 use Rattle.lent.specs.Does.{Does}
 use Rattle.lent.specs.DoesLaws.{does-ends, does-give, does-look, does-look-at, does-bind, does-cond-true, does-cond-false, does-set-cache}
 use Rattle.lent.specs.Ready.{Does-all, Ready, Ready-for, countable-after}
@@ -39,6 +39,7 @@ pub record Fetches (g : Geometry) (l : ℕ) (chip directory cache : List ℕ) (w
   pub below : l < g .L
   pub on-chip : (q : ℕ) → named (translation-page g l) directory ≡ Place q → q < pages g
   pub room : w .rec .used < g .C
+  pub border : w .rec .protected ≤ w .rec .used
   pub countable : Room-to-count 1 (w .counts)
 
 -- It is done whatever else the state holds.
@@ -63,7 +64,7 @@ module _ (g : Geometry) {s s₁ : State} {c c₁ : Counts} where
   drop-last-does h drops = does-bind _ (does-look _) (does-cond-false _ _ _ (le-ltb (s .small .used) (g .C) h) drops)
 
   pub hit-does : (l : ℕ) {i x : ℕ} → rank-of g (s .cache) (s .small .used) l ≡ i → i < g .C
-      → Does (touch i) s c x s₁ c₁ → Does (translate g l) s c x s₁ c₁
+      → Does (touch g i) s c x s₁ c₁ → Does (translate g l) s c x s₁ c₁
   unfolding translate
   hit-does l {i} is h touches = does-bind _ (does-look-at _ is) (does-cond-true _ _ _ (lt-ltb i (g .C) h) touches)
 
@@ -90,16 +91,16 @@ pub drop-none-does : (g : Geometry) {s : State} {c : Counts} → s .small .used 
 unfolding drop-if-full
 drop-none-does g {s} h = does-bind _ (does-look _) (does-cond-true _ _ _ (lt-ltb (s .small .used) (g .C) h) (does-give tt))
 
--- Reading a word leaves the state as it is, and so the number of used entries.
+-- Reading a word leaves the state as it is, and so what the record says of the cache.
 word-for-keeps : (g : Geometry) (l : ℕ) (page : Entry) (s : State) → word-for g l page s .after ≡ s
 unfolding word-for read-page perform apply look give _>>=_
 word-for-keeps g l (Place q) s = refl
 word-for-keeps g l Nowhere s = refl
 
-pub read-keeps-used : (g : Geometry) (l : ℕ) (page : Entry) {chip : List ℕ} {w w′ : Work} {x : ℕ}
-    → Does-by-chip (word-for g l page) chip w x w′ → w′ .rec .used ≡ w .rec .used
-read-keeps-used g l page {chip} {w} does =
-    ap (λ (s : State). s .small .used)
+pub read-keeps-small : (g : Geometry) (l : ℕ) (page : Entry) {chip : List ℕ} {w w′ : Work} {x : ℕ}
+    → Does-by-chip (word-for g l page) chip w x w′ → small (w′ .rec) ≡ small (w .rec)
+read-keeps-small g l page {chip} {w} does =
+    ap (λ (s : State). s .small)
     (sym (does (blank g) .after) ∙ word-for-keeps g l page (with-flash chip (blank g .spare) (with-rec (w .rec) (blank g))))
 
 -- ---- what is asked for at each place
@@ -163,5 +164,7 @@ fetch-ready {g} l {s} {c} {left} {w} ready does =
       on-chip = named-on-chip (ready .ready .accepted) (together left (w .rec))
           (subst (Index-fits g) (does .after) (index-of (freed .kept .sound))) l (ready .below);
       room = subst (λ (x : State). x .small .used < g .C) (does .after) (freed .room);
+      border = subst (λ (x : State). x .small .protected ≤ x .small .used) (does .after)
+          (freed .kept .sound .rule-5-protected .at-most-used);
       countable = countable-after 1 (update-bound g) (less-room (omega arith) (ready .ready .countable)) (freed .kept .costs) does;
     }

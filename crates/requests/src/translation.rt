@@ -1,4 +1,4 @@
-// Translate: l's entry comes to the front of the cache, from its rank or from l's translation page; the last one makes room for it.
+// Translate: l's entry comes to its place in the cache, from its rank or from l's translation page; the last one makes room for it.
 use entries::enter;
 use entries::forget;
 use entries::is_changed;
@@ -101,7 +101,7 @@ fn drop_if_full(
     drop_entry(work, g, chip, spare, census, directory, cache)
 }
 
-// What l's translation page holds for l enters the cache, in front.
+// What l's translation page holds for l enters the cache.
 fn fetch(
     work: Work,
     g: Geometry,
@@ -114,7 +114,7 @@ fn fetch(
     requires { ⌜ Fetches (geometry g) l (now chip) (now directory) (now cache) work ⌝ }
     requires { ⌜ Filter (now cache) (work .rec .used) (now filter) ⌝ }
     ensures { λ r. ⌜ Does-fetch (fetch (geometry g) l)
-        (now (chip .entry)) (now (directory .entry)) (now (cache .entry)) work 0 (now (cache .exit)) r ⌝ }
+        (now (chip .entry)) (now (directory .entry)) (now (cache .entry)) work (r .rec .protected) (now (cache .exit)) r ⌝ }
     ensures { λ r. ⌜ Filter (now (cache .exit)) (r .rec .used) (now (filter .exit)) ⌝ }
 {
     let page = named(l / g.w, directory);
@@ -146,13 +146,16 @@ pub fn translate(
     let rec = work.rec;
     let i = rank_of(rec, g, l, cache, filter);
     if i < g.c as usize {
-        touch(i, cache);
-        return Handed { value: 0, work };
+        let touched = touch(work, g, i, cache);
+        return Handed {
+            value: 0,
+            work: touched,
+        };
     }
     let freed = drop_if_full(work, g, chip, spare, census, directory, cache);
     let fetched = fetch(freed, g, l, chip, directory, cache, filter);
     Handed {
-        value: 0,
+        value: fetched.rec.protected,
         work: fetched,
     }
 }

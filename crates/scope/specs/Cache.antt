@@ -1,16 +1,16 @@
 -- 01's cache: its words, and its order behind a few definitions: what is dropped, where a found and where a new entry goes; and the entries
--- that 02's P2 writes back with a dropped one.
--- "Replacement is least recently used, as in source 003." Translate knows no more of the order than what stands here.
+-- that 02's P2 writes back with a dropped one. The order is that of 02's P5, in place of 01's "least recently used": "a protected part .. and a
+-- trial part", and "protected entries lie first". Translate knows no more of it than what stands here.
 use Prim.Native.Nat.{ℕ, zero, suc, _+_, _*_, _-_}
 use mathlib.Core.Bool.{Bool, cond, _&&_}
 use mathlib.Core.List.{List, [], _∷_, _++_}
-use lib.Dec.{eqb}
+use lib.Dec.{eqb, ltb}
 use lib.ListN.{set, take, drop}
 use lib.Seq.{sets}
 use Rattle.scope.specs.Geometry.{Geometry}
-use Rattle.scope.specs.SmallRecord.{with-used}
-use Rattle.scope.specs.Lent.{none, State, Mapping, entry-words, logical-at, physical-at, changed-at, translation-page}
-use Rattle.scope.specs.Operations.{Step, give, set-cache, set-small, _>>=_, _>>_}
+use Rattle.scope.specs.SmallRecord.{with-used, with-protected}
+use Rattle.scope.specs.Lent.{none, State, Mapping, entry-words, most-protected, logical-at, physical-at, changed-at, translation-page}
+use Rattle.scope.specs.Operations.{Step, give, look, set-cache, set-small, _>>=_, _>>_}
 
 -- The entry at a rank, and the cache without it, those behind it one rank nearer.
 abbrev pub entry-at : ℕ → List ℕ → List ℕ
@@ -19,20 +19,37 @@ entry-at i cache = take entry-words (drop (i * entry-words) cache)
 abbrev pub without : ℕ → List ℕ → List ℕ
 without i cache = take (i * entry-words) cache ++ drop (i * entry-words + entry-words) cache
 
--- "A cached entry moves to the front." The rank that it has then is handed back.
-unfoldable pub touch : ℕ → Step ℕ
-touch i = do
+-- The two parts of the cache; unused entries stand at the end of the second.
+abbrev pub protected-part : State → List ℕ
+protected-part s = take (s .small .protected * entry-words) (s .cache)
+
+abbrev pub trial-part : State → List ℕ
+trial-part s = drop (s .small .protected * entry-words) (s .cache)
+
+-- "If protected is then over its limit, its last goes to the trial front": the list stays, and the border is one entry nearer.
+abbrev pub within-limit : Geometry → ℕ → ℕ
+within-limit g n = cond (ltb (most-protected g) n) (n - 1) n
+
+-- How many are protected after a hit at rank i, where n were: one in protected stays there, one in trial comes to them.
+abbrev pub protected-after : Geometry → ℕ → ℕ → ℕ
+protected-after g i n = cond (ltb i n) n (within-limit g (suc n))
+
+-- "A hit in trial moves to the protected front .. A hit in protected moves to its front": each moves to the front of the list. The rank that it
+-- has then is handed back.
+unfoldable pub touch : Geometry → ℕ → Step ℕ
+touch g i = do
   set-cache (λ s. entry-at i (s .cache) ++ without i (s .cache))
+  set-small (λ r. with-protected (protected-after g i (r .protected)) r)
   give 0
 
--- "Put the entry in front, unchanged": in the place of the first unused one. The rank that it has is handed back.
+-- "A miss enters at the trial front", unchanged, in the place of the first unused entry. The rank that it has is handed back.
 unfoldable pub enter : ℕ → ℕ → Step ℕ
 enter l place = do
-  set-cache (λ s. l ∷ place ∷ 0 ∷ without (s .small .used) (s .cache))
+  set-cache (λ s. protected-part s ++ (l ∷ place ∷ 0 ∷ without (s .small .used - s .small .protected) (trial-part s)))
   set-small (λ r. with-used (suc (r .used)) r)
-  give 0
+  look (λ s. s .small .protected)
 
--- "Drop the last": the rank of the entry that goes.
+-- "The victim is the trial part's last": the rank of the entry that goes.
 unfoldable pub dropped : State → ℕ
 dropped s = s .small .used - 1
 

@@ -6,9 +6,9 @@ use mathlib.Core.List.{List}
 use lib.Dec.{eqb, ltb, leb}
 use Rattle.scope.specs.Counting.{all, some}
 use Rattle.scope.specs.Geometry.{Geometry, M}
-use Rattle.scope.specs.Lent.{none, erased, valid, invalid, Entry, Place, Nowhere, decode, State, word-of, state-of, owner-of, is-erased, is-valid, named, logical-at, physical-at, changed-at}
+use Rattle.scope.specs.Lent.{none, erased, valid, invalid, Entry, Place, Nowhere, decode, State, most-protected, word-of, state-of, owner-of, is-erased, is-valid, named, logical-at, physical-at, changed-at}
 use Rattle.scope.specs.Regions.{Region, Data, Translation, first-block, region-blocks, first-page, region-pages, owners, page-in}
-use Rattle.scope.specs.SmallRecord.{open-block, next-offset}
+use Rattle.scope.specs.SmallRecord.{SmallRecord, open-block, next-offset}
 use Rattle.scope.specs.Blocks.{wholly-erased, no-erased-page}
 use Rattle.scope.specs.Sound.{stored, current}
 
@@ -74,6 +74,10 @@ entries-fit g cache used =
     && all i (λ j. not (eqb (logical-at j cache) (logical-at i cache))))
     (eqb (logical-at i cache) none && eqb (physical-at i cache) none && eqb (changed-at i cache) none))
 
+-- Its last sentence.
+unfoldable pub protected-fit : Geometry → SmallRecord → Bool
+protected-fit g r = leb (r .protected) (most-protected g) && leb (r .protected) (r .used)
+
 -- Rule 6.
 abbrev pub none-past-L : Geometry → List ℕ → ℕ → Entry → Bool
 none-past-L g chip t (Place q) = all (g .W) (λ i. not (leb (g .L) (t * g .W + i)) || eqb (word-of g q i chip) none)
@@ -98,6 +102,6 @@ sound g s =
     && (blocks-fit g Data (s .spare) (open-block Data (s .small)) (next-offset Data (s .small))
     && blocks-fit g Translation (s .spare) (open-block Translation (s .small)) (next-offset Translation (s .small)))
     && directory-names g (s .spare) (s .directory)
-    && entries-fit g (s .cache) (s .small .used)
+    && (entries-fit g (s .cache) (s .small .used) && protected-fit g (s .small))
     && places-hold g s
     && unchanged-agree g s

@@ -90,6 +90,10 @@ directory-size g = M g
 abbrev pub cache-size : Geometry → ℕ
 cache-size g = g .C * entry-words
 
+-- 02, P5: "a protected part of at most C/2 entries (rounded down)".
+abbrev pub most-protected : Geometry → ℕ
+most-protected g = g .C / 2
+
 -- "Page p begins at word p·W."
 abbrev pub words-of : Geometry → ℕ → List ℕ → List ℕ
 words-of g p chip = take (g .W) (drop (p * g .W) chip)

@@ -1,4 +1,4 @@
--- 01, "What is lent": the small record, "five words" at the boundary. All that names its fields stands here.
+-- 01, "What is lent": the small record, with the word that 02 adds; six at the boundary. All that names its fields stands here.
 use Prim.Native.Nat.{ℕ, suc}
 use mathlib.Core.List.{List, [], _∷_}
 use lib.ListN.{getD}
@@ -6,12 +6,14 @@ use Rattle.scope.specs.Geometry.{Geometry}
 use Rattle.scope.specs.Regions.{Region, Data, Translation, first-block}
 
 -- "Small record: open data block, its next page offset (0 to P), open translation block, its next offset, used cache entries."
+-- 02, P5: "The small record gains the number of protected entries."
 pub record SmallRecord : Type 0 where
   pub open-data : ℕ
   pub data-offset : ℕ
   pub open-translation : ℕ
   pub translation-offset : ℕ
   pub used : ℕ
+  pub protected : ℕ
 
 -- The open block of a region and its next page offset.
 abbrev pub open-block : Region → SmallRecord → ℕ
@@ -31,6 +33,7 @@ with-open Data b offset r =
       open-translation = r .open-translation;
       translation-offset = r .translation-offset;
       used = r .used;
+      protected = r .protected;
     }
 with-open Translation b offset r =
     record {
@@ -39,6 +42,7 @@ with-open Translation b offset r =
       open-translation = b;
       translation-offset = offset;
       used = r .used;
+      protected = r .protected;
     }
 
 -- With block b opened, at its first page; with the next page one further.
@@ -57,9 +61,22 @@ with-used n r =
       open-translation = r .open-translation;
       translation-offset = r .translation-offset;
       used = n;
+      protected = r .protected;
     }
 
--- Format's: "open blocks 0 and D, offsets and used entries 0".
+-- With n protected ones.
+abbrev pub with-protected : ℕ → SmallRecord → SmallRecord
+with-protected n r =
+    record {
+      open-data = r .open-data;
+      data-offset = r .data-offset;
+      open-translation = r .open-translation;
+      translation-offset = r .translation-offset;
+      used = r .used;
+      protected = n;
+    }
+
+-- Format's: "open blocks 0 and D, offsets and used entries 0". None is protected.
 abbrev pub fresh : Geometry → SmallRecord
 fresh g =
     record {
@@ -68,11 +85,12 @@ fresh g =
       open-translation = first-block g Translation;
       translation-offset = 0;
       used = 0;
+      protected = 0;
     }
 
 -- The small record's words, in the order of its fields, and the number of them.
 abbrev pub record-words : ℕ
-record-words = 5
+record-words = 6
 
 abbrev pub record-of : List ℕ → SmallRecord
 record-of words =
@@ -82,7 +100,9 @@ record-of words =
       open-translation = getD words 2 0;
       translation-offset = getD words 3 0;
       used = getD words 4 0;
+      protected = getD words 5 0;
     }
 
 abbrev pub words-from : SmallRecord → List ℕ
-words-from r = r .open-data ∷ r .data-offset ∷ r .open-translation ∷ r .translation-offset ∷ r .used ∷ []
+words-from r =
+    r .open-data ∷ r .data-offset ∷ r .open-translation ∷ r .translation-offset ∷ r .used ∷ r .protected ∷ []

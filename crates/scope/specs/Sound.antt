@@ -8,9 +8,9 @@ use mathlib.Core.List.{List}
 use lib.Dec.{eqb, ltb}
 use Rattle.scope.specs.Counting.{lowest}
 use Rattle.scope.specs.Geometry.{Geometry, M}
-use Rattle.scope.specs.Lent.{none, erased, valid, invalid, Entry, Place, Nowhere, decode, State, word-of, state-of, owner-of, named, logical-at, physical-at, changed-at, translation-page, translation-word}
+use Rattle.scope.specs.Lent.{none, erased, valid, invalid, Entry, Place, Nowhere, decode, State, most-protected, word-of, state-of, owner-of, named, logical-at, physical-at, changed-at, translation-page, translation-word}
 use Rattle.scope.specs.Regions.{Region, Data, Translation, owners, page-in, Has-block, Has-page}
-use Rattle.scope.specs.SmallRecord.{open-block, next-offset}
+use Rattle.scope.specs.SmallRecord.{SmallRecord, open-block, next-offset}
 
 -- Rule 1, of a page. "Each state word is one of the three. Erased pages have owner *none* and only erased words.
 -- Other pages have an owner below L (data) or M (translation)."
@@ -66,6 +66,11 @@ pub record Entries-fit (g : Geometry) (cache : List ℕ) (used : ℕ) : Type 0 w
   pub unused : (i : ℕ) → i < g .C → used ≤ i
       → (logical-at i cache ≡ none) × (physical-at i cache ≡ none) × (changed-at i cache ≡ none)
 
+-- Rule 5's last sentence is 02's, P5: "the number of protected entries, at most C/2 and at most the used ones in a sound state".
+pub record Protected-fit (g : Geometry) (r : SmallRecord) : Type 0 where
+  pub at-most-half : r .protected ≤ most-protected g
+  pub at-most-used : r .protected ≤ r .used
+
 -- The rank of the entry in use that has logical page l; C where l isn't cached.
 unfoldable pub rank-of : Geometry → List ℕ → ℕ → ℕ → ℕ
 rank-of g cache used l = lowest (g .C) (λ i. ltb i used && eqb (logical-at i cache) l)
@@ -111,5 +116,6 @@ pub record Sound (g : Geometry) (s : State) : Type 0 where
   pub rule-3 : (r : Region) → Blocks-fit g r (s .spare) (open-block r (s .small)) (next-offset r (s .small))
   pub rule-4 : Directory-names g (s .spare) (s .directory)
   pub rule-5 : Entries-fit g (s .cache) (s .small .used)
+  pub rule-5-protected : Protected-fit g (s .small)
   pub rule-6 : Places-hold g s
   pub rule-7 : Unchanged-agree g s

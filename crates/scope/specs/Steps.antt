@@ -80,7 +80,7 @@ write-back g i = do
   update g t mappings
   become-unchanged g t
 
--- "If all C entries are used, drop the last; if it is changed, first write it back."
+-- "If all C entries are used, drop the last; if it is changed, first write it back." Which is the last, Cache.antt says.
 unfoldable pub drop-entry : Geometry → Step (Unit {0})
 drop-entry g = do
   i ← look dropped
@@ -106,9 +106,10 @@ fetch g l = do
   place ← word-for g l page
   enter l place
 
--- Translate l. "A cached entry moves to the front. Otherwise, if all C entries are used, drop the last .. Then, if l's translation
--- page exists, read it and take the word .. Put the entry in front, unchanged." The entry's rank is handed back.
+-- Translate l. 01: "A cached entry moves to the front. Otherwise, if all C entries are used, drop the last .. Then, if l's translation
+-- page exists, read it and take the word .. Put the entry in front, unchanged." Where it moves and where it is put is 02's, P5. Its rank is
+-- handed back.
 unfoldable pub translate : Geometry → ℕ → Step ℕ
 translate g l = do
   i ← look (λ s. rank-of g (s .cache) (s .small .used) l)
-  cond (ltb i (g .C)) (touch i) (drop-if-full g >> fetch g l)
+  cond (ltb i (g .C)) (touch g i) (drop-if-full g >> fetch g l)

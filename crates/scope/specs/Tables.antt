@@ -3,4 +3,5 @@
 pub mod Play
 pub mod Session
 pub mod Instances
+pub mod Replacement
 pub mod Cases

@@ -5,7 +5,7 @@ use Rattle.scope.specs.Geometry.{Geometry}
 use Rattle.scope.specs.Regions.{Region, Data, Translation}
 use Rattle.scope.specs.SmallRecord.{SmallRecord}
 use Rattle.scope.specs.Lent.{State}
-use Rattle.scope.specs.Sound.{Owners-differ, Directory-names, Entries-fit, Places-hold, Unchanged-agree, Sound, current}
+use Rattle.scope.specs.Sound.{Owners-differ, Directory-names, Entries-fit, Protected-fit, Places-hold, Unchanged-agree, Sound, current}
 use Rattle.survey.specs.Survey.{Pages-and-blocks}
 use Rattle.mapping.specs.Stored.{parts}
 
@@ -17,11 +17,12 @@ pub record Flash-rules (g : Geometry) (chip spare directory : List ℕ) (s : Sma
   pub names : Directory-names g spare directory
 
 -- Rules 5 to 7; rule 2 of the data region is decided with rule 6.
-pub record Cache-rules (g : Geometry) (chip spare directory cache : List ℕ) (used : ℕ) : Type 0 where
-  pub entries : Entries-fit g cache used
+pub record Cache-rules (g : Geometry) (chip spare directory cache : List ℕ) (s : SmallRecord) : Type 0 where
+  pub entries : Entries-fit g cache (s .used)
+  pub border : Protected-fit g s
   pub differ : Owners-differ g Data spare
-  pub places : Places-hold g (parts chip spare directory cache used)
-  pub agree : Unchanged-agree g (parts chip [] directory cache used)
+  pub places : Places-hold g (parts chip spare directory cache (s .used))
+  pub agree : Unchanged-agree g (parts chip [] directory cache (s .used))
 
 module _ (g : Geometry) (s : State) where
   pub flash-of-sound : Sound g s → Flash-rules g (s .chip) (s .spare) (s .directory) (s .small)
@@ -33,18 +34,19 @@ module _ (g : Geometry) (s : State) where
         names = h .rule-4;
       }
 
-  pub cache-of-sound : Sound g s → Cache-rules g (s .chip) (s .spare) (s .directory) (s .cache) (s .small .used)
+  pub cache-of-sound : Sound g s → Cache-rules g (s .chip) (s .spare) (s .directory) (s .cache) (s .small)
   unfolding current
   cache-of-sound h =
       record {
         entries = h .rule-5;
+        border = h .rule-5-protected;
         differ = h .rule-2 Data;
         places = record { current-place = h .rule-6 .current-place; past-L = h .rule-6 .past-L };
         agree = h .rule-7;
       }
 
   pub sound-of-both : Flash-rules g (s .chip) (s .spare) (s .directory) (s .small)
-      → Cache-rules g (s .chip) (s .spare) (s .directory) (s .cache) (s .small .used) → Sound g s
+      → Cache-rules g (s .chip) (s .spare) (s .directory) (s .cache) (s .small) → Sound g s
   unfolding current
   sound-of-both f c =
       record {
@@ -53,6 +55,7 @@ module _ (g : Geometry) (s : State) where
         rule-3 = λ r. of-region r .blocks;
         rule-4 = f .names;
         rule-5 = c .entries;
+        rule-5-protected = c .border;
         rule-6 = record { current-place = c .places .current-place; past-L = c .places .past-L };
         rule-7 = c .agree;
       }

@@ -22,6 +22,7 @@ use lent::Geometry;
 use lent::Record;
 use mapping::directory::directory_names;
 use mapping::entries::entries_fit;
+use mapping::entries::protected_fit;
 use mapping::places::places_hold;
 use mapping::stored::unchanged_agree;
 use survey::blocks::Survey;
@@ -68,7 +69,7 @@ fn cache_sound(
     spare: &[u32],
     directory: &[u32],
     cache: &[u32],
-    used: u32,
+    rec: Record,
     valid: usize,
     filter: &mut [u64; FILTER_WORDS],
 ) -> bool
@@ -78,9 +79,13 @@ fn cache_sound(
     requires { ⌜ Directory-names (geometry g) (now spare) (now directory) ⌝ }
     requires { ⌜ valid ≡ valid-in (geometry g) Data (now spare) ⌝ }
     ensures { λ r. ⌜ Decides r
-        (Cache-rules (geometry g) (now (chip .entry)) (now (spare .entry)) (now (directory .entry)) (now (cache .entry)) used) ⌝ }
-    ensures { λ r. ⌜ (r ≡ true → Filter (now (cache .entry)) used (now (filter .exit))) ⌝ }
+        (Cache-rules (geometry g) (now (chip .entry)) (now (spare .entry)) (now (directory .entry)) (now (cache .entry)) (small rec)) ⌝ }
+    ensures { λ r. ⌜ (r ≡ true → Filter (now (cache .entry)) (rec .used) (now (filter .exit))) ⌝ }
 {
+    if !protected_fit(g, rec) {
+        return false;
+    }
+    let used = rec.used;
     if !entries_fit(g, cache, used, filter) {
         return false;
     }
@@ -114,14 +119,5 @@ pub fn is_sound(
     if !flash.fits {
         return false;
     }
-    cache_sound(
-        g,
-        chip,
-        spare,
-        directory,
-        cache,
-        rec.used,
-        flash.valid,
-        filter,
-    )
+    cache_sound(g, chip, spare, directory, cache, rec, flash.valid, filter)
 }

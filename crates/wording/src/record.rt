@@ -29,6 +29,7 @@ pub fn load(record: &[u32]) -> Record
         open_translation: word(record, 2),
         translation_offset: word(record, 3),
         used: word(record, 4),
+        protected: word(record, 5),
     }
 }
 
@@ -40,4 +41,5 @@ pub fn store(record: &mut [u32], rec: Record)
     set_word(record, 2, rec.open_translation);
     set_word(record, 3, rec.translation_offset);
     set_word(record, 4, rec.used);
+    set_word(record, 5, rec.protected);
 }

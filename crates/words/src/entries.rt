@@ -65,7 +65,7 @@ pub fn among_four(cache: &[u32], i: usize, l: u32) -> usize
     4
 }
 
-// The lowest rank below `used` whose entry has logical page l; n where none has. The most recently used stand first, so that the
+// The lowest rank below `used` whose entry has logical page l; n where none has. Those that are used again and again stand first, so that the
 // search ends early where it finds one. Four entries a turn, so that the loop's own test is paid once for four.
 pub fn rank_of(cache: &[u32], used: usize, n: usize, l: u32) -> usize
     requires { ⌜ (used ≤ n) × (n * entry-words ≤ length (now cache)) ⌝ }

@@ -82,13 +82,13 @@ module _ {M : Type 1} (𝓤 : URA M) (H : Heap 𝓤) (A : Atoms 𝓤) (W : Given
   Post = walkOf 𝓤 H A walked·.ended stayed (walked·.clauses 𝓤 H A mm rn) .post (((κ·rec, (κ·chip, (κ·spare, (κ·directory, (κ·cache, (κ·buffer, (κ·counts, tt))))))), (q·rec, (q·chip, (q·spare, (q·directory, (q·cache, (q·buffer, (q·counts, tt))))))), tt, a, vals), tt)
 
   abbrev Did·1 : (r·1 : D·Out) (zs·1 : Unit {0} × (Unit {0} × (Unit {0} × (Unit {0} × (List ℕ × (List ℕ × (List ℕ × (List ℕ × (Unit {0} × (List ℕ × (Unit {0}))))))))))) → Type 0
-  Did·1 r·1 zs·1 = Answers (write (geometry v·g) (call-sizes 5 (length (l·counts))) v·page (l·buffer) (state (l·chip) (l·spare) (l·directory) (l·cache) v·rec)) (l·counts) (replied (l·buffer) (r·1 .answer)) (state ((zs·1 .1 .1 .1 .1 .0)) ((zs·1 .1 .1 .1 .1 .1 .0)) ((zs·1 .1 .1 .1 .1 .1 .1 .0)) ((zs·1 .1 .1 .1 .1 .1 .1 .1 .0)) (r·1 .rec)) ((zs·1 .1 .1 .1 .1 .1 .1 .1 .1 .1 .0))
+  Did·1 r·1 zs·1 = Answers (write (geometry v·g) (call-sizes 6 (length (l·counts))) v·page (l·buffer) (state (l·chip) (l·spare) (l·directory) (l·cache) v·rec)) (l·counts) (replied (l·buffer) (r·1 .answer)) (state ((zs·1 .1 .1 .1 .1 .0)) ((zs·1 .1 .1 .1 .1 .1 .0)) ((zs·1 .1 .1 .1 .1 .1 .1 .0)) ((zs·1 .1 .1 .1 .1 .1 .1 .1 .0)) (r·1 .rec)) ((zs·1 .1 .1 .1 .1 .1 .1 .1 .1 .1 .0))
 
   abbrev ca·1 : D·Record × (ℕ × (D·Geometry × (ℕ × (RefT (List ℕ) × (RefT (List ℕ) × (RefT (List ℕ) × (RefT (List ℕ) × (RefT (List ℕ) × (RefT (List ℕ) × (Unit {0}))))))))))
-  ca·1 = (v·rec, (5, (v·g, (v·page, (slice u32 b·chip o·chip γ·chip l·chip, (slice u32 b·spare o·spare γ·spare l·spare, (slice u32 b·directory o·directory γ·directory l·directory, (slice u32 b·cache o·cache γ·cache l·cache, (slice u32 b·buffer o·buffer γ·buffer l·buffer, (slice u32 b·counts o·counts γ·counts l·counts, tt))))))))))
+  ca·1 = (v·rec, (6, (v·g, (v·page, (slice u32 b·chip o·chip γ·chip l·chip, (slice u32 b·spare o·spare γ·spare l·spare, (slice u32 b·directory o·directory γ·directory l·directory, (slice u32 b·cache o·cache γ·cache l·cache, (slice u32 b·buffer o·buffer γ·buffer l·buffer, (slice u32 b·counts o·counts γ·counts l·counts, tt))))))))))
 
   abbrev cv·1 : List Val × (List Val × (List Val × (List Val × (List Val × (List Val × (List Val × (List Val × (List Val × (List Val × (Unit {0}))))))))))
-  cv·1 = ((LL.val T·Record.the-type L·Record.the-laws v·rec) ∷ [], ((vint w64 5) ∷ [], ((LL.val T·Geometry.the-type L·Geometry.the-laws v·g) ∷ [], ((vint w32 v·page) ∷ [], ((sliceVal (b·chip, o·chip) (length l·chip)) ∷ [], ((sliceVal (b·spare, o·spare) (length l·spare)) ∷ [], ((sliceVal (b·directory, o·directory) (length l·directory)) ∷ [], ((sliceVal (b·cache, o·cache) (length l·cache)) ∷ [], ((sliceVal (b·buffer, o·buffer) (length l·buffer)) ∷ [], ((sliceVal (b·counts, o·counts) (length l·counts)) ∷ [], tt))))))))))
+  cv·1 = ((LL.val T·Record.the-type L·Record.the-laws v·rec) ∷ [], ((vint w64 6) ∷ [], ((LL.val T·Geometry.the-type L·Geometry.the-laws v·g) ∷ [], ((vint w32 v·page) ∷ [], ((sliceVal (b·chip, o·chip) (length l·chip)) ∷ [], ((sliceVal (b·spare, o·spare) (length l·spare)) ∷ [], ((sliceVal (b·directory, o·directory) (length l·directory)) ∷ [], ((sliceVal (b·cache, o·cache) (length l·cache)) ∷ [], ((sliceVal (b·buffer, o·buffer) (length l·buffer)) ∷ [], ((sliceVal (b·counts, o·counts) (length l·counts)) ∷ [], tt))))))))))
 
   abbrev to·1 : Callee·1 𝓤 H A mm rn .Ghost
   to·1 = (((κ·chip, (κ·spare, (κ·directory, (κ·cache, (κ·buffer, (κ·counts, tt)))))), (q·chip, (q·spare, (q·directory, (q·cache, (q·buffer, (q·counts, tt)))))), tt, (ca·1), (cv·1)), tt)
@@ -99,7 +99,7 @@ module _ {M : Type 1} (𝓤 : URA M) (H : Heap 𝓤) (A : Atoms 𝓤) (W : Given
   calling·1 : (is·rec : Is T·Record.the-row v·rec ((LL.val T·Record.the-type L·Record.the-laws v·rec) ∷ [])) → ent 𝓤 (⋆ 𝓤 H A (gives·1)) (Callee·1 𝓤 H A mm rn .pre (to·1))
   calling·1 is·rec =
       qed W (gives·1) ∵ nothing ! $ move ! (6 ∷ 0 ∷ []) $ join ! $ move ! (5 ∷ 0 ∷ []) $ join ! $ move ! (4 ∷ 0 ∷ []) $ join ! $ move ! (3 ∷ 0 ∷ []) $ join ! $ move ! (2 ∷ 0 ∷ []) $ join ! $ move ! (1 ∷ 0 ∷ []) $ join ! $
-      nothing ! $ move ! (7 ∷ 0 ∷ []) $ fjoin ! $ move ! (6 ∷ 0 ∷ []) $ fjoin ! $ move ! (5 ∷ 0 ∷ []) $ fjoin ! $ move ! (4 ∷ 0 ∷ []) $ fjoin ! $ move ! (3 ∷ 0 ∷ []) $ fjoin ! $ move ! (2 ∷ 0 ∷ []) $ fjoin ! $ owned ! u32 (Is u32) (uint-makes 𝓤 H A W w32) v·page _ is·page $ fjoin ! $ owned ! T·Geometry.the-row (Is T·Geometry.the-row) (LL.makes T·Geometry.the-type L·Geometry.the-plain 𝓤 H A) v·g _ is·g $ fjoin ! $ owned ! usize (Is usize) (uint-makes 𝓤 H A W w64) 5 _ (refl, lit< tt) $ fjoin ! $ owned ! T·Record.the-row (Is T·Record.the-row) (LL.makes T·Record.the-type L·Record.the-plain 𝓤 H A) v·rec _ is·rec $ fjoin ! $ move ! (1 ∷ 0 ∷ []) $
+      nothing ! $ move ! (7 ∷ 0 ∷ []) $ fjoin ! $ move ! (6 ∷ 0 ∷ []) $ fjoin ! $ move ! (5 ∷ 0 ∷ []) $ fjoin ! $ move ! (4 ∷ 0 ∷ []) $ fjoin ! $ move ! (3 ∷ 0 ∷ []) $ fjoin ! $ move ! (2 ∷ 0 ∷ []) $ fjoin ! $ owned ! u32 (Is u32) (uint-makes 𝓤 H A W w32) v·page _ is·page $ fjoin ! $ owned ! T·Geometry.the-row (Is T·Geometry.the-row) (LL.makes T·Geometry.the-type L·Geometry.the-plain 𝓤 H A) v·g _ is·g $ fjoin ! $ owned ! usize (Is usize) (uint-makes 𝓤 H A W w64) 6 _ (refl, lit< tt) $ fjoin ! $ owned ! T·Record.the-row (Is T·Record.the-row) (LL.makes T·Record.the-type L·Record.the-plain 𝓤 H A) v·rec _ is·rec $ fjoin ! $ move ! (1 ∷ 0 ∷ []) $
       join ! $ frame ! $ done !
 
   come·1 : (w·1 : Val) (Γ : List (Item 𝓤)) {G : Goal 𝓤 H} (soaks : Soaks G)

@@ -103,13 +103,13 @@ module _ {M : Type 1} (𝓤 : URA M) (H : Heap 𝓤) (A : Atoms 𝓤) (W : Given
   Post = walkOf 𝓤 H A walked·.ended stayed (walked·.clauses 𝓤 H A mm rn) .post (((κ·rec, (κ·requests, (κ·chip, (κ·spare, (κ·directory, (κ·cache, (κ·words, (κ·answers, (κ·counts, tt))))))))), (q·rec, (q·requests, (q·chip, (q·spare, (q·directory, (q·cache, (q·words, (q·answers, (q·counts, tt))))))))), tt, a, vals), tt)
 
   abbrev Did·1 : (l·census : List ℕ) (l·filter : List ℕ) (r·1 : D·Running) (zs·1 : Unit {0} × (Unit {0} × (Unit {0} × (Unit {0} × (Unit {0} × (Unit {0} × (Unit {0} × (Unit {0} × (List ℕ × (List ℕ × (List ℕ × (List ℕ × (List ℕ × (List ℕ × (Unit {0}))))))))))))))) → Type 0
-  Did·1 l·census l·filter r·1 zs·1 = Begun (geometry v·g) (beside-run 0 5 (length l·counts)) (length l·requests) (length l·words) (length l·answers) (state (l·chip) (l·spare) (l·directory) (l·cache) v·rec) r·1 (state ((zs·1 .1 .1 .1 .1 .1 .1 .1 .1 .0)) ((zs·1 .1 .1 .1 .1 .1 .1 .1 .1 .1 .0)) ((zs·1 .1 .1 .1 .1 .1 .1 .1 .1 .1 .1 .0)) ((zs·1 .1 .1 .1 .1 .1 .1 .1 .1 .1 .1 .1 .0)) (r·1 .rec)) ((zs·1 .1 .1 .1 .1 .1 .1 .1 .1 .1 .1 .1 .1 .0)) ((zs·1 .1 .1 .1 .1 .1 .1 .1 .1 .1 .1 .1 .1 .1 .0))
+  Did·1 l·census l·filter r·1 zs·1 = Begun (geometry v·g) (beside-run 0 6 (length l·counts)) (length l·requests) (length l·words) (length l·answers) (state (l·chip) (l·spare) (l·directory) (l·cache) v·rec) r·1 (state ((zs·1 .1 .1 .1 .1 .1 .1 .1 .1 .0)) ((zs·1 .1 .1 .1 .1 .1 .1 .1 .1 .1 .0)) ((zs·1 .1 .1 .1 .1 .1 .1 .1 .1 .1 .1 .0)) ((zs·1 .1 .1 .1 .1 .1 .1 .1 .1 .1 .1 .1 .0)) (r·1 .rec)) ((zs·1 .1 .1 .1 .1 .1 .1 .1 .1 .1 .1 .1 .1 .0)) ((zs·1 .1 .1 .1 .1 .1 .1 .1 .1 .1 .1 .1 .1 .1 .0))
 
   abbrev ca·1 : (l·census : List ℕ) (l·filter : List ℕ) (ν·1·chip : ℕ) (δ·1·chip : GName) (ν·1·spare : ℕ) (δ·1·spare : GName) (ν·1·directory : ℕ) (δ·1·directory : GName) (ν·1·cache : ℕ) (δ·1·cache : GName) (ν·1·census : ℕ) (δ·1·census : GName) (l·16 : ℕ) (ν·1·filter : ℕ) (δ·1·filter : GName) (l·17 : ℕ) → D·Record × (ℕ × (ℕ × (ℕ × (D·Geometry × (ℕ × (ℕ × (ℕ × (RefT (List ℕ) × (RefT (List ℕ) × (RefT (List ℕ) × (RefT (List ℕ) × (RefT (List ℕ) × (RefT (List ℕ) × (Unit {0}))))))))))))))
-  ca·1 l·census l·filter ν·1·chip δ·1·chip ν·1·spare δ·1·spare ν·1·directory δ·1·directory ν·1·cache δ·1·cache ν·1·census δ·1·census l·16 ν·1·filter δ·1·filter l·17 = (v·rec, (5, (0, ((length l·requests), (v·g, ((length l·words), ((length l·answers), ((length l·counts), (slice u32 b·chip o·chip δ·1·chip l·chip, (slice u32 b·spare o·spare δ·1·spare l·spare, (slice u32 b·directory o·directory δ·1·directory l·directory, (slice u32 b·cache o·cache δ·1·cache l·cache, (to-one (Array u32 1024) l·16 0 δ·1·census l·census, (to-one (Array u64 1024) l·17 0 δ·1·filter l·filter, tt))))))))))))))
+  ca·1 l·census l·filter ν·1·chip δ·1·chip ν·1·spare δ·1·spare ν·1·directory δ·1·directory ν·1·cache δ·1·cache ν·1·census δ·1·census l·16 ν·1·filter δ·1·filter l·17 = (v·rec, (6, (0, ((length l·requests), (v·g, ((length l·words), ((length l·answers), ((length l·counts), (slice u32 b·chip o·chip δ·1·chip l·chip, (slice u32 b·spare o·spare δ·1·spare l·spare, (slice u32 b·directory o·directory δ·1·directory l·directory, (slice u32 b·cache o·cache δ·1·cache l·cache, (to-one (Array u32 1024) l·16 0 δ·1·census l·census, (to-one (Array u64 1024) l·17 0 δ·1·filter l·filter, tt))))))))))))))
 
   abbrev cv·1 : (l·census : List ℕ) (l·filter : List ℕ) (ν·1·chip : ℕ) (δ·1·chip : GName) (ν·1·spare : ℕ) (δ·1·spare : GName) (ν·1·directory : ℕ) (δ·1·directory : GName) (ν·1·cache : ℕ) (δ·1·cache : GName) (ν·1·census : ℕ) (δ·1·census : GName) (l·16 : ℕ) (ν·1·filter : ℕ) (δ·1·filter : GName) (l·17 : ℕ) → List Val × (List Val × (List Val × (List Val × (List Val × (List Val × (List Val × (List Val × (List Val × (List Val × (List Val × (List Val × (List Val × (List Val × (Unit {0}))))))))))))))
-  cv·1 l·census l·filter ν·1·chip δ·1·chip ν·1·spare δ·1·spare ν·1·directory δ·1·directory ν·1·cache δ·1·cache ν·1·census δ·1·census l·16 ν·1·filter δ·1·filter l·17 = ((LL.val T·Record.the-type L·Record.the-laws v·rec) ∷ [], ((vint w64 5) ∷ [], ((vint w64 0) ∷ [], ((vint w64 (length l·requests)) ∷ [], ((LL.val T·Geometry.the-type L·Geometry.the-laws v·g) ∷ [], ((vint w64 (length l·words)) ∷ [], ((vint w64 (length l·answers)) ∷ [], ((vint w64 (length l·counts)) ∷ [], ((sliceVal (b·chip, o·chip) (length l·chip)) ∷ [], ((sliceVal (b·spare, o·spare) (length l·spare)) ∷ [], ((sliceVal (b·directory, o·directory) (length l·directory)) ∷ [], ((sliceVal (b·cache, o·cache) (length l·cache)) ∷ [], ((vptr l·16 0) ∷ [], ((vptr l·17 0) ∷ [], tt))))))))))))))
+  cv·1 l·census l·filter ν·1·chip δ·1·chip ν·1·spare δ·1·spare ν·1·directory δ·1·directory ν·1·cache δ·1·cache ν·1·census δ·1·census l·16 ν·1·filter δ·1·filter l·17 = ((LL.val T·Record.the-type L·Record.the-laws v·rec) ∷ [], ((vint w64 6) ∷ [], ((vint w64 0) ∷ [], ((vint w64 (length l·requests)) ∷ [], ((LL.val T·Geometry.the-type L·Geometry.the-laws v·g) ∷ [], ((vint w64 (length l·words)) ∷ [], ((vint w64 (length l·answers)) ∷ [], ((vint w64 (length l·counts)) ∷ [], ((sliceVal (b·chip, o·chip) (length l·chip)) ∷ [], ((sliceVal (b·spare, o·spare) (length l·spare)) ∷ [], ((sliceVal (b·directory, o·directory) (length l·directory)) ∷ [], ((sliceVal (b·cache, o·cache) (length l·cache)) ∷ [], ((vptr l·16 0) ∷ [], ((vptr l·17 0) ∷ [], tt))))))))))))))
 
   abbrev to·1 : (l·census : List ℕ) (l·filter : List ℕ) (ν·1·chip : ℕ) (δ·1·chip : GName) (ν·1·spare : ℕ) (δ·1·spare : GName) (ν·1·directory : ℕ) (δ·1·directory : GName) (ν·1·cache : ℕ) (δ·1·cache : GName) (ν·1·census : ℕ) (δ·1·census : GName) (l·16 : ℕ) (ν·1·filter : ℕ) (δ·1·filter : GName) (l·17 : ℕ) → Callee·1 𝓤 H A mm rn .Ghost
   to·1 l·census l·filter ν·1·chip δ·1·chip ν·1·spare δ·1·spare ν·1·directory δ·1·directory ν·1·cache δ·1·cache ν·1·census δ·1·census l·16 ν·1·filter δ·1·filter l·17 = ((((ν·1·chip ∷ []), ((ν·1·spare ∷ []), ((ν·1·directory ∷ []), ((ν·1·cache ∷ []), ((ν·1·census ∷ []), ((ν·1·filter ∷ []), tt)))))), (fullShare, (fullShare, (fullShare, (fullShare, (fullShare, (fullShare, tt)))))), tt, (ca·1 l·census l·filter ν·1·chip δ·1·chip ν·1·spare δ·1·spare ν·1·directory δ·1·directory ν·1·cache δ·1·cache ν·1·census δ·1·census l·16 ν·1·filter δ·1·filter l·17), (cv·1 l·census l·filter ν·1·chip δ·1·chip ν·1·spare δ·1·spare ν·1·directory δ·1·directory ν·1·cache δ·1·cache ν·1·census δ·1·census l·16 ν·1·filter δ·1·filter l·17)), tt)
@@ -120,7 +120,7 @@ module _ {M : Type 1} (𝓤 : URA M) (H : Heap 𝓤) (A : Atoms 𝓤) (W : Given
   calling·1 : (l·census : List ℕ) (l·filter : List ℕ) (ν·1·chip : ℕ) (δ·1·chip : GName) (ν·1·spare : ℕ) (δ·1·spare : GName) (ν·1·directory : ℕ) (δ·1·directory : GName) (ν·1·cache : ℕ) (δ·1·cache : GName) (ν·1·census : ℕ) (δ·1·census : GName) (l·16 : ℕ) (ν·1·filter : ℕ) (δ·1·filter : GName) (l·17 : ℕ) (is·rec : Is T·Record.the-row v·rec ((LL.val T·Record.the-type L·Record.the-laws v·rec) ∷ [])) → ent 𝓤 (⋆ 𝓤 H A (gives·1 l·census l·filter ν·1·chip δ·1·chip ν·1·spare δ·1·spare ν·1·directory δ·1·directory ν·1·cache δ·1·cache ν·1·census δ·1·census l·16 ν·1·filter δ·1·filter l·17)) (Callee·1 𝓤 H A mm rn .pre (to·1 l·census l·filter ν·1·chip δ·1·chip ν·1·spare δ·1·spare ν·1·directory δ·1·directory ν·1·cache δ·1·cache ν·1·census δ·1·census l·16 ν·1·filter δ·1·filter l·17))
   calling·1 l·census l·filter ν·1·chip δ·1·chip ν·1·spare δ·1·spare ν·1·directory δ·1·directory ν·1·cache δ·1·cache ν·1·census δ·1·census l·16 ν·1·filter δ·1·filter l·17 is·rec =
       qed W (gives·1 l·census l·filter ν·1·chip δ·1·chip ν·1·spare δ·1·spare ν·1·directory δ·1·directory ν·1·cache δ·1·cache ν·1·census δ·1·census l·16 ν·1·filter δ·1·filter l·17) ∵ nothing ! $ move ! (6 ∷ 0 ∷ []) $ join ! $ move ! (5 ∷ 0 ∷ []) $ join ! $ move ! (4 ∷ 0 ∷ []) $ join ! $ move ! (3 ∷ 0 ∷ []) $ join ! $ move ! (2 ∷ 0 ∷ []) $ join ! $ move ! (1 ∷ 0 ∷ []) $ join ! $
-      nothing ! $ move ! (7 ∷ 0 ∷ []) $ fjoin ! $ move ! (6 ∷ 0 ∷ []) $ fjoin ! $ move ! (5 ∷ 0 ∷ []) $ fjoin ! $ move ! (4 ∷ 0 ∷ []) $ fjoin ! $ move ! (3 ∷ 0 ∷ []) $ fjoin ! $ move ! (2 ∷ 0 ∷ []) $ fjoin ! $ owned ! usize (Is usize) (uint-makes 𝓤 H A W w64) (length l·counts) _ (refl, room·counts .0) $ fjoin ! $ owned ! usize (Is usize) (uint-makes 𝓤 H A W w64) (length l·answers) _ (refl, room·answers .0) $ fjoin ! $ owned ! usize (Is usize) (uint-makes 𝓤 H A W w64) (length l·words) _ (refl, room·words .0) $ fjoin ! $ owned ! T·Geometry.the-row (Is T·Geometry.the-row) (LL.makes T·Geometry.the-type L·Geometry.the-plain 𝓤 H A) v·g _ is·g $ fjoin ! $ owned ! usize (Is usize) (uint-makes 𝓤 H A W w64) (length l·requests) _ (refl, room·requests .0) $ fjoin ! $ owned ! usize (Is usize) (uint-makes 𝓤 H A W w64) 0 _ (refl, lit< tt) $ fjoin ! $ owned ! usize (Is usize) (uint-makes 𝓤 H A W w64) 5 _ (refl, lit< tt) $ fjoin ! $ owned ! T·Record.the-row (Is T·Record.the-row) (LL.makes T·Record.the-type L·Record.the-plain 𝓤 H A) v·rec _ is·rec $ fjoin ! $ move ! (1 ∷ 0 ∷ []) $
+      nothing ! $ move ! (7 ∷ 0 ∷ []) $ fjoin ! $ move ! (6 ∷ 0 ∷ []) $ fjoin ! $ move ! (5 ∷ 0 ∷ []) $ fjoin ! $ move ! (4 ∷ 0 ∷ []) $ fjoin ! $ move ! (3 ∷ 0 ∷ []) $ fjoin ! $ move ! (2 ∷ 0 ∷ []) $ fjoin ! $ owned ! usize (Is usize) (uint-makes 𝓤 H A W w64) (length l·counts) _ (refl, room·counts .0) $ fjoin ! $ owned ! usize (Is usize) (uint-makes 𝓤 H A W w64) (length l·answers) _ (refl, room·answers .0) $ fjoin ! $ owned ! usize (Is usize) (uint-makes 𝓤 H A W w64) (length l·words) _ (refl, room·words .0) $ fjoin ! $ owned ! T·Geometry.the-row (Is T·Geometry.the-row) (LL.makes T·Geometry.the-type L·Geometry.the-plain 𝓤 H A) v·g _ is·g $ fjoin ! $ owned ! usize (Is usize) (uint-makes 𝓤 H A W w64) (length l·requests) _ (refl, room·requests .0) $ fjoin ! $ owned ! usize (Is usize) (uint-makes 𝓤 H A W w64) 0 _ (refl, lit< tt) $ fjoin ! $ owned ! usize (Is usize) (uint-makes 𝓤 H A W w64) 6 _ (refl, lit< tt) $ fjoin ! $ owned ! T·Record.the-row (Is T·Record.the-row) (LL.makes T·Record.the-type L·Record.the-plain 𝓤 H A) v·rec _ is·rec $ fjoin ! $ move ! (1 ∷ 0 ∷ []) $
       join ! $ frame ! $ done !
 
   come·1 : (l·census : List ℕ) (l·filter : List ℕ) (ν·1·chip : ℕ) (δ·1·chip : GName) (ν·1·spare : ℕ) (δ·1·spare : GName) (ν·1·directory : ℕ) (δ·1·directory : GName) (ν·1·cache : ℕ) (δ·1·cache : GName) (ν·1·census : ℕ) (δ·1·census : GName) (l·16 : ℕ) (ν·1·filter : ℕ) (δ·1·filter : GName) (l·17 : ℕ) → (w·1 : Val) (Γ : List (Item 𝓤)) {G : Goal 𝓤 H} (soaks : Soaks G)

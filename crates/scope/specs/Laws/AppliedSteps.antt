@@ -120,13 +120,13 @@ module _ {g : Geometry} where
         settled = λ waiting. applied-for _ (λ t. update-touched-applied t (of-page g t waiting));
       }
 
-  touch-applied : (i : ℕ) → Applied g (touch i)
+  touch-applied : (i : ℕ) → Applied g (touch g i)
   unfolding touch
-  touch-applied i = applied-bind (applied-set-cache _) (λ _. applied-give 0)
+  touch-applied i = applied-bind (applied-set-cache _) (λ _. applied-bind (applied-set-small _) (λ _. applied-give 0))
 
   enter-applied : (l p : ℕ) → Applied g (enter l p)
   unfolding enter
-  enter-applied l p = applied-bind (applied-set-cache _) (λ _. applied-bind (applied-set-small _) (λ _. applied-give 0))
+  enter-applied l p = applied-bind (applied-set-cache _) (λ _. applied-bind (applied-set-small _) (λ _. applied-look _))
 
   forget-applied : (i : ℕ) → Applied g (forget i)
   unfolding forget

@@ -10,11 +10,11 @@ use borrow.Author.Tests.{ltb-true, ltb-false}
 use Rattle.scope.specs.Counting.{all, some}
 use Rattle.scope.specs.Geometry.{Geometry, M, Accepted, accepted, within, most-blocks, most-pages-in-block}
 use Rattle.scope.specs.Regions.{Region, Data, Translation, owners, page-in, first-block, region-blocks, first-page, region-pages, Has-block, Has-page}
-use Rattle.scope.specs.SmallRecord.{open-block, next-offset}
-use Rattle.scope.specs.Lent.{none, erased, valid, invalid, Entry, Place, Nowhere, decode, State, word-of, state-of, owner-of, named, logical-at, physical-at, changed-at}
+use Rattle.scope.specs.SmallRecord.{SmallRecord, open-block, next-offset}
+use Rattle.scope.specs.Lent.{none, erased, valid, invalid, Entry, Place, Nowhere, decode, State, most-protected, word-of, state-of, owner-of, named, logical-at, physical-at, changed-at}
 use Rattle.scope.specs.Blocks.{wholly-erased, no-erased-page}
-use Rattle.scope.specs.Sound.{Page-fits, Pages-fit, Owners-differ, Wholly-erased, Full, Blocks-fit, Names, Directory-names, Entries-fit, stored, current, Places-hold, Unchanged-agree, Sound}
-use Rattle.scope.specs.Decisions.{has-block, has-page, page-fits, pages-fit, owners-differ, blocks-fit, names, directory-names, entries-fit, none-past-L, places-hold, unchanged-agree, sound}
+use Rattle.scope.specs.Sound.{Page-fits, Pages-fit, Owners-differ, Wholly-erased, Full, Blocks-fit, Names, Directory-names, Entries-fit, Protected-fit, stored, current, Places-hold, Unchanged-agree, Sound}
+use Rattle.scope.specs.Decisions.{has-block, has-page, page-fits, pages-fit, owners-differ, blocks-fit, names, directory-names, entries-fit, protected-fit, none-past-L, places-hold, unchanged-agree, sound}
 use Rattle.scope.specs.Laws.Decides.{Decides, by-equal, by-below, by-most, by-true, by-same, by-and, by-or, by-not, by-implied, by-cond, by-all, by-some}
 
 -- The numbers from `first` on, n of them: the pages or the blocks of a region.
@@ -232,6 +232,14 @@ module _ (g : Geometry) where
       (by-and (by-equal (logical-at i cache) none) (by-equal (physical-at i cache) none))
       (by-equal (changed-at i cache) none)))))
 
+  pub protected-fit-decided : (r : SmallRecord) → Decides (protected-fit g r) (Protected-fit g r)
+  unfolding protected-fit
+  protected-fit-decided r =
+      by-same
+      (λ x. record { at-most-half = x .0; at-most-used = x .1 })
+      (λ f. (f .at-most-half, f .at-most-used))
+      (by-and (by-most (r .protected) (most-protected g)) (by-most (r .protected) (r .used)))
+
   -- The words past L of the page that an entry of the directory names.
   None-past-L : List ℕ → ℕ → Entry → Type 0
   None-past-L chip t e = (q i : ℕ) → e ≡ Place q → i < g .W → g .L ≤ t * g .W + i → word-of g q i chip ≡ none
@@ -282,16 +290,17 @@ module _ (g : Geometry) where
         rule-2 = x .0 .0 .0 .0 .0 .1;
         rule-3 = x .0 .0 .0 .0 .1;
         rule-4 = x .0 .0 .0 .1;
-        rule-5 = x .0 .0 .1;
+        rule-5 = x .0 .0 .1 .0;
+        rule-5-protected = x .0 .0 .1 .1;
         rule-6 = x .0 .1;
         rule-7 = x .1;
       })
-      (λ f. ((((((f .rule-1, f .rule-2), f .rule-3), f .rule-4), f .rule-5), f .rule-6), f .rule-7))
+      (λ f. ((((((f .rule-1, f .rule-2), f .rule-3), f .rule-4), (f .rule-5, f .rule-5-protected)), f .rule-6), f .rule-7))
       (by-and (by-and (by-and (by-and (by-and (by-and
       (by-region (λ r. pages-fit-decided r (s .chip) (s .spare)))
       (by-region (λ r. owners-differ-decided r (s .spare))))
       (by-region (λ r. blocks-fit-decided r (s .spare) (open-block r (s .small)) (next-offset r (s .small)))))
       (directory-names-decided (s .spare) (s .directory)))
-      (entries-fit-decided (s .cache) (s .small .used)))
+      (by-and (entries-fit-decided (s .cache) (s .small .used)) (protected-fit-decided (s .small))))
       (places-hold-decided s))
       (unchanged-agree-decided s))

@@ -6,9 +6,9 @@ use mathlib.Core.Bool.{Bool, true, false, _&&_}
 use mathlib.Core.List.{List, [], _∷_}
 use lib.ListN.{set, replicate}
 use Rattle.scope.specs.Regions.{Data, Translation}
-use Rattle.scope.specs.SmallRecord.{words-from, with-open, with-used, open-block, next-offset}
+use Rattle.scope.specs.SmallRecord.{words-from, with-open, with-used, with-protected, open-block, next-offset}
 use Rattle.scope.specs.Lent.{none, valid, State, with-flash, with-directory, with-cache, with-small}
-use Rattle.scope.specs.Decisions.{pages-fit, owners-differ, blocks-fit, directory-names, entries-fit, places-hold, unchanged-agree, sound}
+use Rattle.scope.specs.Decisions.{pages-fit, owners-differ, blocks-fit, directory-names, entries-fit, protected-fit, places-hold, unchanged-agree, sound}
 use Rattle.scope.specs.Operations.{Outcome, counted}
 use Rattle.scope.specs.Replies.{DONE, UNWRITTEN, LENGTH, DAMAGED, KIND, PAGE}
 use Rattle.scope.specs.Calls.{RunReplied, check, read, run}
@@ -24,7 +24,7 @@ rules s =
     ∷ (blocks-fit G Data (s .spare) (open-block Data (s .small)) (next-offset Data (s .small))
     && blocks-fit G Translation (s .spare) (open-block Translation (s .small)) (next-offset Translation (s .small)))
     ∷ directory-names G (s .spare) (s .directory)
-    ∷ entries-fit G (s .cache) (s .small .used)
+    ∷ (entries-fit G (s .cache) (s .small .used) && protected-fit G (s .small))
     ∷ places-hold G s
     ∷ unchanged-agree G s
     ∷ []
@@ -55,6 +55,9 @@ pub record Broken-alone : Type 0 where
   pub rule-4 : true ∷ true ∷ true ∷ false ∷ true ∷ true ∷ true ∷ [] ≡ rules (with-directory (8 ∷ none ∷ []) fresh-state)
   -- An unused entry has a word.
   pub rule-5 : true ∷ true ∷ true ∷ true ∷ false ∷ true ∷ true ∷ [] ≡ rules (with-cache (none ∷ 0 ∷ none ∷ []) fresh-state)
+  -- Of one entry one is protected.
+  pub rule-5-protected : true ∷ true ∷ true ∷ true ∷ false ∷ true ∷ true ∷ []
+      ≡ rules (with-small (with-protected 1 (played .small)) played)
   -- A word past L.
   pub rule-6 : true ∷ true ∷ true ∷ true ∷ true ∷ false ∷ true ∷ [] ≡ rules (with-chip-word 19 0 played)
   -- The cached entry is no longer marked as changed.
@@ -72,6 +75,7 @@ rules-are-told-apart =
       rule-3 = refl;
       rule-4 = refl;
       rule-5 = refl;
+      rule-5-protected = refl;
       rule-6 = refl;
       rule-7 = refl;
       any-used = refl;
@@ -131,9 +135,9 @@ pub record Runs-and-words : Type 0 where
       ≡ run G [] (replicate 1025 (record { kind = 0; page = 0 })) (replicate 2050 9) (replicate 1025 7) fresh-state .value .reply
   pub short-buffer : LENGTH ≡ read G [] 0 (9 ∷ []) fresh-state .value .reply
   -- In words: an odd number of request words is LENGTH, and the counts are written all the same.
-  pub odd-words : (LENGTH ∷ []) ∷ (7 ∷ []) ∷ (5 ∷ 6 ∷ []) ∷ (0 ∷ 0 ∷ 3 ∷ 0 ∷ 0 ∷ []) ∷ (0 ∷ 0 ∷ 0 ∷ []) ∷ []
+  pub odd-words : (LENGTH ∷ []) ∷ (7 ∷ []) ∷ (5 ∷ 6 ∷ []) ∷ (0 ∷ 0 ∷ 3 ∷ 0 ∷ 0 ∷ 0 ∷ []) ∷ (0 ∷ 0 ∷ 0 ∷ []) ∷ []
       ≡ told-of-run-in-words (tf-run G (in-C (8 ∷ 8 ∷ 8 ∷ [])) (1 ∷ 0 ∷ 0 ∷ []) (5 ∷ 6 ∷ []) (7 ∷ []))
-  pub in-words : (DONE ∷ []) ∷ (DONE ∷ []) ∷ (5 ∷ 6 ∷ []) ∷ (0 ∷ 1 ∷ 3 ∷ 0 ∷ 1 ∷ []) ∷ (0 ∷ 1 ∷ 0 ∷ []) ∷ []
+  pub in-words : (DONE ∷ []) ∷ (DONE ∷ []) ∷ (5 ∷ 6 ∷ []) ∷ (0 ∷ 1 ∷ 3 ∷ 0 ∷ 1 ∷ 0 ∷ []) ∷ (0 ∷ 1 ∷ 0 ∷ []) ∷ []
       ≡ told-of-run-in-words (tf-run G (in-C (8 ∷ 8 ∷ 8 ∷ [])) (1 ∷ 0 ∷ []) (5 ∷ 6 ∷ []) (7 ∷ []))
   -- Counts of another length than three are LENGTH, and nothing is written there.
   pub two-counts : LENGTH ∷ 8 ∷ 8 ∷ []

@@ -104,7 +104,7 @@ pub record Instances : Type 0 where
   -- Two moved entries of one translation page wait: it is updated once.
   pub one-page-touched-twice :
       good (0 ∷ 0 ∷ 1 ∷ 0 ∷ []) ∷ good (0 ∷ 0 ∷ 1 ∷ 0 ∷ []) ∷ good (0 ∷ 0 ∷ 1 ∷ 0 ∷ []) ∷ good (0 ∷ 0 ∷ 2 ∷ 0 ∷ [])
-      ∷ good (0 ∷ 0 ∷ 1 ∷ 0 ∷ []) ∷ good (0 ∷ 0 ∷ 1 ∷ 0 ∷ []) ∷ good (0 ∷ 3 ∷ 4 ∷ 1 ∷ []) ∷ []
+      ∷ good (0 ∷ 1 ∷ 2 ∷ 0 ∷ []) ∷ good (0 ∷ 0 ∷ 1 ∷ 0 ∷ []) ∷ good (0 ∷ 4 ∷ 4 ∷ 1 ∷ []) ∷ []
       ≡ watched (geometry 3 2 3 2 4 2) (W 0 10 ∷ W 0 11 ∷ W 1 12 ∷ W 2 13 ∷ W 3 14 ∷ W 3 15 ∷ W 2 16 ∷ [])
   -- The translation region is collected while the data region is, and the pages of both are found.
   pub collections-in-a-collection :
@@ -146,7 +146,7 @@ four-cached =
       spare = valid ∷ 1 ∷ valid ∷ 2 ∷ valid ∷ 3 ∷ replicate 22 erased;
       directory = none ∷ none ∷ [];
       cache = 3 ∷ 2 ∷ 1 ∷ 2 ∷ 1 ∷ 1 ∷ 0 ∷ none ∷ 0 ∷ 1 ∷ 0 ∷ 1 ∷ [];
-      small = record-of (1 ∷ 1 ∷ 4 ∷ 0 ∷ 4 ∷ []);
+      small = record-of (1 ∷ 1 ∷ 4 ∷ 0 ∷ 4 ∷ 0 ∷ []);
     }
 
 -- A changed entry at *none*, whose word on flash is still a place that it had. Behind it is a changed entry of the same translation page.
@@ -160,7 +160,7 @@ one-at-none =
       spare = valid ∷ 0 ∷ invalid ∷ 1 ∷ replicate 8 erased ++ (valid ∷ 0 ∷ []) ++ replicate 6 erased;
       directory = 6 ∷ [];
       cache = 1 ∷ none ∷ 1 ∷ 0 ∷ 0 ∷ 1 ∷ [];
-      small = record-of (0 ∷ 2 ∷ 3 ∷ 1 ∷ 2 ∷ []);
+      small = record-of (0 ∷ 2 ∷ 3 ∷ 1 ∷ 2 ∷ 0 ∷ []);
     }
 
 -- Two entries are cached and changed when the other two of their translation page, 0 and 1, are moved.

@@ -8,7 +8,7 @@ use lib.ListN.{replicate, take}
 use Rattle.scope.specs.Geometry.{Geometry, accepted}
 use Rattle.scope.specs.SmallRecord.{record-words, record-of}
 use Rattle.scope.specs.Lent.{State, chip-size, spare-size, directory-size, cache-size}
-use Rattle.scope.specs.Decisions.{sound, page-fits, pages-fit, owners-differ, blocks-fit, directory-names, entries-fit, places-hold, unchanged-agree}
+use Rattle.scope.specs.Decisions.{sound, page-fits, pages-fit, owners-differ, blocks-fit, directory-names, entries-fit, protected-fit, places-hold, unchanged-agree}
 use Rattle.scope.specs.Sound.{rank-of, stored, current}
 use Rattle.scope.specs.Operations.{Outcome, counted, apply, give, look, perform, set-directory, set-cache, set-small, for, _>>=_}
 use Rattle.scope.specs.Room.{read-page, program-next, erased-blocks, lowest-erased, victim, move-page, move-if-valid, move-pages, collect, open-lowest, open-or-collect, make-room}
@@ -69,5 +69,5 @@ play g (l ∷ ls) s =
 
 -- x itself, where everything that a call computes with is unfolded.
 unfoldable pub computed : {A : Type 0} → A → A
-unfolding unformatted first-format formatted made first-word printed play format read write counted apply give look perform set-directory set-cache set-small for _>>=_ read-page program-next erased-blocks lowest-erased victim move-page move-if-valid move-pages collect open-lowest open-or-collect make-room touch enter dropped forget changed-of unchanged-of become-unchanged set-entry directory-names-it begun set-words mark-old update of-page update-touched cache-or-wait update-all write-back drop-entry drop-if-full word-for fetch translate first-applying admit right-sizes read-place read-steps write-steps format-steps accepted sound page-fits pages-fit owners-differ blocks-fit directory-names entries-fit places-hold unchanged-agree rank-of stored current check run serve answer-record serve-record serve-records
+unfolding unformatted first-format formatted made first-word printed play format read write counted apply give look perform set-directory set-cache set-small for _>>=_ read-page program-next erased-blocks lowest-erased victim move-page move-if-valid move-pages collect open-lowest open-or-collect make-room touch enter dropped forget changed-of unchanged-of become-unchanged set-entry directory-names-it begun set-words mark-old update of-page update-touched cache-or-wait update-all write-back drop-entry drop-if-full word-for fetch translate first-applying admit right-sizes read-place read-steps write-steps format-steps accepted sound page-fits pages-fit owners-differ blocks-fit directory-names entries-fit protected-fit places-hold unchanged-agree rank-of stored current check run serve answer-record serve-record serve-records
 computed x = x

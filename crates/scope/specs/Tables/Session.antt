@@ -36,7 +36,7 @@ told s =
 
 -- "Afterwards: pages 0 and 1 are valid (owners 1, 0), 2 invalid (owner 0), 3 valid (owner 2), 4 to 7 erased, 8 invalid (0), 9 valid (1),
 -- 10 invalid (0), 11 valid (0). Page 9 holds 3, *none*; page 11 holds 2, 0. Directory 11, 9. Cache 0, 1, changed. Small record 0, 2, 5,
--- 2, 1."
+-- 2, 1." Of one entry none is protected: the word that 02's P5 adds is 0.
 abbrev pub afterwards : List (List ℕ)
 afterwards =
     (valid ∷ 1 ∷ valid ∷ 0 ∷ invalid ∷ 0 ∷ valid ∷ 2
@@ -46,7 +46,7 @@ afterwards =
     ∷ (2 ∷ 0 ∷ [])
     ∷ (11 ∷ 9 ∷ [])
     ∷ (0 ∷ 1 ∷ 1 ∷ [])
-    ∷ (0 ∷ 2 ∷ 5 ∷ 2 ∷ 1 ∷ [])
+    ∷ (0 ∷ 2 ∷ 5 ∷ 2 ∷ 1 ∷ 0 ∷ [])
     ∷ []
 
 -- "More marked cases: G with L=4, and G with L=0, GEOMETRY; G with T=2, GEOMETRY; G with P=1 and L=1, accepted": the numbers of P, T

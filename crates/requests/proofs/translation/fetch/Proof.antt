@@ -1,12 +1,13 @@
--- `requests::translation::fetch` meets its contract: the word of the page that the directory names is put in front.
-use mathlib.Core.Path.{sym, _∙_}
+-- `requests::translation::fetch` meets its contract: the word of the page that the directory names enters.
+use mathlib.Core.Path.{sym, ap, _∙_}
 use native.Mathlib.Omega.{arith}
 use borrow.Author.Needs.{needs}
 use Rattle.flash.specs.Bounded.{accepted-bounded}
 use Rattle.promises.specs.Index.{page-below}
+use Rattle.scope.specs.SmallRecord.{SmallRecord}
 use Rattle.scope.specs.Lent.{with-flash, with-directory, with-cache}
 use Rattle.lent.specs.Model.{geometry}
-use Rattle.requests.specs.Translating.{fetch-does, read-keeps-used}
+use Rattle.requests.specs.Translating.{fetch-does, read-keeps-small}
 use Rattle.requests.specs.Filtered.{filter-still}
 use Rattle.requests.proofs.translation.fetch.Statement.{statement}
 use Rattle.requests.proofs.translation.fetch.Tie as tie
@@ -30,9 +31,15 @@ word-for-requires c κs =
 enter-requires : tie.Need-enter-requires
 enter-requires c κs =
     let start = c .before .before .before .before .before .before .before .before .before in
-    let used = read-keeps-used (geometry (start .args .g)) (start .args .l) _ (c .before .before .before .word-for .ensures) in
+    let kept = read-keeps-small (geometry (start .args .g)) (start .args .l) _ (c .before .before .before .word-for .ensures) in
+    let used = ap (λ (r : SmallRecord). r .used) kept in
+    let protected = ap (λ (r : SmallRecord). r .protected) kept in
     let ready = start .pre .0 in (
-      (omega (arith, used, ready .cache-fits, ready .room), omega (arith, used, ready .room, ready .accepted .C-to)),
+      (
+        omega (arith, used, ready .cache-fits, ready .room),
+        omega (arith, used, ready .room, ready .accepted .C-to),
+        omega (arith, used, protected, ready .border),
+      ),
       filter-still used (start .pre .1),
     )
 

@@ -31,12 +31,12 @@ returns c =
     let found = tested .before .before in
     let start = found .before .before .before .before .before .before .before .before .before in
     let a = start .args in (
-      hit-does (geometry (a .g)) (a .l) (found .rank-of .ensures .1) (tested .if1 .taken) (c .before .before .touch .ensures (a .work) (ready-state (start .pre .0 .ready))),
+      hit-does (geometry (a .g)) (a .l) (found .rank-of .ensures .1) (tested .if1 .taken) (c .before .before .touch .ensures (ready-state (start .pre .0 .ready))),
       record {
         counted = start .pre .1 .counted;
-        filtered = touched-filter (start .pre .1 .filtered)
+        filtered = touched-filter (start .pre .1 .filtered) (geometry (a .g))
             (found-in-use (geometry (a .g)) (a .cache .now) (a .work .rec .used) (a .l) (found .rank-of .ensures .1) (tested .if1 .taken))
-            (c .before .before .touch .ensures (a .work));
+            (c .before .before .touch .ensures);
       },
     )
 

@@ -25,19 +25,23 @@ word-requires-4 c κs = search needs
 word-requires-5 : tie.Need-word-requires-5
 word-requires-5 c κs = search needs
 
+word-requires-6 : tie.Need-word-requires-6
+word-requires-6 c κs = search needs
+
 -- Each number is the word of its own place.
 in-order : (l : List ℕ) (r : Record) → r .«open_data» ≡ getD l 0 0 → r .«data_offset» ≡ getD l 1 0 → r .«open_translation» ≡ getD l 2 0
-    → r .«translation_offset» ≡ getD l 3 0 → r .used ≡ getD l 4 0 → small r ≡ record-of l
-in-order l r h₁ h₂ h₃ h₄ h₅ = cc
+    → r .«translation_offset» ≡ getD l 3 0 → r .used ≡ getD l 4 0 → r .protected ≡ getD l 5 0 → small r ≡ record-of l
+in-order l r h₁ h₂ h₃ h₄ h₅ h₆ = cc
 
 returns : tie.Need-returns
 returns c =
-    let fourth = c .before in
+    let fifth = c .before in
+    let fourth = fifth .before in
     let third = fourth .before in
     let second = third .before in
     let first = second .before in
     in-order (first .before .before .args .«record» .now) _ (first .word .ensures) (second .word2 .ensures) (third .word3 .ensures)
-    (fourth .word4 .ensures) (c .word5 .ensures)
+    (fourth .word4 .ensures) (fifth .word5 .ensures) (c .word6 .ensures)
 
 pub load-spec : {M : Type 1} → statement M
 load-spec =
@@ -48,4 +52,5 @@ load-spec =
     word-requires-3
     word-requires-4
     word-requires-5
+    word-requires-6
     returns)
