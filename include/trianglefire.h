@@ -100,19 +100,30 @@ enum { TF_SPARE_STATE = 0, TF_SPARE_OWNER = 1, TF_WORDS_IN_SPARE = 2 };
 
 /* directory: for each translation page number the page that holds it, or TF_NONE. */
 
-/* cache: c entries of three words.  Those in use come first, the most recently used foremost; the
- * words of the others are TF_NONE.  Changed is 1 where the map on flash does not have it yet. */
+/* cache: c entries of three words.  Those in use come first; the words of the others are TF_NONE.
+ * Changed is 1 where the map on flash does not have it yet.
+ *
+ * The entries in use are a protected part, at most c/2 (rounded down), and behind it a trial part.
+ * A page that is not cached enters at the front of the trial part; if all c entries are in use, the
+ * last of the trial part is dropped for it.  A page that is found in the trial part moves to the
+ * front of the protected part; if that is then over c/2, its last goes to the front of the trial
+ * part.  A page that is found in the protected part moves to its front. */
 enum { TF_ENTRY_LOGICAL = 0, TF_ENTRY_PHYSICAL = 1, TF_ENTRY_CHANGED = 2, TF_WORDS_IN_ENTRY = 3 };
 
-/* record: the open block of each region with the offset of its next page, 0 to p, and the number
- * of cache entries in use. */
+/* record: the open block of each region with the offset of its next page, 0 to p, the number of
+ * cache entries in use, and how many of these are protected, 0 in an empty node.
+ *
+ * A record of five words, stored by firmware with an earlier library, has no number of protected
+ * entries and is refused with TF_LENGTH.  Append 0 to it: that is a record of six words, and the
+ * state is as sound as it was. */
 enum {
     TF_RECORD_OPEN_DATA = 0,
     TF_RECORD_DATA_OFFSET = 1,
     TF_RECORD_OPEN_TRANSLATION = 2,
     TF_RECORD_TRANSLATION_OFFSET = 3,
     TF_RECORD_USED = 4,
-    TF_RECORD_WORDS = 5
+    TF_RECORD_PROTECTED = 5,
+    TF_RECORD_WORDS = 6
 };
 
 /* counts: what the call did to the flash.  Marking a page invalid is not counted. */
@@ -208,7 +219,8 @@ static inline uint64_t tf_data_words(uint32_t p, uint32_t w, uint32_t d, uint32_
  *   4. The directory names, for each translation page number, the valid page with that owner, or
  *      TF_NONE where there is none.
  *   5. At most c entries are in use, of different logical pages below l, with changed 0 or 1; the
- *      words of the others are TF_NONE.
+ *      words of the others are TF_NONE.  At most c/2 (rounded down) are protected, and no more than
+ *      are in use.
  *   6. The place of each logical page (its cache entry's, else the map's word, else TF_NONE) is
  *      the valid data page that it owns, or TF_NONE where there is none; words of the map past l
  *      are TF_NONE.
@@ -263,9 +275,9 @@ uint32_t tf_check(uint32_t p, uint32_t w, uint32_t d, uint32_t t, uint32_t l, ui
 
 /*
  * Reads logical page `page` into buffer, w words.  The page's place is looked up in the cache, and
- * on a miss in the map: its entry moves to the front of the cache, and the entry that is dropped
- * for it is first written to the map if it was changed.  So a read, too, may change every slice of
- * the state.  It takes at most 2p+3 reads, programs and erases.
+ * on a miss in the map: its entry moves or enters as said of the cache above, and the entry that is
+ * dropped for it is first written to the map if it was changed.  So a read, too, may change every
+ * slice of the state.  It takes at most 2p+3 reads, programs and erases.
  *
  *   TF_DONE       buffer holds the words that were last written to the page
  *   TF_UNWRITTEN  the page was never written; buffer is untouched, and the state and the counts are

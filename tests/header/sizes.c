@@ -20,7 +20,7 @@ struct node {
     uint32_t cache[TF_CACHE_WORDS(G)];
     uint32_t record[TF_RECORD_WORDS];
 };
-static_assert(sizeof(struct node) == (24 + 24 + 2 + 3 + 5) * sizeof(uint32_t), "a node of G");
+static_assert(sizeof(struct node) == (24 + 24 + 2 + 3 + 6) * sizeof(uint32_t), "a node of G");
 static_assert(TF_CHIP_WORDS(LARGEST) == 33554432, "the largest chip");
 static_assert(sizeof(enum tf_reply) == sizeof(int), "an enum of small numbers");
 
@@ -31,7 +31,7 @@ static_assert(TF_STATE_ERASED == 4294967295 && TF_STATE_VALID == 65535 && TF_STA
               "states");
 static_assert(TF_RECORD_OPEN_DATA == 0 && TF_RECORD_DATA_OFFSET == 1, "record");
 static_assert(TF_RECORD_OPEN_TRANSLATION == 2 && TF_RECORD_TRANSLATION_OFFSET == 3, "record");
-static_assert(TF_RECORD_USED == 4 && TF_RECORD_WORDS == 5, "record");
+static_assert(TF_RECORD_USED == 4 && TF_RECORD_PROTECTED == 5 && TF_RECORD_WORDS == 6, "record");
 static_assert(TF_COUNTS_READS == 0 && TF_COUNTS_PROGRAMS == 1, "counts");
 static_assert(TF_COUNTS_ERASES == 2 && TF_COUNTS_WORDS == 3, "counts");
 static_assert(TF_SPARE_STATE == 0 && TF_SPARE_OWNER == 1 && TF_WORDS_IN_SPARE == 2, "spare");

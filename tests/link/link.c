@@ -5,9 +5,22 @@
 #include "trianglefire.h"
 
 #define NODE 2, 2, 3, 3, 3, 1
-#define STATE                                                                                                             \
-    chip, TF_CHIP_WORDS(NODE), spare, TF_SPARE_WORDS(NODE), directory, TF_DIRECTORY_WORDS(NODE), cache, TF_CACHE_WORDS(NODE), \
-        record, TF_RECORD_WORDS
+#define LISTS chip, TF_CHIP_WORDS(NODE), spare, TF_SPARE_WORDS(NODE), directory, TF_DIRECTORY_WORDS(NODE), cache, TF_CACHE_WORDS(NODE)
+#define STATE LISTS, record, TF_RECORD_WORDS
+
+static uint32_t chip[TF_CHIP_WORDS(NODE)], spare[TF_SPARE_WORDS(NODE)];
+static uint32_t directory[TF_DIRECTORY_WORDS(NODE)], cache[TF_CACHE_WORDS(NODE)], record[TF_RECORD_WORDS];
+
+/* A record of five words, as firmware with an earlier library stored it: refused, and with the 0 that the header asks for sound. */
+static int stored_record_right(void)
+{
+    uint32_t stored[TF_RECORD_WORDS] = {record[0], record[1], record[2], record[3], record[4], 0}, counts[TF_COUNTS_WORDS];
+
+    int right = tf_check(NODE, LISTS, stored, 5, counts, TF_COUNTS_WORDS) == TF_LENGTH
+        && tf_check(NODE, LISTS, stored, TF_RECORD_WORDS, counts, TF_COUNTS_WORDS) == TF_DONE;
+    stored[TF_RECORD_PROTECTED] = 1; /* of one entry none can be protected */
+    return right && tf_check(NODE, LISTS, stored, TF_RECORD_WORDS, counts, TF_COUNTS_WORDS) == TF_DAMAGED;
+}
 
 /* The geometry as a record, byte by byte; back; and each call refused. */
 static int settings_right(void)
@@ -31,8 +44,6 @@ static int settings_right(void)
 
 int main(void)
 {
-    static uint32_t chip[TF_CHIP_WORDS(NODE)], spare[TF_SPARE_WORDS(NODE)];
-    static uint32_t directory[TF_DIRECTORY_WORDS(NODE)], cache[TF_CACHE_WORDS(NODE)], record[TF_RECORD_WORDS];
     const uint32_t written[2] = {10, 11};
     const uint32_t requests[2 * TF_WORDS_IN_REQUEST] = {TF_KIND_READ, 1, TF_KIND_READ, 0};
     uint32_t read[2] = {0, 0}, data[4] = {0, 0, 0, 0}, answers[2] = {9, 9}, counts[TF_COUNTS_WORDS];
@@ -43,7 +54,7 @@ int main(void)
         && tf_run(NODE, STATE, requests, 4, data, 4, answers, 2, counts, TF_COUNTS_WORDS) == TF_DONE
         && answers[0] == TF_UNWRITTEN && answers[1] == TF_DONE && data[2] == 10 && data[3] == 11
         && tf_check(NODE, STATE, counts, TF_COUNTS_WORDS) == TF_DONE
-        && settings_right();
+        && stored_record_right() && settings_right();
     puts(right ? "link: formatted, written, read back, run and checked; settings written and read"
                : "link: an answer is not what it must be");
     return !right;

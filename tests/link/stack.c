@@ -1,6 +1,6 @@
 /* How deep each call goes: it is made on a stack of its own that was painted before, and what is no longer paint was used.  No call may
  * go deeper than the header says (STACK_KIB, taken from it).  The node is small and full, so that writes drop entries, with neighbours, and
- * collect in both regions. */
+ * collect in both regions; and of four requests one finds its page in the cache's trial part, and one in the protected part. */
 #define _XOPEN_SOURCE 700
 #include <stdbool.h>
 #include <stdio.h>
@@ -22,7 +22,12 @@ static uint32_t requests[REQUESTS * TF_WORDS_IN_REQUEST], data[REQUESTS * W], an
 static uint8_t settings[TF_SETTINGS_BYTES + FIELDS * 4];
 static uint32_t stack[STACK_WORDS];
 static ucontext_t here, there;
-static bool refused, erased;
+static bool refused, erased, protected;
+
+static uint32_t page_of(uint32_t i)
+{
+    return (i / 4 * 2 + (i % 4 == 1)) * 5 % LOGICAL;
+}
 
 static void format(void)
 {
@@ -42,15 +47,16 @@ static void run(void)
 static void write_all(void)
 {
     for (uint32_t i = 0; i < REQUESTS; i++) {
-        refused |= tf_write(NODE, i * 5 % LOGICAL, STATE, page, W, COUNTS) != TF_DONE;
+        refused |= tf_write(NODE, page_of(i), STATE, page, W, COUNTS) != TF_DONE;
         erased |= counts[TF_COUNTS_ERASES] > 1;
+        protected |= record[TF_RECORD_PROTECTED] == 2;
     }
 }
 
 static void read_all(void)
 {
     for (uint32_t i = 0; i < REQUESTS; i++)
-        refused |= tf_read(NODE, i * 5 % LOGICAL, STATE, page, W, COUNTS) != TF_DONE;
+        refused |= tf_read(NODE, page_of(i), STATE, page, W, COUNTS) != TF_DONE;
 }
 
 static void settings_write(void)
@@ -86,7 +92,7 @@ int main(void)
 {
     for (uint32_t i = 0; i < REQUESTS; i++) {
         requests[2 * i] = i % 3 == 0 ? TF_KIND_READ : TF_KIND_WRITE;
-        requests[2 * i + 1] = i * 5 % LOGICAL;
+        requests[2 * i + 1] = page_of(i);
     }
     for (size_t at = TF_SETTINGS_BYTES; at < sizeof settings; at += 4) {
         settings[at] = 8;
@@ -102,8 +108,9 @@ int main(void)
         most = bytes > most ? bytes : most;
         printf(" %s %zu%s", made[i].name, bytes, i + 1 < sizeof made / sizeof *made ? "," : "\n");
     }
-    if (refused || !erased) {
-        puts(refused ? "error: a call was refused" : "error: no write collected in both regions");
+    if (refused || !erased || !protected) {
+        puts(refused ? "error: a call was refused"
+                     : erased ? "error: the protected part was never full" : "error: no write collected in both regions");
         return 1;
     }
     if (most > STACK_KIB * 1024) {

@@ -16,15 +16,15 @@ VALID, INVALID = 65535, 0
 class New(ToolTest):
     def test_geometry(self):
         out = self.tool("new", self.node, "--geometry", G).stdout
-        self.assertEqual(out.decode(), f"{self.node} is an empty node of 3 pages of 2 words, 300 bytes: "
+        self.assertEqual(out.decode(), f"{self.node} is an empty node of 3 pages of 2 words, 304 bytes: "
                                        "0 reads, 0 programs, 6 erases\n")
         words = words_of(self.node.read_bytes())
         self.assertEqual(self.node.read_bytes()[:8], b"TFNODE\r\n")
-        self.assertEqual(words[2:HEADER_WORDS], [1, 17, 6, 2, 2, 3, 3, 3, 1, 5, 24, 24, 2, 3, 5])
-        self.assertEqual(words[HEADER_WORDS:], [NONE] * 53 + [0, 0, 3, 0, 0])
+        self.assertEqual(words[2:HEADER_WORDS], [2, 17, 6, 2, 2, 3, 3, 3, 1, 5, 24, 24, 2, 3, 6])
+        self.assertEqual(words[HEADER_WORDS:], [NONE] * 53 + [0, 0, 3, 0, 0, 0])
 
     def test_presets(self):
-        sizes = {"small": 3036, "recorder": 8423032, "largest": 134791728}
+        sizes = {"small": 3040, "recorder": 8423036, "largest": 134791732}
         for preset, size in sizes.items():
             answer = json.loads(self.tool("new", f"{preset}.img", f"--preset={preset}", "--json").stdout)
             self.assertEqual(answer["bytes"], size)
@@ -46,7 +46,23 @@ class Replay(ToolTest):
         self.assertEqual(chip[18:20] + chip[22:24], [3, NONE, 2, 0])
         self.assertEqual(spare, [VALID, 1, VALID, 0, INVALID, 0, VALID, 2] + [NONE] * 8 +
                          [INVALID, 0, VALID, 1, INVALID, 0, VALID, 0])
-        self.assertEqual(rest, [11, 9] + [0, 1, 1] + [0, 2, 5, 2, 1])
+        self.assertEqual(rest, [11, 9] + [0, 1, 1] + [0, 2, 5, 2, 1, 0])
+
+    def test_protected_and_trial_entries(self):
+        """The cache's order as P5 of document 02 has it: the logical pages of the entries, and how many are protected."""
+        self.tool("new", self.node, "--preset", "small")
+        at = HEADER_WORDS + 576 + 144 + 5
+        for line, entries, protected in [(b"W 0 1", [0], 0), (b"W 1 1", [1, 0], 0), (b"W 2 1", [2, 1, 0], 0),  # misses
+                                         (b"R 1", [1, 2, 0], 1), (b"R 0", [0, 1, 2], 2),  # in trial, below the limit
+                                         (b"R 0", [0, 1, 2], 2), (b"R 1", [1, 0, 2], 2),  # in protected
+                                         (b"W 3 1", [1, 0, 3, 2], 2), (b"R 2", [2, 1, 0, 3], 2),  # a miss; in trial, at the limit
+                                         (b"W 4 1", [2, 1, 4, 0], 2), (b"R 3", [2, 1, 3, 4], 2)]:  # the trial part's last is dropped
+            self.tool("replay", self.node, data=line)
+            words = words_of(self.node.read_bytes())
+            self.assertEqual([entry for entry in words[at:at + 12:3] if entry != NONE], entries, line)
+            self.assertEqual(words[-2:], [len(entries), protected], line)
+            cache = json.loads(self.tool("info", self.node, "--json").stdout)["cache"]
+            self.assertEqual((cache["used"], cache["protected"]), (len(entries), protected))
 
     def test_totals_are_the_sums_of_the_lines(self):
         self.new()
@@ -137,7 +153,7 @@ class Looks(ToolTest):
     def test_info(self):
         self.session()
         self.assertEqual(self.tool("info", "node.img").stdout.decode(), """\
-image        node.img, version 1, 300 bytes
+image        node.img, version 2, 304 bytes
 state        sound
 geometry     P=2 W=2 D=3 T=3 L=3 C=1
 pages        3 logical pages of 2 words, 3 written
@@ -145,8 +161,8 @@ data         3 blocks: 1 wholly erased, 2 full, block 0 open
              3 valid pages, 1 invalid, 2 erased
 translation  3 blocks: 1 wholly erased, 2 full, block 5 open
              2 valid pages, 2 invalid, 2 erased
-cache        1 of 1 entries used, 1 changed
-words        chip 24, spare 24, directory 2, cache 3, record 5
+cache        1 of 1 entries used, 0 protected, 1 changed
+words        chip 24, spare 24, directory 2, cache 3, record 6
 """)
 
     def test_info_for_programs(self):
@@ -155,7 +171,7 @@ words        chip 24, spare 24, directory 2, cache 3, record 5
         self.assertEqual(info["geometry"], {"P": 2, "W": 2, "D": 3, "T": 3, "L": 3, "C": 1})
         self.assertEqual(info["data"], {"blocks": 3, "erased": 1, "full": 2, "open": 0,
                                         "pages": {"valid": 3, "invalid": 1, "erased": 2, "unknown": 0}})
-        self.assertEqual(info["cache"], {"entries": 1, "used": 1, "changed": 1})
+        self.assertEqual(info["cache"], {"entries": 1, "used": 1, "protected": 0, "changed": 1})
 
     def test_check(self):
         self.session()
@@ -189,7 +205,7 @@ translation blocks 3 to 5
     def test_looks_need_no_right_to_write(self):
         self.session()
         self.node.chmod(0o444)
-        for words in ["info"], ["settings"], ["check"], ["map"], ["read", 0], ["dump", 0, 3]:
+        for words in ["info"], ["settings"], ["check"], ["map"], ["read", 0], ["dump", 0, 3], ["upgrade"]:
             self.tool(words[0], self.node, *words[1:])
 
 
@@ -197,7 +213,7 @@ class Help(ToolTest):
     def test_every_command_has_help_with_an_example(self):
         overview = self.tool("--help").stdout.decode()
         commands = re.findall(r"^  (\w+) ", overview, re.MULTILINE)
-        self.assertEqual(len(commands), 10)
+        self.assertEqual(len(commands), 11)
         for command in commands:
             text = self.tool(command, "--help").stdout.decode()
             self.assertTrue(text.startswith(f"usage: tfnode {command} FILE"), text)

@@ -27,16 +27,8 @@ class EachStep(ToolTest):
         self.tool("load", self.node, 0, data=b"old" * 400)
         self.old = self.node.read_bytes()
 
-    def runs_with_faults(self, words, data, action):
-        """Runs from the old image, with the fault at step 1, 2, .. until a run meets no fault."""
-        for step in range(1, 1000):
-            self.node.write_bytes(self.old)
-            run = subprocess.run([self.program, *words], input=data, cwd=self.folder, capture_output=True,
-                                 env={**os.environ, "TFNODE_FAULT": f"{step} {action}"})
-            if run.returncode == DONE:
-                self.assertGreater(step, 10)
-                return
-            yield step, run
+    def from_the_old_image(self, words, data, action):
+        return enumerate(self.runs_with_faults(words, action, lambda: self.node.write_bytes(self.old), data), 1)
 
     def test_killed_at_each_step(self):
         for words, data in self.WORK:
@@ -44,7 +36,7 @@ class EachStep(ToolTest):
             self.tool(*words, data=data)
             new = self.node.read_bytes()
             seen = set()
-            for step, run in self.runs_with_faults(words, data, "kill"):
+            for step, run in self.from_the_old_image(words, data, "kill"):
                 self.assertEqual(run.returncode, -signal.SIGKILL)
                 self.assertIn(self.node.read_bytes(), (self.old, new), f"{words}, step {step}")
                 seen.add(self.node.read_bytes())
@@ -60,7 +52,7 @@ class EachStep(ToolTest):
         """A step that fails gives one line; the image is as it was, or, where only the flush of the folder failed, the new one."""
         for cause in errno.ENOSPC, errno.EIO, errno.EROFS:
             words, data = self.WORK[0]
-            for step, run in self.runs_with_faults(words, data, cause):
+            for _, run in self.from_the_old_image(words, data, cause):
                 line = run.stderr.decode()
                 self.assertEqual(run.returncode, FILE, line)
                 self.assertEqual(line.count("\n"), 1, line)
@@ -71,7 +63,7 @@ class EachStep(ToolTest):
 
     def test_new_killed_at_each_step(self):
         two = self.folder / "two.img"
-        for _, run in self.runs_with_faults(["new", "two.img", "--geometry", G], b"", "kill"):
+        for _, run in self.from_the_old_image(["new", "two.img", "--geometry", G], b"", "kill"):
             self.assertEqual(run.returncode, -signal.SIGKILL)
             if two.exists():
                 self.tool("check", two)
@@ -197,7 +189,7 @@ class Replaced(ToolTest):
         left.write_bytes(b"left" * 1000)
         self.tool("write", self.node, 0, data=b"12345678")
         self.assertFalse(left.exists())
-        self.assertEqual(self.node.stat().st_size, 300)
+        self.assertEqual(self.node.stat().st_size, 304)
 
     def test_what_is_beside_and_no_plain_file_is_let_be(self):
         self.new()

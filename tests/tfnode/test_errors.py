@@ -98,7 +98,8 @@ class Usage(ToolTest):
 
 
 class Files(ToolTest):
-    LOOKS = [["info"], ["settings"], ["check"], ["map"], ["read", 0], ["dump", 0, 1]]
+    # An upgrade is a look where the image is of the newest layout; test_upgrade.py has the others.
+    LOOKS = [["info"], ["settings"], ["check"], ["map"], ["read", 0], ["dump", 0, 1], ["upgrade"]]
     CHANGES = [["write", 0], ["load", 0], ["replay"]]
 
     def each(self, says, commands=LOOKS + CHANGES, status=FILE):
@@ -134,16 +135,18 @@ class Files(ToolTest):
         whole = self.node.read_bytes()
         for contents in whole[:-1], whole[:-4], whole + b"\0", whole[:68]:
             self.node.write_bytes(contents)
-            self.each("its header says 300")
+            self.each("its header says 304")
         self.node.write_bytes(whole[:67])
         self.each("ends within its header")
 
     def test_headers(self):
         self.new()
         words = words_of(self.node.read_bytes())
-        for at, value, says in [(2, 2, "version 2, and this tfnode reads version 1"), (3, 18, "not laid out as version 1"),
+        for at, value, says in [(2, 0, "there is no version 0"), (2, 1, "sizes are not those"), (3, 18, "not laid out as version 2"),
+                                (2, 3, "a newer layout, version 3, and this tfnode knows those up to version 2; use a newer tfnode"),
                                 (4, 7, "not laid out"), (11, 6, "not laid out"), (9, 4, "its geometry is not accepted"),
-                                (10, 2, "sizes are not those of its geometry"), (12, 25, "sizes are not those")]:
+                                (10, 2, "sizes are not those of its geometry"), (12, 25, "sizes are not those"),
+                                (16, 5, "sizes are not those")]:
             self.node.write_bytes(bytes_of(words[:at] + [value] + words[at + 1:]))
             self.each(says)
 
@@ -176,7 +179,7 @@ class Disks(ToolTest):
     def test_output_that_is_full_or_closed(self):
         self.session()
         before = self.contents()
-        for words in ["info"], ["settings"], ["check"], ["map"], ["read", 0], ["dump", 0, 3], ["--help"]:
+        for words in ["info"], ["settings"], ["check"], ["map"], ["read", 0], ["dump", 0, 3], ["upgrade"], ["--help"]:
             words = words if words[0] == "--help" else [words[0], self.node, *words[1:]]
             with open("/dev/full", "wb") as full:
                 run = subprocess.run([self.program, *map(str, words)], stdout=full, stderr=subprocess.PIPE)
@@ -232,9 +235,11 @@ class Damage(ToolTest):
     def test_the_hint(self):
         self.session()
         words = words_of(self.node.read_bytes())
-        # The record's offset, the directory, the cached place, and the state of page 2 with its owner's twin.
-        for at, value, says in [(-4, 1, "rule 3 fails first, at block 0: "), (-10, 9, "rule 4 fails first, at translation page 0: "),
-                                (-8, 7, "rule 5 fails first, at cache entry 0: "), (-7, 3, "rule 6 fails first, at logical page 0: "),
+        # The record's offset, the directory, the cached page, used and protected entries, the cached place, and the state of page 2 with
+        # its owner's twin.
+        for at, value, says in [(-5, 1, "rule 3 fails first, at block 0: "), (-11, 9, "rule 4 fails first, at translation page 0: "),
+                                (-9, 7, "rule 5 fails first, at cache entry 0: "), (-2, 2, "rule 5 fails first, at record word 4: "),
+                                (-1, 1, "rule 5 fails first, at record word 5: "), (-8, 3, "rule 6 fails first, at logical page 0: "),
                                 (HEADER_WORDS + 24 + 4, 65535, "rule 2 fails first, at page 2: "),
                                 (HEADER_WORDS + 24 + 4, 7, "rule 1 fails first, at page 2: ")]:
             changed = list(words)

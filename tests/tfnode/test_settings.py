@@ -9,7 +9,7 @@ import signal
 import subprocess
 
 from record import SettingsTest, record_of
-from tool import DONE, FAULTY, FILE, G, ROOT, SUFFIX, bytes_of, words_of
+from tool import FAULTY, FILE, G, ROOT, SUFFIX, bytes_of, words_of
 
 GEOMETRIES = [G, "4,8,12,6,40,4", "64,512,60,4,3600,128", "1,1,3,3,1,1", "64,512,2,1022,62,4096", "64,1,1022,2,63,4096"]
 
@@ -121,21 +121,13 @@ class WrittenAtEachStep(SettingsTest):
     program = FAULTY
     WORDS = ["settings", "node.img", "--write", "node.settings"]
 
-    def runs_with_faults(self, action):
-        """Runs with the fault at step 1, 2, .. until a run meets no fault."""
+    def from_a_session(self, action):
         self.session()
-        for step in range(1, 100):
-            self.kept.unlink(missing_ok=True)
-            run = subprocess.run([self.program, *self.WORDS], cwd=self.folder, capture_output=True,
-                                 env={**os.environ, "TFNODE_FAULT": f"{step} {action}"})
-            if run.returncode == DONE:
-                self.assertGreater(step, 8)
-                return
-            yield run
+        return self.runs_with_faults(self.WORDS, action, lambda: self.kept.unlink(missing_ok=True), least=8)
 
     def test_killed(self):
         seen = set()
-        for run in self.runs_with_faults("kill"):
+        for run in self.from_a_session("kill"):
             self.assertEqual(run.returncode, -signal.SIGKILL)
             seen.add(self.kept.exists())
             if self.kept.exists():
@@ -148,7 +140,7 @@ class WrittenAtEachStep(SettingsTest):
     def test_failing(self):
         for cause in errno.ENOSPC, errno.EIO, errno.EROFS:
             self.node.unlink(missing_ok=True)
-            for run in self.runs_with_faults(cause):
+            for run in self.from_a_session(cause):
                 line = run.stderr.decode()
                 self.assertEqual((run.returncode, line.count("\n")), (FILE, 1), line)
                 self.assertIn(os.strerror(cause), line)

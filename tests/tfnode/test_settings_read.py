@@ -41,10 +41,10 @@ class Read(SettingsTest):
     def test_a_node_of_a_record(self):
         run = self.new_from(record_of(G))
         self.assertEqual((run.stdout.decode(), run.stderr),
-                         ("two.img is an empty node of 3 pages of 2 words, 300 bytes: 0 reads, 0 programs, 6 erases\n", b""))
+                         ("two.img is an empty node of 3 pages of 2 words, 304 bytes: 0 reads, 0 programs, 6 erases\n", b""))
         (self.folder / "two.img").unlink()
         self.assertEqual(json.loads(self.tool("new", "two.img", f"--settings={self.kept}", "--json").stdout),
-                         {"geometry": {"P": 2, "W": 2, "D": 3, "T": 3, "L": 3, "C": 1}, "bytes": 300, "reads": 0, "programs": 0,
+                         {"geometry": {"P": 2, "W": 2, "D": 3, "T": 3, "L": 3, "C": 1}, "bytes": 304, "reads": 0, "programs": 0,
                           "erases": 6})
 
     def test_higher_tags_are_skipped_and_said(self):

@@ -1,5 +1,6 @@
 """What the tests of tfnode share: a folder of their own, and the tool run in it as from a shell."""
 
+import os
 import pathlib
 import subprocess
 import tempfile
@@ -16,7 +17,7 @@ if not SANITISED.exists():
 # Exit statuses.
 DONE, ANSWER, USAGE, FILE = range(4)
 
-# Document 01's session: its input, what it prints, and the words of the slices afterwards.
+# Document 01's session: its input, and what it prints.
 G = "2,2,3,3,3,1"
 SESSION = b"W 0 10\nW 1 11\nW 0 12\nW 2 13\nW 1 14\nR 0\nR 0\nW 0 15\n"
 SESSION_LINES = b"0 0 1 0\n0 1 2 0\n0 2 2 0\n0 1 2 0\n0 2 3 1\n0 3 1 1 12\n0 1 0 0 12\n0 2 3 1\n"
@@ -76,6 +77,17 @@ class ToolTest(unittest.TestCase):
         self.assertEqual(run.stdout, b"")
         self.assertEqual(self.contents(), before)
         return line
+
+    def runs_with_faults(self, words, action, reset, data=b"", least=10):
+        """Runs with a fault at step 1, 2, .. until a run meets none, each from what `reset` makes; gives those that met one."""
+        for step in range(1, 1000):
+            reset()
+            run = subprocess.run([FAULTY, *words], input=data, cwd=self.folder, capture_output=True,
+                                 env={**os.environ, "TFNODE_FAULT": f"{step} {action}"})
+            if run.returncode == DONE:
+                self.assertGreater(step, least)
+                return
+            yield run
 
     def contents(self):
         """Every file of the folder with its bytes and permissions."""

@@ -20,8 +20,8 @@ static const struct {
     {"block", "an open block is programmed up to its offset, any other wholly or not at all, and "
               "each region has an erased block besides its open one"},
     {"translation page", "the directory names the valid page of each translation page"},
-    {"cache entry", "used entries are of different logical pages within the limit, and unused ones "
-                    "are empty"},
+    {"cache entry", "at most C entries are used, of different logical pages within the limit, and "
+                    "the others are empty; at most C/2, and no more than are used, are protected"},
     {"logical page", "the cache or the map names the valid page of each logical page"},
     {"cache entry", "an unchanged entry is as the map on flash has it"},
 };
@@ -37,24 +37,46 @@ static int first_broken_rule(const struct node *node, uint32_t *where)
                                  words[CACHE], s[RECORD], words[RECORD], where);
 }
 
-static void print_hint(int rule, uint32_t where, bool json)
+/* Where it fails, for a person: a number, and what that counts. */
+struct place {
+    const char *at;
+    uint32_t number;
+};
+
+static struct place place_of(const struct node *node, int rule, uint32_t where)
 {
-    if (rule < 1)
+    struct place place = {rules[rule - 1].at, where};
+    /* No entry has rank C: there the record's number of used or of protected entries is meant. */
+    if (rule == 5 && where == number(node, C)) {
+        bool used = node->slices[RECORD][TF_RECORD_USED] > number(node, C);
+        place.at = "record word";
+        place.number = used ? TF_RECORD_USED : TF_RECORD_PROTECTED;
+    }
+    return place;
+}
+
+static void print_hint(const struct node *node, bool json)
+{
+    uint32_t where = 0;
+    int rule = first_broken_rule(node, &where);
+    if (rule < 1) {
         printf(json ? ", \"hint\": null" : "hint: the independent program finds no broken rule; "
                                            "please report it\n");
-    else if (json)
+        return;
+    }
+    struct place place = place_of(node, rule, where);
+    if (json)
         printf(", \"hint\": {\"rule\": %d, \"at\": \"%s\", \"number\": %" PRIu32 "}", rule,
-               rules[rule - 1].at, where);
+               place.at, place.number);
     else
-        printf("hint: rule %d fails first, at %s %" PRIu32 ": %s\n", rule, rules[rule - 1].at,
-               where, rules[rule - 1].asks);
+        printf("hint: rule %d fails first, at %s %" PRIu32 ": %s\n", rule, place.at, place.number,
+               rules[rule - 1].asks);
 }
 
 enum status command_check(const struct arguments *arguments)
 {
     bool json = given(arguments, OPTION_JSON);
     struct image image;
-    uint32_t where = 0;
     image_open(&image, arguments->operands[0], LOOK);
     uint32_t reply = node_check(&image.node);
     if (reply != TF_DONE && reply != TF_DAMAGED)
@@ -65,10 +87,8 @@ enum status command_check(const struct arguments *arguments)
                sound ? "true" : "false");
     else
         printf("%s is %s\n", image.path, sound ? "sound: all seven rules hold" : "damaged");
-    if (!sound) {
-        int rule = first_broken_rule(&image.node, &where);
-        print_hint(rule, where, json);
-    }
+    if (!sound)
+        print_hint(&image.node, json);
     if (json)
         puts("}");
     return sound ? STATUS_DONE : STATUS_ANSWER;

@@ -18,6 +18,7 @@ const char overview[] =
     "  dump      read many pages to standard output\n"
     "  replay    serve a trace of requests and say what it cost\n"
     "  map       a picture of every block\n"
+    "  upgrade   bring an image of an older layout to the newest\n"
     "\n"
     "`tfnode COMMAND --help` says more of each.  A command that changes the image\n"
     "replaces it whole or leaves it as it was; the others never change it.\n"
@@ -116,6 +117,16 @@ static const char help_map[] =
     "\n"
     "example: tfnode map node.img --svg node.svg\n";
 
+static const char help_upgrade[] =
+    "usage: tfnode upgrade FILE [--json]\n"
+    "\n"
+    "Makes an image of an older layout one of the newest, which every other command\n"
+    "asks for.  Words are only added, so nothing of the node is lost, and it is as\n"
+    "sound or as damaged as before.  An image of the newest layout is left alone.\n"
+    "An older tfnode does not open the new image; keep a copy if you need one.\n"
+    "\n"
+    "example: tfnode upgrade node.img && tfnode check node.img\n";
+
 static const struct command commands[] = {
     {"new", {"FILE"}, OPTION_JSON | OPTION_GEOMETRY | OPTION_PRESET | OPTION_SETTINGS, command_new,
      help_new},
@@ -128,6 +139,7 @@ static const struct command commands[] = {
     {"dump", {"FILE", "FIRST", "COUNT"}, 0, command_dump, help_dump},
     {"replay", {"FILE"}, OPTION_JSON | OPTION_LINES, command_replay, help_replay},
     {"map", {"FILE"}, OPTION_JSON | OPTION_SVG, command_map, help_map},
+    {"upgrade", {"FILE"}, OPTION_JSON, command_upgrade, help_upgrade},
 };
 
 const struct command *find_command(const char *name)

@@ -22,6 +22,8 @@ enum status command_dump(const struct arguments *arguments);
 enum status command_replay(const struct arguments *arguments);
 /* map.c */
 enum status command_map(const struct arguments *arguments);
+/* upgrade.c */
+enum status command_upgrade(const struct arguments *arguments);
 
 /* The command of that name, NULL if there is none. */
 const struct command *find_command(const char *name);

@@ -2,6 +2,7 @@
 #include "image.h"
 
 #include "beside.h"
+#include "layout.h"
 #include "say.h"
 #include "words.h"
 
@@ -53,13 +54,17 @@ _Noreturn static void fail_open(const char *path)
 static void take_geometry(struct image *image, const uint32_t header[HEADER_WORDS])
 {
     const char *path = image->path;
-    if (header[AT_VERSION] != IMAGE_VERSION)
-        fail(STATUS_FILE, "%s is a node image of version %" PRIu32 ", and this tfnode reads "
-             "version %d; use the tfnode that made it", path, header[AT_VERSION], IMAGE_VERSION);
+    image->layout = header[AT_VERSION];
+    if (image->layout > NEWEST_LAYOUT)
+        fail(STATUS_FILE, "%s is of a newer layout, version %" PRIu32 ", and this tfnode knows "
+             "those up to version %d; use a newer tfnode", path, image->layout, NEWEST_LAYOUT);
+    if (image->layout < OLDEST_LAYOUT)
+        fail(STATUS_FILE, "%s has a damaged header: there is no version %" PRIu32 "; use a copy",
+             path, image->layout);
     if (header[AT_HEADER_WORDS] != HEADER_WORDS || header[AT_NUMBERS] != NUMBERS ||
         header[AT_SLICES] != SLICES)
-        fail(STATUS_FILE, "%s has a damaged header: it is not laid out as version %d; use a copy",
-             path, IMAGE_VERSION);
+        fail(STATUS_FILE, "%s has a damaged header: it is not laid out as version %" PRIu32
+             "; use a copy", path, image->layout);
     memcpy(image->node.geometry.numbers, header + AT_NUMBERS + 1,
            sizeof image->node.geometry.numbers);
     if (!geometry_accepted(&image->node.geometry))
@@ -70,7 +75,7 @@ static void take_geometry(struct image *image, const uint32_t header[HEADER_WORD
 /* The rest of it: that the sizes are those of the geometry, and the file's own. */
 static void take_sizes(struct image *image, const uint32_t header[HEADER_WORDS])
 {
-    slice_sizes(&image->node.geometry, image->node.words);
+    layout_sizes(image->layout, &image->node.geometry, image->node.words);
     for (int slice = 0; slice < SLICES; slice++)
         if (header[AT_SLICES + 1 + slice] != image->node.words[slice])
             fail(STATUS_FILE, "%s has a damaged header: its sizes are not those of its geometry; "
@@ -152,7 +157,7 @@ static void lock_for_change(const char *path)
     free(real);
 }
 
-void image_open(struct image *image, const char *path, enum purpose purpose)
+void image_open_any_layout(struct image *image, const char *path, enum purpose purpose)
 {
     image->path = path;
     if (purpose == CHANGE)
@@ -170,9 +175,25 @@ void image_open(struct image *image, const char *path, enum purpose purpose)
     close(fd);
 }
 
+void image_open(struct image *image, const char *path, enum purpose purpose)
+{
+    image_open_any_layout(image, path, purpose);
+    if (image->layout < NEWEST_LAYOUT)
+        fail(STATUS_FILE, "%s is of an older layout, version %" PRIu32 ", and this tfnode works on "
+             "version %d; run `tfnode upgrade %s`", path, image->layout, NEWEST_LAYOUT, path);
+}
+
+void image_upgrade(struct image *image)
+{
+    while (image->layout < NEWEST_LAYOUT)
+        layout_step(&image->node, ++image->layout);
+    image->bytes = image_bytes(image->node.words);
+}
+
 void image_create(struct image *image, const char *path, const struct geometry *geometry)
 {
     image->path = path;
+    image->layout = NEWEST_LAYOUT;
     image->on_disk = false;
     image->node.geometry = *geometry;
     slice_sizes(geometry, image->node.words);
@@ -202,7 +223,7 @@ static void write_words(const uint32_t *words, size_t n)
 void image_commit(const struct image *image)
 {
     uint32_t header[HEADER_WORDS] = {0};
-    header[AT_VERSION] = IMAGE_VERSION;
+    header[AT_VERSION] = image->layout;
     header[AT_HEADER_WORDS] = HEADER_WORDS;
     header[AT_NUMBERS] = NUMBERS;
     memcpy(header + AT_NUMBERS + 1, image->node.geometry.numbers,

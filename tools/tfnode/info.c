@@ -13,6 +13,7 @@ static const char *const slice_names[SLICES] = {"chip", "spare", "directory", "c
 struct use {
     struct survey regions[REGIONS];
     uint32_t used, changed; /* cache entries in use, and those that flash does not have yet */
+    uint32_t protected;     /* entries that are, as the record has it */
 };
 
 static void find_use(const struct node *node, struct use *use)
@@ -22,6 +23,7 @@ static void find_use(const struct node *node, struct use *use)
     use->used = node->slices[RECORD][TF_RECORD_USED];
     if (use->used > number(node, C))
         use->used = number(node, C);
+    use->protected = node->slices[RECORD][TF_RECORD_PROTECTED];
     use->changed = 0;
     for (size_t rank = 0; rank < use->used; rank++)
         use->changed += node->slices[CACHE][rank * TF_WORDS_IN_ENTRY + TF_ENTRY_CHANGED] == 1;
@@ -43,8 +45,8 @@ static void print_region(const char *name, const struct survey *survey)
 static void print_info(const struct image *image, const struct use *use, bool sound)
 {
     const struct node *node = &image->node;
-    printf("image        %s, version %d, %" PRIu64 " bytes\n", image->path, IMAGE_VERSION,
-           image->bytes);
+    printf("image        %s, version %" PRIu32 ", %" PRIu64 " bytes\n", image->path,
+           image->layout, image->bytes);
     printf("state        %s\n", sound ? "sound" : "damaged; `tfnode check` says why");
     printf("geometry     ");
     print_geometry(&node->geometry, false);
@@ -52,8 +54,8 @@ static void print_info(const struct image *image, const struct use *use, bool so
            number(node, L), number(node, W), use->regions[DATA].pages[PAGE_VALID]);
     for (int region = 0; region < REGIONS; region++)
         print_region(region_names[region], &use->regions[region]);
-    printf("cache        %" PRIu32 " of %" PRIu32 " entries used, %" PRIu32 " changed\n", use->used,
-           number(node, C), use->changed);
+    printf("cache        %" PRIu32 " of %" PRIu32 " entries used, %" PRIu32 " protected, %" PRIu32
+           " changed\n", use->used, number(node, C), use->protected, use->changed);
     printf("words        ");
     for (int slice = 0; slice < SLICES; slice++)
         printf("%s%s %zu", slice == 0 ? "" : ", ", slice_names[slice], node->words[slice]);
@@ -73,14 +75,15 @@ static void print_region_json(const char *name, const struct survey *survey)
 static void print_info_json(const struct image *image, const struct use *use, bool sound)
 {
     const struct node *node = &image->node;
-    printf("{\"version\": %d, \"bytes\": %" PRIu64 ", \"sound\": %s, \"geometry\": {",
-           IMAGE_VERSION, image->bytes, sound ? "true" : "false");
+    printf("{\"version\": %" PRIu32 ", \"bytes\": %" PRIu64 ", \"sound\": %s, \"geometry\": {",
+           image->layout, image->bytes, sound ? "true" : "false");
     print_geometry(&node->geometry, true);
     printf("}, \"written\": %" PRIu32 ", ", use->regions[DATA].pages[PAGE_VALID]);
     for (int region = 0; region < REGIONS; region++)
         print_region_json(region_names[region], &use->regions[region]);
-    printf("\"cache\": {\"entries\": %" PRIu32 ", \"used\": %" PRIu32 ", \"changed\": %" PRIu32
-           "}, \"words\": {", number(node, C), use->used, use->changed);
+    printf("\"cache\": {\"entries\": %" PRIu32 ", \"used\": %" PRIu32 ", \"protected\": %" PRIu32
+           ", \"changed\": %" PRIu32 "}, \"words\": {", number(node, C), use->used, use->protected,
+           use->changed);
     for (int slice = 0; slice < SLICES; slice++)
         printf("%s\"%s\": %zu", slice == 0 ? "" : ", ", slice_names[slice], node->words[slice]);
     puts("}}");
