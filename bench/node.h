@@ -13,7 +13,7 @@ struct geometry {
     uint32_t p, w, d, t, l, c;
 };
 
-enum { RECORD_WORDS = 5, COUNTS_WORDS = 3 };
+enum { RECORD_WORDS = 6, COUNTS_WORDS = 3 };
 
 /* The five lent slices stand in one allocation, so that a node is copied and compared as one. */
 struct node {

@@ -1,4 +1,5 @@
 """What the reports share: tables in Markdown, put into a page of docs/ between its two marks, and how a report ends in an error."""
+import os
 import sys
 
 END = "<!-- end of the table -->"
@@ -24,3 +25,14 @@ def write_between_marks(path, command, lines):
     after = rest.split(END)[1]
     with open(path, "w", encoding="utf-8") as file:
         file.write(before + begin + "\n" + "\n".join(lines) + "\n" + END + after)
+
+
+def write_page(docs, study, lines, plot):
+    """What a study found: its tables into its page, its plot beside it, and the tables shown."""
+    page = os.path.join(docs, f"{study.upper()}.md")
+    picture = os.path.join(docs, f"{study}.svg")
+    write_between_marks(page, f"bench/{study}", lines)
+    with open(picture, "w", encoding="utf-8") as file:
+        file.write(plot)
+    print("\n".join(lines))
+    print(f"written: {page} and {picture}")

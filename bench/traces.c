@@ -9,6 +9,12 @@
 
 enum { HOT_PAGES = 256 };
 
+/* A turn of hot-and-scan: writes to the hot pages, and then a scan of pages in order. */
+enum { HOT_IN_TURN = 1024, SCAN_PAGES = 1024 };
+
+/* The hot pages of the moving trace are others after so many requests. */
+enum { MOVES_AFTER = 2048 };
+
 /*
  * Document 000's Financial trace, made anew from what is told of it, in pages of
  * 2 KiB: requests of 2.19 pages in the mean, 9 of 100 of them reads (000, table 4);
@@ -33,11 +39,14 @@ static struct request spread(struct source *s)
     return (struct request){KIND_WRITE, draw(&s->seed) % s->l};
 }
 
+static struct request hot_write(struct source *s)
+{
+    return (struct request){KIND_WRITE, draw_hot(&s->seed, HOT_PAGES, s->l)};
+}
+
 static struct request hot(struct source *s)
 {
-    if (draw(&s->seed) % 10 == 0)
-        return spread(s);
-    return (struct request){KIND_WRITE, draw_hot(&s->seed, HOT_PAGES, s->l)};
+    return draw(&s->seed) % 10 == 0 ? spread(s) : hot_write(s);
 }
 
 static uint32_t next_page(struct source *s)
@@ -50,6 +59,36 @@ static uint32_t next_page(struct source *s)
 static struct request sequential(struct source *s)
 {
     return (struct request){KIND_WRITE, next_page(s)};
+}
+
+/* A scan goes on where the last one ended; one writes, the next reads. */
+static struct request hot_and_scan(struct source *s)
+{
+    uint32_t turn = s->made / (HOT_IN_TURN + SCAN_PAGES);
+    uint32_t place = s->made % (HOT_IN_TURN + SCAN_PAGES);
+    s->made++;
+    if (place < HOT_IN_TURN)
+        return hot_write(s);
+    return (struct request){turn % 2 == 0 ? KIND_WRITE : KIND_READ, next_page(s)};
+}
+
+/* The same, but each page of a scan is written and at once read back. */
+static struct request hot_and_verify(struct source *s)
+{
+    uint32_t place = s->made++ % (HOT_IN_TURN + 2 * SCAN_PAGES);
+    if (place < HOT_IN_TURN)
+        return hot_write(s);
+    if (place % 2 == 0)
+        return (struct request){KIND_WRITE, s->page};
+    return (struct request){KIND_READ, next_page(s)};
+}
+
+/* Other hot pages after each move, the ones beside the former.  None comes back while it counts. */
+static struct request moving(struct source *s)
+{
+    struct request r = hot_write(s);
+    r.page = (r.page + s->made++ / MOVES_AFTER) % s->l;
+    return r;
 }
 
 static uint32_t size(uint64_t *seed)
@@ -87,6 +126,9 @@ const struct trace traces[TRACES] = {
     [SPREAD] = {"spread", spread},
     [FINANCIAL] = {"Financial-like", financial},
     [HOT] = {"hot", hot},
+    [HOT_AND_SCAN] = {"hot-and-scan", hot_and_scan},
+    [HOT_AND_VERIFY] = {"hot-and-verify", hot_and_verify},
+    [MOVING] = {"moving", moving},
 };
 
 struct source source_new(uint32_t l)
