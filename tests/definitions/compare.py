@@ -8,8 +8,10 @@ A session on which the two differ is refused by the prover with both values.
 So are records and geometries that are read and written as settings.
 
 Every other session begins from a state in the midst of others' work, in some with
-entries set to *none* by hand, on a geometry with several cached entries of one
-translation page: dropped ones are then written back with neighbours.
+entries set to *none* or protected by hand, on a geometry with several cached
+entries of one translation page: dropped ones are then written back with
+neighbours, and requests find their entries in both parts of the cache. Each tenth
+begins from a state with more entries protected than is sound.
 
 usage: compare.py [--seed N] [--sessions N] [--settings N]
 """
@@ -26,7 +28,11 @@ import settings
 HERE = pathlib.Path(__file__).resolve().parent
 ROOT = HERE.parent.parent
 NUMBERS = "PWDTLC"
-RECORD = ["open-data", "data-offset", "open-translation", "translation-offset", "used"]
+RECORD = ["open-data", "data-offset", "open-translation", "translation-offset", "used", "protected"]
+# What the driver counts, in its order.
+MET = ["neighbours written back", "of them at none", "drops with neighbours in both parts", "misses behind protected entries", "of them with a drop",
+       "hits in trial below the limit", "at the limit", "hits of protected's first", "of one between", "of its last", "demoted entries dropped",
+       "refused for more protected than C/2", "than used"]
 HEAD = """-- Printed by tests/definitions/compare.py.
 use mathlib.Core.Path.{_≡_, refl}
 use mathlib.Core.List.{List, [], _∷_}
@@ -49,8 +55,8 @@ def geometries(words, widths, entries):
 
 SMALL = list(geometries(40, (1, 2, 3), (1, 2, 3)))
 # Drops with neighbours need entries of one translation page, and fewer entries than pages. There is a list for each W and C, since where
-# both are great geometries are few.
-SHAPES = ((2, 2), (2, 3), (2, 4), (3, 2), (3, 3), (3, 4), (4, 2), (4, 3))
+# both are great geometries are few. Of six entries three are protected at the most, so that one lies between.
+SHAPES = ((2, 2), (2, 3), (2, 4), (2, 6), (3, 2), (3, 3), (3, 4), (4, 2), (4, 3))
 CROWDED = [[g for g in geometries(48, (w,), (c,)) if c < g[4]] for w, c in SHAPES]
 
 
@@ -70,12 +76,28 @@ def small_session(rng):
 
 
 def crowded_session(rng):
-    """From a state after other requests, in which up to three entries of the last ones are then set to *none*, changed."""
+    """From a state after other requests, in which up to three entries of the last ones are then set to *none*, changed.
+
+    In half of them the number of protected entries is set too.
+    """
     geometry = rng.choice(rng.choice(CROWDED))
-    l = geometry[4]
+    l, c = geometry[4:]
     before = session(rng, l, 4, 16)
     emptied = [f"E {line.split()[1]}" for line in rng.sample(before[-4:], rng.randint(0, 3))]
-    return geometry, before + emptied + ["B"], session(rng, l, 6, 12)
+    protected = [f"P {rng.randint(0, c // 2)}"] if rng.random() < 0.5 else []
+    return geometry, before + emptied + protected + ["B"], session(rng, l, 6, 12)
+
+
+def damaged_session(rng):
+    """From a state in which more entries are protected than may be, after few requests no more than C/2 but more than are used."""
+    geometry = rng.choice(rng.choice(CROWDED))
+    l, few = geometry[4], rng.choice((0, 0, 1, 4, 6))
+    return geometry, session(rng, l, few, few) + [f"D {rng.choice((1, 1, 1, 2, 4294960000))}", "B"], session(rng, l, 2, 3)
+
+
+def session_of(number):
+    """By its number: each tenth damaged, half of all from a formatted node."""
+    return damaged_session if number % 10 == 9 else crowded_session if number % 2 else small_session
 
 
 def as_list(items):
@@ -90,7 +112,7 @@ def as_state(sides):
 
 
 def instance(driver, number, geometry, before, lines):
-    """The statement that the definitions give what the independent program gave, and the neighbours it wrote back, all and at *none*."""
+    """The statement that the definitions give what the independent program gave, and how often it met each of MET."""
     run = subprocess.run([driver, *map(str, geometry)], input="\n".join(before + lines), text=True, capture_output=True, check=True)
     played = [x.split() for x in run.stdout.splitlines()]
     prints = [as_list(x[1:]) for x in played if x[0] == "L"][-len(lines):]
@@ -103,12 +125,12 @@ def instance(driver, number, geometry, before, lines):
 
 
 def sessions(rng, driver, count):
-    """The statements of so many sessions, and the neighbours that were written back, all and at *none*."""
-    text, met = HEAD, (0, 0)
+    """The statements of so many sessions, and how often each of MET was met in them."""
+    text, met = HEAD, [0] * len(MET)
     for number in range(count):
-        stated, neighbours = instance(driver, number, *(crowded_session if number % 2 else small_session)(rng))
+        stated, new = instance(driver, number, *session_of(number)(rng))
         text += stated
-        met = tuple(map(sum, zip(met, neighbours)))
+        met = list(map(sum, zip(met, new, strict=True)))
     return text, met
 
 
@@ -149,7 +171,7 @@ def main():
         (scratch / "crates.txt").write_text("\n".join(under) + "\ncompared: scope settings\n")
         (crate / "src/lib.rt").write_text("// Sessions and settings of the independent program. No code.\n")
         (crate / "specs/Lib.antt").write_text("pub mod Sessions\npub mod Settings\n")
-        text, (neighbours, at_none) = sessions(rng, compiled(scratch, "driver.c"), asked.sessions)
+        text, met = sessions(rng, compiled(scratch, "driver.c"), asked.sessions)
         (crate / "specs/Sessions.antt").write_text(text)
         text, answers = settings.instances(rng, compiled(scratch, "settings.c"), asked.settings)
         (crate / "specs/Settings.antt").write_text(text)
@@ -160,10 +182,10 @@ def main():
             sys.stderr.write(proved.stdout + proved.stderr)
             sys.exit(f"error: the definitions and the independent program differ; replay with --seed {asked.seed} "
                      f"--sessions {asked.sessions} --settings {asked.settings}")
-    print(f"definitions: {asked.sessions} sessions agree in every printed line and every word of the state; in them {neighbours} "
-          f"neighbours were written back, {at_none} at none")
-    if asked.sessions >= 100 and at_none == 0:
-        sys.exit(f"error: seed {asked.seed} never wrote a neighbour at none back")
+    print(f"definitions: {asked.sessions} sessions agree in every printed line and every word of the state; met in them: "
+          + ", ".join(f"{name} {n}" for name, n in zip(MET, met)))
+    if asked.sessions >= 100 and 0 in met:
+        sys.exit(f"error: seed {asked.seed} never met: {MET[met.index(0)]}")
     print(f"definitions: {asked.settings} settings read or written agree: {answers}")
 
 

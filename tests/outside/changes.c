@@ -18,12 +18,23 @@ uint32_t *row_word(const struct world *x, size_t at, int *slice, size_t *index)
     return &x->slice[*slice][at];
 }
 
+/* A number of protected entries at or about what rule 5 allows, or far from it. */
+static uint32_t other_protected(const struct world *x, uint64_t *seed)
+{
+    uint32_t used = x->slice[RECORD][USED];
+    const uint32_t choice[] = {x->c / 2, x->c / 2 + 1, (x->c + 1) / 2, used, used + 1, x->c, NONE};
+    return choice[random_below(seed, 7)];
+}
+
 /* Another value that may well pass for a right one. */
-static uint32_t other_value(const struct world *x, int slice, uint32_t old, uint64_t *seed)
+static uint32_t other_value(const struct world *x, int slice, size_t index, uint32_t old,
+                            uint64_t *seed)
 {
     static const uint32_t marks[] = {0, 1, 65535, NONE, NONE - 1, 65534};
     const uint32_t bounds[] = {x->p, x->l, x->m, x->c, x->d, x->d + x->t, x->d * x->p,
                                (x->d + x->t) * x->p};
+    if (slice == RECORD && index == PROTECTED && random_below(seed, 2))
+        return other_protected(x, seed);
     switch (random_below(seed, 6)) {
     case 0: return old + 1 - 2 * random_below(seed, 2);
     case 1: return old ^ UINT32_C(1) << random_below(seed, 32);
@@ -65,7 +76,7 @@ static struct changes any_changes(const struct world *x, uint32_t at, uint64_t *
             c.at[i] = random_below(seed, 2) ? (c.at[0] + random_below(seed, 6)) % words
                                             : random_64(seed) % words;
         c.from[i] = *row_word(x, c.at[i], &slice, &index);
-        c.to[i] = other_value(x, slice, c.from[i], seed);
+        c.to[i] = other_value(x, slice, index, c.from[i], seed);
     }
     if (c.n == 2 && random_below(seed, 2)) {
         c.to[0] = c.from[1];
@@ -88,6 +99,12 @@ struct changes fill_changes(const struct world *x, const struct step *step)
     return c;
 }
 
+/* The record's last word is the last of the row. */
+bool changes_protected(const struct changes *c, const struct world *x)
+{
+    return c->n == 1 && c->at[0] == row_words(x) - 1;
+}
+
 void changes_set(const struct changes *c, struct world *x, const uint32_t value[MOST_CHANGES])
 {
     for (uint32_t i = 0; i < c->n; i++) {
@@ -99,7 +116,7 @@ void changes_set(const struct changes *c, struct world *x, const uint32_t value[
 
 bool fill_emptied(struct world *x, uint64_t seed)
 {
-    uint32_t used = x->slice[RECORD][4], from = random_below(&seed, x->c);
+    uint32_t used = x->slice[RECORD][USED], from = random_below(&seed, x->c);
     for (uint32_t i = 0; i < used; i++) {
         uint32_t *entry = x->slice[CACHE] + (size_t)((from + i) % used) * 3;
         if (entry[1] == NONE)

@@ -7,8 +7,8 @@
 #include <stdio.h>
 
 static const char *const corner_name[CORNERS] = {
-    "P = 1", "W = 1", "D = 2", "T = 2", "L largest", "M largest", "C = 1", "C > L",
-    "L no multiple of W"};
+    "P = 1", "W = 1", "D = 2", "T = 2", "L largest", "M largest", "C = 1", "C = 2", "C = 3",
+    "C > L", "L no multiple of W"};
 
 /* The data region as it stands: its open block, the offset, and how many others are erased. */
 static void look_at_region(struct coverage *v, const struct world *x)
@@ -31,6 +31,8 @@ void coverage_start(struct coverage *v, const struct play *p)
         [LARGEST_L] = x->l == (x->d - 1) * x->p - 1,
         [LARGEST_M] = x->m == (x->t - 1) * x->p - 1,
         [ONE_ENTRY] = x->c == 1,
+        [TWO_ENTRIES] = x->c == 2,
+        [THREE_ENTRIES] = x->c == 3,
         [MORE_ENTRIES] = x->c > x->l,
         [NO_MULTIPLE] = x->l % x->w != 0,
     };
@@ -38,6 +40,7 @@ void coverage_start(struct coverage *v, const struct play *p)
         v->corners[i] += met[i];
     v->sessions++;
     look_at_region(v, x);
+    replacement_start(&v->replacement);
 }
 
 /*
@@ -73,6 +76,7 @@ static bool has_empty_slice(const struct call *c)
 void coverage_before(struct coverage *v, const struct play *p, const struct step *step)
 {
     neighbours_before(&v->neighbours, p, step);
+    replacement_before(&v->replacement, p, step);
 }
 
 void coverage_step(struct coverage *v, const struct play *p, const struct step *step)
@@ -98,6 +102,7 @@ void coverage_step(struct coverage *v, const struct play *p, const struct step *
     v->still_sound += step->kind == CHANGED_WORD && p->reply == DONE && p->call.which != FORMAT;
     count_collections(v, p, step);
     neighbours_after(&v->neighbours, p, step);
+    replacement_after(&v->replacement, p, step);
 }
 
 static const char *const reply_name[REPLIES] = {"DONE",    "UNWRITTEN", "GEOMETRY", "LENGTH",
@@ -122,6 +127,7 @@ void coverage_print(const struct coverage *v)
            "; calls with NULL, 0 %" PRIu64 "\n",
            v->still_sound, v->odd, v->emptied, v->full_offset, v->null);
     neighbours_print(&v->neighbours);
+    replacement_print(&v->replacement);
 }
 
 bool coverage_whole(const struct coverage *v)
@@ -156,5 +162,6 @@ bool coverage_whole(const struct coverage *v)
     whole &= tell_met("an entry set to", "none", v->emptied);
     whole &= tell_met("an empty slice as", "NULL, 0", v->null);
     whole &= tell_met("a write at", "offset P", v->full_offset);
-    return whole & neighbours_whole(&v->neighbours);
+    whole &= neighbours_whole(&v->neighbours);
+    return whole & replacement_whole(&v->replacement);
 }

@@ -3,12 +3,13 @@
 #define COVERAGE_H
 
 #include "neighbours.h"
+#include "replacement.h"
 
 enum { REGIONS = 2, RULES = 7 };
 
 enum {
-    ONE_PAGE, ONE_WORD, TWO_DATA, TWO_TRANSLATION, LARGEST_L, LARGEST_M, ONE_ENTRY, MORE_ENTRIES,
-    NO_MULTIPLE, CORNERS
+    ONE_PAGE, ONE_WORD, TWO_DATA, TWO_TRANSLATION, LARGEST_L, LARGEST_M, ONE_ENTRY, TWO_ENTRIES,
+    THREE_ENTRIES, MORE_ENTRIES, NO_MULTIPLE, CORNERS
 };
 
 struct coverage {
@@ -27,6 +28,7 @@ struct coverage {
     uint64_t corners[CORNERS];         /* sessions by corner of the geometry */
     uint32_t open, offset, erased;     /* of the data region, as the step before left it */
     struct neighbours neighbours;
+    struct replacement replacement;
 };
 
 void coverage_start(struct coverage *v, const struct play *p);

@@ -18,6 +18,8 @@ void fill_call(struct call *c, const struct world state[2], const struct lent le
 /* What a step of kind CHANGED_WORD changes in this state. */
 struct changes fill_changes(const struct world *x, const struct step *step);
 void changes_set(const struct changes *c, struct world *x, const uint32_t value[MOST_CHANGES]);
+/* Whether nothing but the number of protected entries is changed. */
+bool changes_protected(const struct changes *c, const struct world *x);
 
 /*
  * Sets a cached entry of a sound state to *none*, changed, and marks its page

@@ -12,7 +12,10 @@
 enum { BUFFER = SLICES, REQUESTS, DATA, ANSWERS, COUNTS, ALL };
 extern const char *const slice_name[ALL];
 
-enum { MOST_REQUESTS = 1024, RECORD_WORDS = 5, COUNTS_WORDS = 3 };
+enum { MOST_REQUESTS = 1024, MOST_ENTRIES = 4096, COUNTS_WORDS = 3 };
+
+/* The words of the record that say how many entries of the cache are used, and protected. */
+enum { USED = 4, PROTECTED = 5, RECORD_WORDS = 6 };
 
 struct lent {
     struct stretch stretch[ALL];

@@ -46,7 +46,8 @@ static void list_step(const struct play *p, const struct step *step, size_t numb
     printf("%5zu  ", number);
     if (step->kind == ODD_WORDS || step->kind == EMPTIED) {
         printf(step->kind == EMPTIED ? "a cached entry set to none, changed, and its page invalid\n"
-                                     : "words that no rule binds changed\n");
+                                     : "words that no rule binds changed, and in some states how "
+                                       "many entries are protected\n");
         return;
     }
     for (uint32_t i = 0; step->kind == CHANGED_WORD && i < p->changes.n; i++) {

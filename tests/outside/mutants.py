@@ -96,8 +96,8 @@ def main():
                 print(f"{mutant.name}: NOT CAUGHT", flush=True)
             elif "--table" in sys.argv:
                 calls, difference, part, placing, shortest = caught
-                steps = shortest.removesuffix(" steps")
-                print(f"| `{mutant.name}` | {mutant.what} | {part}, {placing} | {int(calls):,} | {steps} | {difference} |", flush=True)
+                steps, by = shortest.removesuffix(" steps"), part if placing == "ending" else f"{part}, {placing}"
+                print(f"| `{mutant.name}` | {mutant.what} | {by} | {int(calls):,} | {steps} | {difference} |", flush=True)
             else:
                 calls, difference, part, placing, shortest = caught
                 print(f"{mutant.name}: {part}, slices {placing}, {calls} calls, shortest {shortest}; {difference}", flush=True)

@@ -84,7 +84,8 @@ static uint32_t room_made(const struct neighbours *n, const struct play *p)
 /*
  * A write that erased one block and kept the open translation block collected in
  * the data region alone.  What it programmed there, but for a write-back, which
- * is the first, are the collection's own updates.
+ * is the first, are the collection's own updates.  The written page's own entry is
+ * changed after them.
  */
 static uint32_t updates(const struct neighbours *n, const struct play *p)
 {
@@ -95,8 +96,9 @@ static uint32_t updates(const struct neighbours *n, const struct play *p)
         return 0;
     for (uint32_t next = n->next + n->written_back; next < record[3]; next++) {
         uint32_t t = x->slice[SPARE][2 * ((size_t)n->open * x->p + next) + 1];
-        for (uint32_t rank = 1; rank < record[4]; rank++)
-            bits |= bit(UPDATE_LEFT, cache[3 * rank + 2] == 1 && cache[3 * rank] / x->w == t);
+        for (uint32_t rank = 0; rank < record[USED]; rank++)
+            bits |= bit(UPDATE_LEFT, cache[3 * rank + 2] == 1 && cache[3 * rank] / x->w == t &&
+                                         cache[3 * rank] != p->call.page);
     }
     return bits;
 }

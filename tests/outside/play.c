@@ -132,7 +132,7 @@ static bool changed_word(struct play *p, const struct step *step, bool whole)
         return false;
     if (p->reply != DAMAGED)
         return true;
-    if (step->seed % 16 == 0)
+    if (step->seed % 16 == 0 || changes_protected(&p->changes, &p->state[OF_INDEPENDENT]))
         p->broken = ind_first_broken_rule(GEOMETRY_OF(&p->state[OF_ARCHIVE]),
                                           STATE_OF(&p->state[OF_ARCHIVE]), NULL);
     for (int side = 0; side < 2; side++)

@@ -60,6 +60,24 @@ static uint32_t choose_records(const struct session *s, int part, uint64_t *seed
     return random_below(seed, part == MIDDLE ? s->g[4] : 9);
 }
 
+static size_t words_of_chip(const struct session *s)
+{
+    return (size_t)(s->g[2] + s->g[3]) * s->g[0] * s->g[1];
+}
+
+static size_t words_of_others(const struct session *s)
+{
+    return (size_t)(s->g[2] + s->g[3]) * s->g[0] * 2 + (s->g[4] + s->g[1] - 1) / s->g[1] +
+           (size_t)s->g[5] * 3 + RECORD_WORDS;
+}
+
+/* Any word of the state, and each eighth time its last: how many entries are protected. */
+static uint32_t choose_word(const struct session *s, uint64_t *seed)
+{
+    size_t last = words_of_chip(s) + words_of_others(s) - 1;
+    return random_below(seed, 8) ? (uint32_t)random_64(seed) : (uint32_t)last;
+}
+
 /* One step, by the weights of a column: small and damage, middle, largest. */
 static void add_any(struct session *s, int part, uint64_t *seed)
 {
@@ -83,23 +101,12 @@ static void add_any(struct session *s, int part, uint64_t *seed)
     else if (kind == RUN)
         at = choose_records(s, part, seed);
     else if (kind == CHANGED_WORD)
-        at = (uint32_t)random_64(seed);
+        at = choose_word(s, seed);
     session_add(s, kind, at, seed);
 }
 
 /* Every word of the state changed in turn, those of the chip, which has the most, less often. */
 enum { TIMES_CHIP = 2, TIMES_OTHERS = 12 };
-
-static size_t words_of_chip(const struct session *s)
-{
-    return (size_t)(s->g[2] + s->g[3]) * s->g[0] * s->g[1];
-}
-
-static size_t words_of_others(const struct session *s)
-{
-    return (size_t)(s->g[2] + s->g[3]) * s->g[0] * 2 + (s->g[4] + s->g[1] - 1) / s->g[1] +
-           (size_t)s->g[5] * 3 + RECORD_WORDS;
-}
 
 static void add_changes(struct session *s, uint64_t *seed)
 {

@@ -14,7 +14,7 @@ enum {
     OTHER_GEOMETRY,       /* a call with another geometry, often with other lengths too */
     TOO_MANY,             /* a run of more than 1,024 records, whose lengths fit each other */
     CHANGED_WORD,         /* a word of the state changed, then a call */
-    ODD_WORDS,            /* no call: words that no rule binds changed */
+    ODD_WORDS,            /* no call: words that no rule binds changed, or how many are protected */
     EMPTIED,              /* no call: a cached entry set to *none*, changed, and its page invalid */
 };
 
@@ -60,6 +60,7 @@ void session_free(struct session *s);
 /* session_bounds.c: the sessions of soak and bounds, whose requests are all good. */
 struct session session_bounds(uint32_t p, uint64_t seed);
 struct session session_bounds_together(uint32_t p, uint64_t seed);
+struct session session_bounds_protected(uint32_t p, uint64_t seed);
 struct session session_soak(uint64_t seed, size_t calls);
 
 #endif

@@ -18,6 +18,8 @@
  * W = C = 2, M = 3P-1 as before, and of the data region two pages are invalid,
  * mostly in two blocks.  First the even pages are written and then the odd, and
  * later even ones again, so that a block seldom has two of one translation page.
+ * No request there finds its page cached, so that no entry is protected.  With one
+ * more write of page 1 that page's is, and the same is reached.
  */
 #include "session.h"
 
@@ -47,30 +49,54 @@ struct session session_bounds(uint32_t p, uint64_t seed)
     return s;
 }
 
+enum { ROUNDS = 60 };
+
+/* Every page written, with room for the rounds and a request before them. */
+static struct session of_two_words(uint32_t p, uint64_t *seed)
+{
+    const uint32_t m = 3 * p - 1, l = 2 * m, g[6] = {p, 2, 7, 4, l, 2};
+    struct session s = of_good_requests(g, *seed, l + 1 + ROUNDS * 3);
+    for (uint32_t i = 0; i < l; i++)
+        session_add(&s, WRITE, i % m * 2 + i / m, seed);
+    return s;
+}
+
+/* Rounds of writes of pages 0 and 1, and a request of another even page. */
+static void add_rounds(struct session *s, uint32_t first, uint64_t *seed)
+{
+    for (uint32_t i = 0; i < ROUNDS; i++) {
+        session_add(s, WRITE, first, seed);
+        session_add(s, WRITE, 1 - first, seed);
+        session_add(s, random_below(seed, 2) ? WRITE : READ,
+                    2 + 2 * random_below(seed, s->g[4] / 2 - 1), seed);
+    }
+}
+
 /* The third request of each round drops the entry of page 0, with page 1 for a neighbour. */
 struct session session_bounds_together(uint32_t p, uint64_t seed)
 {
-    enum { ROUNDS = 60 };
-    const uint32_t m = 3 * p - 1, l = 2 * m, g[6] = {p, 2, 7, 4, l, 2};
-    struct session s = of_good_requests(g, seed, l + ROUNDS * 3);
-    for (uint32_t i = 0; i < l; i++)
-        session_add(&s, WRITE, i % m * 2 + i / m, &seed);
-    for (uint32_t i = 0; i < ROUNDS; i++) {
-        session_add(&s, WRITE, 0, &seed);
-        session_add(&s, WRITE, 1, &seed);
-        session_add(&s, random_below(&seed, 2) ? WRITE : READ, 2 + 2 * random_below(&seed, m - 1),
-                    &seed);
-    }
+    struct session s = of_two_words(p, &seed);
+    add_rounds(&s, 0, &seed);
+    return s;
+}
+
+/* The same, but page 1 is hit at the start of each round and so is protected. */
+struct session session_bounds_protected(uint32_t p, uint64_t seed)
+{
+    struct session s = of_two_words(p, &seed);
+    session_add(&s, WRITE, 1, &seed);
+    add_rounds(&s, 1, &seed);
     return s;
 }
 
 /*
- * A cache of three and two words a page: entries follow moved pages with their
- * rank kept, and are written back together.  Last, every page is read.
+ * A cache of six, three of them protected, and three words a page: entries follow
+ * moved pages with their rank kept, and those of both parts are written back
+ * together.  Last, every page is read.
  */
 struct session session_soak(uint64_t seed, size_t calls)
 {
-    static const uint32_t g[6] = {4, 2, 7, 4, 22, 3};
+    static const uint32_t g[6] = {4, 3, 9, 4, 31, 6};
     struct session s = of_good_requests(g, seed, calls);
     s.placing = BEGINNING;
     while (s.steps < calls) {

@@ -5,6 +5,7 @@
 #include "soak.h"
 
 #include "neighbours.h"
+#include "replacement.h"
 #include "tell.h"
 
 #include <inttypes.h>
@@ -13,15 +14,16 @@
 
 enum { MOST_PAGES = 382, STATE_EVERY = 64 };
 
-/* Requests by whether they wrote neighbours back. */
-enum { ALONE, WITH_OTHERS };
+/* Requests by whether they wrote neighbours back, and one of them protected. */
+enum { ALONE, WITH_OTHERS, WITH_PROTECTED, WAYS };
 
 /* The first word last written to each page, and the greatest costs seen. */
 struct watch {
     bool written[MOST_PAGES];
     uint32_t word[MOST_PAGES];
-    uint32_t most_read[2], most_write[2];
+    uint32_t most_read[WAYS], most_write[WAYS];
     struct neighbours neighbours;
+    struct replacement replacement;
 };
 
 static bool lost(struct play *p, uint32_t page)
@@ -66,6 +68,13 @@ static uint32_t write_bound(uint32_t pages)
     return (2 * pages + 1) * (pages + 1);
 }
 
+static int way_of(const struct watch *h)
+{
+    if (h->replacement.bits >> OTHER_PROTECTED & 1)
+        return WITH_PROTECTED;
+    return h->neighbours.bits >> TOGETHER & 1 ? WITH_OTHERS : ALONE;
+}
+
 static bool watch_cost(struct watch *h, struct play *p)
 {
     const uint32_t *counts = play_slice(p, OF_ARCHIVE, COUNTS);
@@ -73,7 +82,7 @@ static bool watch_cost(struct watch *h, struct play *p)
     bool write = p->call.which == WRITE;
     uint32_t *most = write ? h->most_write : h->most_read;
     uint32_t bound = write ? write_bound(pages) : read_bound(pages);
-    int by = h->neighbours.bits >> TOGETHER & 1 ? WITH_OTHERS : ALONE;
+    int by = way_of(h);
     if (cost > most[by])
         most[by] = cost;
     if (cost <= bound)
@@ -99,15 +108,18 @@ static bool play_watched(const struct session *s, struct watch *h, struct play *
                          const char *progress)
 {
     memset(h, 0, sizeof *h);
+    replacement_start(&h->replacement);
     *calls = 0;
     if (!play_start(p, s))
         return false;
     for (size_t i = 0; i < s->steps; i++) {
         bool whole = i % STATE_EVERY == 0 || i + 1 == s->steps;
         neighbours_before(&h->neighbours, p, &s->step[i]);
+        replacement_before(&h->replacement, p, &s->step[i]);
         if (!play_step(p, &s->step[i], whole))
             return false;
         neighbours_after(&h->neighbours, p, &s->step[i]);
+        replacement_after(&h->replacement, p, &s->step[i]);
         if (!watch_step(h, p))
             return false;
         ++*calls;
@@ -124,14 +136,20 @@ bool soak(uint64_t seed, size_t calls)
     struct play p;
     size_t played;
     bool good = play_watched(&s, &h, &p, &played, "soak: calls");
-    if (good)
+    if (good) {
         printf("soak: %zu calls on one chip, nothing lost; most for a read %u of %u, for a write "
-               "%u of %u; of %" PRIu64 " that wrote neighbours back %u and %u\n",
+               "%u of %u; of %" PRIu64 " that wrote neighbours back %u and %u, where one was "
+               "protected %u and %u\n",
                played, h.most_read[ALONE], read_bound(s.g[0]), h.most_write[ALONE],
                write_bound(s.g[0]), h.neighbours.met[TOGETHER], h.most_read[WITH_OTHERS],
-               h.most_write[WITH_OTHERS]);
-    else
+               h.most_write[WITH_OTHERS], h.most_read[WITH_PROTECTED],
+               h.most_write[WITH_PROTECTED]);
+        replacement_print_size(&h.replacement, OF_MORE);
+        /* What stands before it is met as the cache fills, once or twice if at all. */
+        good = calls < 10000 || replacement_whole_size(&h.replacement, OF_MORE, TRIAL_AT);
+    } else {
         tell_failure("soak", seed, 0, played + 1, &s, p.text);
+    }
     session_free(&s);
     return good;
 }
@@ -139,6 +157,7 @@ bool soak(uint64_t seed, size_t calls)
 /* A session whose requests, of this sort, must reach the bounds; the calls it made are added. */
 static bool reach_bounds(struct session s, int by, uint64_t seed, size_t *calls)
 {
+    static const char *const with[WAYS] = {"", " with neighbours", " with a protected neighbour"};
     const uint32_t pages = s.g[0];
     struct watch h;
     struct play p;
@@ -146,7 +165,7 @@ static bool reach_bounds(struct session s, int by, uint64_t seed, size_t *calls)
     bool good = play_watched(&s, &h, &p, &played, NULL);
     if (good && (h.most_read[by] != read_bound(pages) || h.most_write[by] != write_bound(pages))) {
         snprintf(p.text, sizeof p.text, "P=%u%s: most for a read %u, for a write %u", pages,
-                 by == WITH_OTHERS ? " with neighbours" : "", h.most_read[by], h.most_write[by]);
+                 with[by], h.most_read[by], h.most_write[by]);
         good = false;
     }
     *calls += played;
@@ -160,13 +179,16 @@ bool bounds(uint64_t seed)
 {
     size_t calls = 0;
     for (uint32_t pages = 1; pages <= 64; pages++) {
-        if (!reach_bounds(session_bounds(pages, seed + pages), ALONE, seed, &calls) ||
-            !reach_bounds(session_bounds_together(pages, seed + pages), WITH_OTHERS, seed, &calls))
+        uint64_t own = seed + pages;
+        if (!reach_bounds(session_bounds(pages, own), ALONE, seed, &calls) ||
+            !reach_bounds(session_bounds_together(pages, own), WITH_OTHERS, seed, &calls) ||
+            !reach_bounds(session_bounds_protected(pages, own), WITH_PROTECTED, seed, &calls))
             return false;
         tell_progress("bounds: P", pages, 64);
     }
     printf("bounds: for every P from 1 to 64 the most for a read is 2P+3 and for a write "
-           "(2P+1)(P+1), both reached, also where neighbours are written back (%zu calls)\n",
+           "(2P+1)(P+1), both reached, also where neighbours are written back, and where one of "
+           "them is protected (%zu calls)\n",
            calls);
     return true;
 }
