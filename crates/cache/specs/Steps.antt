@@ -1,6 +1,5 @@
 -- The steps that change the cache: what each hands back, what the cache holds after it, and that all else stays.
 use Prim.Native.Nat.{ℕ, suc, _-_, _*_, _≤_, _<_}
-use lib.Dec.{ltb}
 use borrow.Author.Tests.{lt-ltb, le-ltb}
 use native.Mathlib.Omega.{arith}
 use mathlib.Core.Path.{_≡_, refl}

@@ -22,12 +22,6 @@ unchanged-stored g s fits seven i k e =
     seven i (omega (arith, fits .at-most)) k
     (omega (arith, fits .changed-fits i k, eqb-false (changed-at i (s .cache)) 1 e))
 
--- Current places rest on the cache and on what flash stores, and on nothing else.
-pub current-same : (g : Geometry) (s s′ : State) → s′ .cache ≡ s .cache → s′ .small .used ≡ s .small .used
-    → (l : ℕ) → stored-in g s′ l ≡ stored-in g s l → current g s′ l ≡ current g s l
-unfolding current
-current-same g s s′ cache used l e = rw (cache, used, e)
-
 -- Where flash matters: for a page that is not cached, and by rule 7 for one that is cached and unchanged.
 abbrev pub Rests-on-flash : Found → Type 0
 Rests-on-flash (Hit place c) = c ≡ 0

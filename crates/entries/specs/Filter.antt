@@ -9,12 +9,12 @@ use native.Mathlib.Omega.{arith}
 use lib.Dec.{eqb, ltb}
 use lib.ListN.{length}
 use lib.Seq.{sets, length-sets}
-use borrow.Author.Tests.{eqb-true, ltb-true, lt-ltb, le-ltb}
+use borrow.Author.Tests.{eqb-true, ltb-true}
 use Rattle.scope.specs.Geometry.{Geometry}
 use Rattle.scope.specs.Lent.{none, entry-words, logical-at}
 use Rattle.scope.specs.Sound.{rank-of}
 use Rattle.flash.specs.Stores.{getD-sets-outside}
-use Rattle.flash.specs.Cases.{same?, below?, and-true, clash, is-false}
+use Rattle.flash.specs.Cases.{same?, and-true, clash, is-false}
 use Rattle.cache.specs.Entries.{CacheEntry, entry, to-front, placed, Stores, put-stores}
 use Rattle.cache.specs.Order.{Reordered, front-reorders, entered, enters}
 use Rattle.lent.specs.Notes.{filter-words}

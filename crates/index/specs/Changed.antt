@@ -171,36 +171,33 @@ pub looks-on : {g : Geometry} {q t i j k k′ : ℕ} {cache chip cache₁ chip�
 looks-on {g} {q} {t} {cache = cache} {chip} e first then n cache₀ chip₀ before =
     then n cache₀ chip₀ (first n cache₀ chip₀ (subst (λ (x : ℕ). Set-from g q t n x cache₀ chip₀ cache chip) e before))
 
--- None of four is of the page.
-pub looks-past-four : {g : Geometry} {q t i : ℕ} {cache chip : List ℕ} → count 4 (λ k. of-page-at g t cache (i + k)) ≡ 0
-    → Looks-at g q t i (i + 4) cache chip cache chip
-looks-past-four {g} {q} {t} {i} {cache} {chip} none-met =
-    looks-on (omega arith) (past 3 (omega arith))
-    (looks-on (omega arith) (past 2 (omega arith)) (looks-on (omega arith) (past 1 (omega arith)) first))
-  where
-    past : (k : ℕ) → k < 4 → Looks-at g q t (i + k) (i + k + 1) cache chip cache chip
-    past k h =
-        looks-at-another (test-of-other g t cache (i + k)
-        (eqb-false (translation-page g (logical-at (i + k) cache)) t (none-counted 4 (λ j. of-page-at g t cache (i + j)) none-met k h)))
-
-    first : Looks-at g q t i (i + 1) cache chip cache chip
-    first = subst (λ (k : ℕ). Looks-at g q t k (k + 1) cache chip cache chip) (add-zero i) (past 0 (omega arith))
+-- None of n is of the page.
+pub looks-past : {g : Geometry} {q t i : ℕ} {cache chip : List ℕ} (n : ℕ) → count n (λ k. of-page-at g t cache (i + k)) ≡ 0
+    → Looks-at g q t i (i + n) cache chip cache chip
+looks-past {g} {q} {t} {i} {cache} {chip} zero none-met =
+    subst (λ (k : ℕ). Looks-at g q t i k cache chip cache chip) (sym (add-zero i)) (λ n cache₀ chip₀ before. before)
+looks-past {g} {t = t} {i} {cache} (suc n) none-met =
+    looks-on (omega arith)
+    (looks-at-another (test-of-other g t cache (i + n)
+    (eqb-false (translation-page g (logical-at (i + n) cache)) t
+    (none-counted (suc n) (λ j. of-page-at g t cache (i + j)) none-met n (omega arith)))))
+    (looks-past n (omega arith))
 
 -- So many entries of the page were met from rank i on.
 pub record Met-from (g : Geometry) (t n i : ℕ) (cache : List ℕ) (met : ℕ) : Type 0 where
   pub so-far : met + count i (of-page-at g t cache) ≡ count n (of-page-at g t cache)
 
-pub met-more : {g : Geometry} {q t n : ℕ} (i : ℕ) {cache₀ chip₀ cache chip : List ℕ} {met met′ : ℕ}
-    → Set-from g q t n (i + 4) cache₀ chip₀ cache chip → Met-from g t n (i + 4) cache₀ met
-    → met′ ≡ met + count 4 (λ k. of-page-at g t cache (i + k)) → Met-from g t n i cache₀ met′
-met-more {g} {t = t} i {cache₀} {cache = cache} before met e =
+pub met-more : {g : Geometry} {q t n : ℕ} (i m : ℕ) {cache₀ chip₀ cache chip : List ℕ} {met met′ : ℕ}
+    → Set-from g q t n (i + m) cache₀ chip₀ cache chip → Met-from g t n (i + m) cache₀ met
+    → met′ ≡ met + count m (λ k. of-page-at g t cache (i + k)) → Met-from g t n i cache₀ met′
+met-more {g} {t = t} i m {cache₀} {cache = cache} before met e =
     record {
       so-far = omega (
         arith,
         e,
         met .so-far,
-        count-add i 4 (of-page-at g t cache₀),
-        count-same 4 (λ k. of-page-at g t cache (i + k)) (λ k. of-page-at g t cache₀ (i + k))
+        count-add i m (of-page-at g t cache₀),
+        count-same m (λ k. of-page-at g t cache (i + k)) (λ k. of-page-at g t cache₀ (i + k))
             (λ k h. ap (λ (l : ℕ). eqb (translation-page g l) t) (same-logical before (i + k) (omega arith))),
       );
     }

@@ -55,6 +55,10 @@ module _ {g : Geometry} {t : ℕ} (pages : Of-pages g t) (l : ℕ) where
 abbrev pub of-page-at : Geometry → ℕ → List ℕ → ℕ → Bool
 of-page-at g t cache i = eqb (translation-page g (logical-at i cache)) t
 
+-- How many entries the pass over the cache passes by at once.
+abbrev pub stretch : ℕ
+stretch = 20
+
 -- The entries have different logical pages, so that W of them at most are of it.
 pub few-of-page : (g : Geometry) → 1 ≤ g .W → (t n : ℕ) (cache : List ℕ)
     → ((i j : ℕ) → i < n → j < n → logical-at i cache ≡ logical-at j cache → i ≡ j) → count n (of-page-at g t cache) ≤ g .W

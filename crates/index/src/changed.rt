@@ -5,7 +5,7 @@ use lent::Geometry;
 use std::num::wrapping_sub_u32;
 use steps::chip::set_word;
 ghost use mathlib.Core.Path.{_≡_};
-ghost use mathlib.Core.Bool.{true, cond};
+ghost use mathlib.Core.Bool.{cond};
 ghost use Prim.Native.Nat.{_+_, _*_, _≤_, _<_};
 ghost use lib.ListN.{length};
 ghost use lib.Seq.{sets};
@@ -16,7 +16,7 @@ ghost use Rattle.scope.specs.Cache.{changed-of, unchanged-of};
 ghost use Rattle.scope.specs.Steps.{set-words};
 ghost use Rattle.lent.specs.Model.{geometry};
 ghost use Rattle.steps.specs.Lies.{Chip-lent};
-ghost use Rattle.index.specs.OfPage.{Of-pages, of-page-at};
+ghost use Rattle.index.specs.OfPage.{Of-pages, of-page-at, stretch};
 ghost use Rattle.index.specs.Changed.{Entries-lent, Looks-at};
 
 // 1 where the entry at rank i is of translation page t, else 0. By one comparison, since nobody can guess on which side of the page its logical
@@ -29,20 +29,21 @@ fn of_page(g: Geometry, t: u32, i: usize, cache: &[u32]) -> usize
     if behind < g.w { 1 } else { 0 }
 }
 
-// Whether all four numbers are 0.
-fn none(a: usize, b: usize, c: usize, d: usize) -> bool
-    ensures { λ r. ⌜ (r ≡ true → (a ≡ 0) × (b ≡ 0) × (c ≡ 0) × (d ≡ 0)) ⌝ }
+// The entries that are passed by at once where none of them is of the page, as mostly none is.
+const STRETCH: usize = 20;
+
+// How many of the entries of a stretch from rank i on are of translation page t. Without a branch, so that the compiler looks at several at once.
+fn own_in(g: Geometry, t: u32, i: usize, cache: &[u32]) -> usize
+    requires { ⌜ Of-pages (geometry g) t × ((i + stretch) * entry-words ≤ length (now cache)) × (i < 4294967296) ⌝ }
+    ensures { λ r. ⌜ r ≡ count stretch (λ k. of-page-at (geometry g) t (now (cache .entry)) (i + k)) ⌝ }
 {
-    if a != 0 {
-        return false;
+    let mut own = 0;
+    let mut k = 0;
+    while k < STRETCH {
+        own += of_page(g, t, i + k, cache);
+        k += 1;
     }
-    if b != 0 {
-        return false;
-    }
-    if c != 0 {
-        return false;
-    }
-    d == 0
+    own
 }
 
 // The entry at rank i: if it is of translation page t and changed, its word is set in the page at q, and it becomes unchanged.
@@ -63,9 +64,21 @@ fn set_if_changed(g: Geometry, q: u32, t: u32, i: usize, cache: &mut [u32], chip
     cache[i * ENTRY_WORDS + 2] = 0;
 }
 
-// The four from rank i on. How many entries of the page were met is handed back, those before with these. Most often none of the four is, so
-// that all are read before the first is looked at.
-fn set_four(
+// Those from rank i on and before rank j, from the last down.
+fn set_between(g: Geometry, q: u32, t: u32, i: usize, j: usize, cache: &mut [u32], chip: &mut [u32])
+    requires { ⌜ Chip-lent (geometry g) (now chip) × (q < pages (geometry g)) ⌝ }
+    requires { ⌜ Of-pages (geometry g) t × (i ≤ j) × (j * entry-words ≤ length (now cache)) ⌝ }
+    ensures { λ _. ⌜ Looks-at (geometry g) q t i j (now (cache .entry)) (now (chip .entry)) (now (cache .exit)) (now (chip .exit)) ⌝ }
+{
+    let mut k = j;
+    while i < k {
+        k -= 1;
+        set_if_changed(g, q, t, k, cache, chip);
+    }
+}
+
+// Those of the stretch from rank i on. How many entries of the page were met is handed back, those before with these.
+fn set_stretch(
     met: usize,
     g: Geometry,
     q: u32,
@@ -75,23 +88,17 @@ fn set_four(
     chip: &mut [u32],
 ) -> usize
     requires { ⌜ Chip-lent (geometry g) (now chip) × (q < pages (geometry g)) ⌝ }
-    requires { ⌜ Of-pages (geometry g) t × ((i + 4) * entry-words ≤ length (now cache)) ⌝ }
+    requires { ⌜ Of-pages (geometry g) t × ((i + stretch) * entry-words ≤ length (now cache)) ⌝ }
     requires { ⌜ (i < 4294967296) × (met ≤ 4294967296) ⌝ }
-    ensures { λ r. ⌜ r ≡ met + count 4 (λ k. of-page-at (geometry g) t (now (cache .entry)) (i + k)) ⌝ }
-    ensures { λ _. ⌜ Looks-at (geometry g) q t i (i + 4) (now (cache .entry)) (now (chip .entry)) (now (cache .exit)) (now (chip .exit)) ⌝ }
+    ensures { λ r. ⌜ r ≡ met + count stretch (λ k. of-page-at (geometry g) t (now (cache .entry)) (i + k)) ⌝ }
+    ensures { λ _. ⌜ Looks-at (geometry g) q t i (i + stretch) (now (cache .entry)) (now (chip .entry)) (now (cache .exit)) (now (chip .exit)) ⌝ }
 {
-    let a = of_page(g, t, i, cache);
-    let b = of_page(g, t, i + 1, cache);
-    let c = of_page(g, t, i + 2, cache);
-    let d = of_page(g, t, i + 3, cache);
-    if none(a, b, c, d) {
+    let own = own_in(g, t, i, cache);
+    if own == 0 {
         return met;
     }
-    set_if_changed(g, q, t, i + 3, cache, chip);
-    set_if_changed(g, q, t, i + 2, cache, chip);
-    set_if_changed(g, q, t, i + 1, cache, chip);
-    set_if_changed(g, q, t, i, cache, chip);
-    met + a + b + c + d
+    set_between(g, q, t, i, i + STRETCH, cache, chip);
+    met + own
 }
 
 // All of the first n. A page has no more entries than words: once so many were met the others are of other pages.
@@ -112,15 +119,12 @@ pub(crate) fn set_changed(
     let w = g.w as usize;
     let mut i = n;
     let mut met = 0;
-    while 4 <= i {
-        i -= 4;
-        met = set_four(met, g, q, t, i, cache, chip);
+    while STRETCH <= i {
+        i -= STRETCH;
+        met = set_stretch(met, g, q, t, i, cache, chip);
         if w <= met {
             return;
         }
     }
-    while 0 < i {
-        i -= 1;
-        set_if_changed(g, q, t, i, cache, chip);
-    }
+    set_between(g, q, t, 0, i, cache, chip);
 }

@@ -1,6 +1,6 @@
 -- Translate: l's entry is found, or is fetched, and another one is dropped and written back where it must be. Every logical
 -- page stays where it is, and it costs at most 2P+2.
-use Prim.Native.Nat.{ℕ, suc, _+_, _*_, _-_, _≤_, _<_}
+use Prim.Native.Nat.{ℕ, suc, _+_, _*_, _≤_, _<_}
 use mathlib.Core.Path.{_≡_, refl, sym, _∙_, ap, subst}
 use mathlib.Core.Bool.{false, cond}
 use mathlib.Core.List.{List, _++_}

@@ -1,4 +1,4 @@
--- The calls as C makes them, on words alone: "at that boundary the small record is five words and a request two, the reply number is
+-- The calls as C makes them, on words alone: "at that boundary the small record is five words", six with 02's P5, "and a request two, the reply number is
 -- returned, and the counts go to a slice of three result words, written whenever it has three, tested by LENGTH". Each is the call
 -- of Calls.antt with these lengths tested too and words turned into numbers and back.
 use Prim.Native.Nat.{ℕ, _%_}
@@ -61,7 +61,7 @@ to-words w o =
       counts = put-counts (w .counts) (counted (o .did));
     }
 
--- The sizes that every call of C tests beside the state's: "the small record is five words", the counts' slice "three".
+-- The sizes that every call of C tests beside the state's: the small record's, six words, and the counts' slice, "three".
 abbrev pub word-sizes : Words → List Size
 word-sizes w = call-sizes (length (w .small)) (length (w .counts))
 
