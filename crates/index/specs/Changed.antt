@@ -1,12 +1,12 @@
 -- The changed entries of one translation page, from the last entry down: those from rank i on have been looked at, what is left to set and to
 -- make unchanged makes it whole, and nothing is left once as many entries of the page were met as it has words.
-use Prim.Native.Nat.{ℕ, zero, suc, _+_, _*_, _≤_, _<_}
+use Prim.Native.Nat.{ℕ, zero, suc, _+_, _-_, _*_, _≤_, _<_}
 use native.Mathlib.Nat.{add-zero}
 use native.Mathlib.Numerals.{add-one}
 use native.Mathlib.Omega.{arith}
 use mathlib.Core.Path.{_≡_, refl, sym, ap, _∙_, subst}
 use mathlib.Core.Logic.{_≢_}
-use mathlib.Core.Bool.{true, false, cond}
+use mathlib.Core.Bool.{Bool, true, false, cond}
 use mathlib.Core.List.{List, [], _∷_, _++_, append-assoc, append-nil}
 use lib.Dec.{eqb}
 use lib.ListN.{length, getD, set, length-set}
@@ -18,7 +18,7 @@ use Rattle.scope.specs.Lent.{none, Mapping, entry-words, words-of, logical-at, 
 use Rattle.scope.specs.Cache.{mapping-at, is-changed, is-changed-of, changed-of, unchanged-of}
 use Rattle.scope.specs.Steps.{set-words}
 use Rattle.flash.specs.Cases.{on, same?}
-use Rattle.flash.specs.Counting.{count-add, count-same, none-counted}
+use Rattle.flash.specs.Counting.{count-le, count-add, count-same, none-counted}
 use Rattle.cache.specs.Neighbours.{test-of-page, test-of-other, changed-more, changed-no-more, none-changed}
 use Rattle.steps.specs.Lies.{Chip-lent}
 use Rattle.index.specs.Words.{Words-set, none-set, one-set}
@@ -182,6 +182,79 @@ looks-past {g} {t = t} {i} {cache} (suc n) none-met =
     (eqb-false (translation-page g (logical-at (i + n) cache)) t
     (none-counted (suc n) (λ j. of-page-at g t cache (i + j)) none-met n (omega arith)))))
     (looks-past n (omega arith))
+
+-- No logical page changes.
+looked-keeps : {g : Geometry} {q t i k : ℕ} {cache chip cache′ chip′ : List ℕ} → Chip-lent g chip → q < pages g
+    → Looks-at g q t i k cache chip cache′ chip′ → (j : ℕ) → j < i → logical-at j cache′ ≡ logical-at j cache
+looked-keeps {k = k} {cache} {chip} lent on-chip looked j h = same-logical (looked k cache chip (all-left lent on-chip)) j h
+
+-- Of the n entries from rank i on those from rank k on have been looked at, and so many of the others are of the page.
+pub record Own-left (g : Geometry) (q t i n : ℕ) (cache₀ chip₀ cache chip : List ℕ) (left k : ℕ) : Type 0 where
+  pub from : i ≤ k
+  pub upto : k ≤ i + n
+  pub cache-long : length cache ≡ length cache₀
+  pub chip-long : length chip ≡ length chip₀
+  pub ahead : (j : ℕ) → j < k → logical-at j cache ≡ logical-at j cache₀
+  pub are-left : left ≡ count (k - i) (λ j. of-page-at g t cache₀ (i + j))
+  pub looked : Looks-at g q t k (i + n) cache₀ chip₀ cache chip
+
+pub all-own-left : {g : Geometry} {q t i n : ℕ} {cache chip : List ℕ} {own : ℕ} → own ≡ count n (λ j. of-page-at g t cache (i + j))
+    → Own-left g q t i n cache chip cache chip own (i + n)
+all-own-left {g} {t = t} {i} {n} {cache} e =
+    let all : i + n - i ≡ n = omega arith in
+    record {
+      from = omega arith;
+      upto = omega arith;
+      cache-long = refl;
+      chip-long = refl;
+      ahead = λ j h. refl;
+      are-left = e ∙ ap (λ (k : ℕ). count k (λ j. of-page-at g t cache (i + j))) (sym all);
+      looked = λ m cache₀ chip₀ before. before;
+    }
+
+module _ {g : Geometry} {q t i n : ℕ} {cache₀ chip₀ cache chip : List ℕ} {left k : ℕ}
+    (before : Own-left g q t i n cache₀ chip₀ cache chip left k) where
+  abbrev own : ℕ → Bool
+  own j = of-page-at g t cache₀ (i + j)
+
+  pub some-left : 0 < left → i < k
+  some-left some = omega (arith, before .are-left, count-le (k - i) own, before .from)
+
+  -- Whether the entry before rank k is of the page, as 1 or 0.
+  module _ (some : i < k) {r : ℕ} (found : r ≡ cond (of-page-at g t cache (k - 1)) 1 0) where
+    counted : left ≡ count (k - 1 - i) own + r
+    counted =
+        let one : k - i ≡ suc (k - 1 - i) = omega arith in
+        let there : i + (k - 1 - i) ≡ k - 1 = omega arith in
+        before .are-left ∙ ap (λ (m : ℕ). count m own) one
+        ∙ ap (λ (x : ℕ). count (k - 1 - i) own + x)
+        (ap (λ (j : ℕ). cond (of-page-at g t cache₀ j) 1 0) there
+        ∙ ap (λ (l : ℕ). cond (eqb (translation-page g l) t) 1 0) (sym (before .ahead (k - 1) (omega arith))) ∙ sym found)
+
+    pub is-left : r ≤ left
+    is-left = omega (arith, counted)
+
+    pub one-less-left : {cache′ chip′ : List ℕ} → Chip-lent g chip → q < pages g
+        → Looks-at g q t (k - 1) (k - 1 + 1) cache chip cache′ chip′ → length cache′ ≡ length cache → length chip′ ≡ length chip
+        → Own-left g q t i n cache₀ chip₀ cache′ chip′ (left - r) (k - 1)
+    one-less-left lent on-chip looks cache-kept chip-kept =
+        record {
+          from = omega arith;
+          upto = omega (arith, before .upto);
+          cache-long = cache-kept ∙ before .cache-long;
+          chip-long = chip-kept ∙ before .chip-long;
+          ahead = λ j h. looked-keeps lent on-chip looks j h ∙ before .ahead j (omega arith);
+          are-left = omega (arith, counted);
+          looked = looks-on refl (before .looked) (looks-on (omega arith) looks (λ m c d set. set));
+        }
+
+  pub none-own-left : left ≡ 0 → Looks-at g q t i (i + n) cache₀ chip₀ cache chip
+  none-own-left e =
+      let upto : k ≡ i + (k - i) = omega (arith, before .from) in
+      looks-on refl (before .looked) (looks-on upto
+      (looks-past (k - i) (count-same (k - i) (λ j. of-page-at g t cache (i + j)) own
+      (λ j h. ap (λ (l : ℕ). eqb (translation-page g l) t) (before .ahead (i + j) (omega (arith, before .from))))
+      ∙ sym (before .are-left) ∙ e)) (λ m c d set. set))
 
 -- So many entries of the page were met from rank i on.
 pub record Met-from (g : Geometry) (t n i : ℕ) (cache : List ℕ) (met : ℕ) : Type 0 where

@@ -77,7 +77,23 @@ fn set_between(g: Geometry, q: u32, t: u32, i: usize, j: usize, cache: &mut [u32
     }
 }
 
-// Those of the stretch from rank i on. How many entries of the page were met is handed back, those before with these.
+// Those of the stretch from rank i on, among which so many are of the page: once these are met, the ones before are of other pages.
+fn set_own(own: usize, g: Geometry, q: u32, t: u32, i: usize, cache: &mut [u32], chip: &mut [u32])
+    requires { ⌜ Chip-lent (geometry g) (now chip) × (q < pages (geometry g)) ⌝ }
+    requires { ⌜ Of-pages (geometry g) t × ((i + stretch) * entry-words ≤ length (now cache)) × (i < 4294967296) ⌝ }
+    requires { ⌜ own ≡ count stretch (λ k. of-page-at (geometry g) t (now cache) (i + k)) ⌝ }
+    ensures { λ _. ⌜ Looks-at (geometry g) q t i (i + stretch) (now (cache .entry)) (now (chip .entry)) (now (cache .exit)) (now (chip .exit)) ⌝ }
+{
+    let mut left = own;
+    let mut k = i + STRETCH;
+    while 0 < left {
+        k -= 1;
+        left -= of_page(g, t, k, cache);
+        set_if_changed(g, q, t, k, cache, chip);
+    }
+}
+
+// How many entries of the page were met once the stretch from rank i on is looked at, those before with these.
 fn set_stretch(
     met: usize,
     g: Geometry,
@@ -97,7 +113,7 @@ fn set_stretch(
     if own == 0 {
         return met;
     }
-    set_between(g, q, t, i, i + STRETCH, cache, chip);
+    set_own(own, g, q, t, i, cache, chip);
     met + own
 }
 

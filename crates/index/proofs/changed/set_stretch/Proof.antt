@@ -1,4 +1,4 @@
--- `index::changed::set_stretch` meets its contract: where one of the stretch is of the page each is looked at.
+-- `index::changed::set_stretch` meets its contract: where none of the stretch is of the page it is passed by.
 use Prim.Native.Nat.{ℕ, _+_}
 use mathlib.Core.Path.{_≡_, sym, _∙_}
 use mathlib.Core.Bool.{Bool}
@@ -32,13 +32,11 @@ returns c =
     let none-met : count stretch (own (start (c .before))) ≡ 0 = sym (c .before .own-in .ensures) ∙ c .if1 .taken in
     (omega (arith, none-met), looks-past stretch none-met)
 
-add-set-between : tie.Need-add-set-between
-add-set-between c = omega (arith, start (c .before) .pre .1 .1 .0)
-
-set-between-requires : tie.Need-set-between-requires
-set-between-requires c κs =
-    let pre = start (c .before .before .before) .pre in
-    (pre .0, (pre .1 .0 .0, omega arith, pre .1 .0 .1))
+set-own-requires : tie.Need-set-own-requires
+set-own-requires c κs =
+    let found = c .before .before .before in
+    let pre = start found .pre in
+    (pre .0, ((pre .1 .0 .0, pre .1 .0 .1, pre .1 .1 .0), found .own-in .ensures))
 
 add-result : tie.Need-add-result
 add-result c =
@@ -54,7 +52,7 @@ same-length-3 c = search needs
 returns-2 : tie.Need-returns-2
 returns-2 c =
     let called = c .before .before .before .before in
-    (omega (arith, called .before .before .before .before .own-in .ensures), called .set-between .ensures)
+    (omega (arith, called .before .before .before .before .own-in .ensures), called .set-own .ensures)
 
 pub set-stretch-spec : {M : Type 1} → statement M
 set-stretch-spec =
@@ -63,8 +61,7 @@ set-stretch-spec =
     own-in-requires
     same-length
     returns
-    add-set-between
-    set-between-requires
+    set-own-requires
     add-result
     same-length-2
     same-length-3
