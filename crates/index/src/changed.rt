@@ -64,14 +64,14 @@ fn set_if_changed(g: Geometry, q: u32, t: u32, i: usize, cache: &mut [u32], chip
     cache[i * ENTRY_WORDS + 2] = 0;
 }
 
-// Those from rank i on and before rank j, from the last down.
-fn set_between(g: Geometry, q: u32, t: u32, i: usize, j: usize, cache: &mut [u32], chip: &mut [u32])
+// The first n, from the last down.
+fn set_first(g: Geometry, q: u32, t: u32, n: usize, cache: &mut [u32], chip: &mut [u32])
     requires { ⌜ Chip-lent (geometry g) (now chip) × (q < pages (geometry g)) ⌝ }
-    requires { ⌜ Of-pages (geometry g) t × (i ≤ j) × (j * entry-words ≤ length (now cache)) ⌝ }
-    ensures { λ _. ⌜ Looks-at (geometry g) q t i j (now (cache .entry)) (now (chip .entry)) (now (cache .exit)) (now (chip .exit)) ⌝ }
+    requires { ⌜ Of-pages (geometry g) t × (n * entry-words ≤ length (now cache)) ⌝ }
+    ensures { λ _. ⌜ Looks-at (geometry g) q t 0 n (now (cache .entry)) (now (chip .entry)) (now (cache .exit)) (now (chip .exit)) ⌝ }
 {
-    let mut k = j;
-    while i < k {
+    let mut k = n;
+    while 0 < k {
         k -= 1;
         set_if_changed(g, q, t, k, cache, chip);
     }
@@ -142,5 +142,5 @@ pub(crate) fn set_changed(
             return;
         }
     }
-    set_between(g, q, t, 0, i, cache, chip);
+    set_first(g, q, t, i, cache, chip);
 }

@@ -88,29 +88,29 @@ loop-again c =
     let called = c .before .before .before .before .before in
     (called .set-stretch .ensures .1 _ _ _ (from (turn called) .0), to called)
 
-set-between-requires : tie.Need-set-between-requires Inv-loop μ-loop
-set-between-requires c κs =
+set-first-requires : tie.Need-set-first-requires Inv-loop μ-loop
+set-first-requires c κs =
     let at = c .before .before .before in
     let inv = at .loop .inv .0 in
     let pre = start at .pre in (
       (chip-still (pre .0 .0) (inv .is-set .as-long), pre .0 .1),
-      (pre .1 .0 .of-pages, omega arith, omega (arith, inv .long, inv .upto, pre .1 .0 .lie)),
+      (pre .1 .0 .of-pages, omega (arith, inv .long, inv .upto, pre .1 .0 .lie)),
     )
 
 same-length-3 : tie.Need-same-length-3 Inv-loop μ-loop
 same-length-3 c =
     let called = c .before .before .before .before in
-    omega (arith, called .set-between .kept, called .before .before .before .before .loop .inv .0 .long)
+    omega (arith, called .set-first .kept, called .before .before .before .before .loop .inv .0 .long)
 
 same-length-4 : tie.Need-same-length-4 Inv-loop μ-loop
 same-length-4 c =
     let called = c .before .before .before .before in
-    omega (arith, called .set-between .kept, called .before .before .before .before .loop .inv .0 .is-set .as-long)
+    omega (arith, called .set-first .kept, called .before .before .before .before .loop .inv .0 .is-set .as-long)
 
 returns-2 : tie.Need-returns-2 Inv-loop μ-loop
 returns-2 c =
     let called = c .before .before .before .before in
-    none-left (called .set-between .ensures _ _ _ (called .before .before .before .before .loop .inv .0)) refl
+    none-left (called .set-first .ensures _ _ _ (called .before .before .before .before .loop .inv .0)) refl
 
 pub set-changed-spec : {M : Type 1} → statement M
 set-changed-spec =
@@ -126,7 +126,7 @@ set-changed-spec =
     returns
     loop-less
     loop-again
-    set-between-requires
+    set-first-requires
     same-length-3
     same-length-4
     returns-2)
