@@ -26,12 +26,6 @@ uint32_t node_write(enum side s, struct node *n, uint32_t page, const uint32_t *
                                               (size_t)n->g.w, NODE_COUNTS(n));
 }
 
-uint32_t node_discard(enum side s, struct node *n, uint32_t page)
-{
-    return (s == OURS ? tf_discard : ind_discard)(NODE_GEOMETRY(n), page, NODE_STATE(n),
-                                                  NODE_COUNTS(n));
-}
-
 uint32_t node_run(enum side s, struct node *n, const uint32_t *requests, uint32_t *data,
                   uint32_t *answers, size_t count)
 {

@@ -13,7 +13,6 @@ uint32_t node_format(enum side s, struct node *n);
 uint32_t node_check(enum side s, struct node *n);
 uint32_t node_read(enum side s, struct node *n, uint32_t page, uint32_t *buffer);
 uint32_t node_write(enum side s, struct node *n, uint32_t page, const uint32_t *buffer);
-uint32_t node_discard(enum side s, struct node *n, uint32_t page);
 uint32_t node_run(enum side s, struct node *n, const uint32_t *requests, uint32_t *data,
                   uint32_t *answers, size_t count);
 

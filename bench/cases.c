@@ -5,7 +5,6 @@
 
 #include <stdio.h>
 #include <stdlib.h>
-#include <string.h>
 
 /*
  * The first four differ in the number of blocks alone, with entries, logical
@@ -33,77 +32,22 @@ const struct test_case cases[] = {
     {"read, spread", READ, true, false, false},
     {"write, hot", WRITE, true, true, false},
     {"write, spread", WRITE, true, false, false},
-    {"discard, hot", DISCARD, true, true, false},
-    {"discard, spread", DISCARD, true, false, false},
     {"run of 1,024 reads, hot", RUN_READS, true, true, false},
     {"run of 1,024 reads, spread", RUN_READS, true, false, true},
     {"run of 1,024 writes, hot", RUN_WRITES, true, true, false},
     {"run of 1,024 writes, spread", RUN_WRITES, true, false, true},
-    {"run of 512 writes and discards, hot", RUN_PAIRS, true, true, false},
-    {"run of 1,024 discards, spread", RUN_DISCARDS, true, false, true},
 };
 const size_t case_count = sizeof cases / sizeof *cases;
 
-enum { HOT_PAGES = 64, MOST_PAGES = 65536 };
-
-/* Where the pages of a case come from, and which it has had. */
-struct source {
-    uint64_t seed;
-    bool hot;
-    uint32_t l, had;
-    bool page_had[MOST_PAGES];
-};
-
-static uint32_t any_page(struct source *from)
-{
-    return from->hot ? draw_hot(&from->seed, HOT_PAGES, from->l) : draw(&from->seed) % from->l;
-}
-
-/* A page that the case has not had, until it had all: only the first discard of a page is done. */
-static uint32_t new_page(struct source *from)
-{
-    uint32_t page;
-    if (from->had == (from->hot ? HOT_PAGES : from->l)) {
-        memset(from->page_had, 0, sizeof from->page_had);
-        from->had = 0;
-    }
-    do
-        page = any_page(from);
-    while (from->page_had[page]);
-    from->page_had[page] = true;
-    from->had++;
-    return page;
-}
-
-/* Request i of a case, which stands behind those before it. */
-static void put_request(uint32_t *request, enum what what, uint32_t i, struct source *from)
-{
-    switch (what) {
-    case WRITE:
-    case RUN_WRITES:
-        request[0] = KIND_WRITE;
-        request[1] = any_page(from);
-        break;
-    case DISCARD:
-    case RUN_DISCARDS:
-        request[0] = KIND_DISCARD;
-        request[1] = new_page(from);
-        break;
-    case RUN_PAIRS:
-        request[0] = i % 2 == 0 ? KIND_WRITE : KIND_DISCARD;
-        request[1] = i % 2 == 0 ? any_page(from) : request[-1];
-        break;
-    default:
-        request[0] = KIND_READ;
-        request[1] = any_page(from);
-    }
-}
+enum { HOT_PAGES = 64 };
 
 void exchange_prepare(struct exchange *e, const struct test_case *c, const struct geometry *g)
 {
-    struct source from = {.seed = 2, .hot = c->hot, .l = g->l};
+    uint64_t seed = 2;
+    uint32_t kind = c->what == WRITE || c->what == RUN_WRITES ? KIND_WRITE : KIND_READ;
     for (uint32_t i = 0; i < MOST_REQUESTS; i++) {
-        put_request(e->requests + 2 * i, c->what, i, &from);
+        e->requests[2 * i] = kind;
+        e->requests[2 * i + 1] = c->hot ? draw_hot(&seed, HOT_PAGES, g->l) : draw(&seed) % g->l;
         e->answers[i] = 0;
     }
     for (size_t i = 0; i < MOST_REQUESTS * (size_t)g->w; i++)
@@ -153,7 +97,7 @@ void case_start(struct node *n, bool full)
 
 size_t case_calls(const struct test_case *c)
 {
-    return c->what == READ || c->what == WRITE || c->what == DISCARD ? SINGLE_CALLS : 1;
+    return c->what == READ || c->what == WRITE ? SINGLE_CALLS : 1;
 }
 
 uint32_t case_call(enum side s, const struct test_case *c, struct node *n, struct exchange *e,
@@ -170,8 +114,6 @@ uint32_t case_call(enum side s, const struct test_case *c, struct node *n, struc
         return node_read(s, n, page, buffer);
     case WRITE:
         return node_write(s, n, page, buffer);
-    case DISCARD:
-        return node_discard(s, n, page);
     default:
         return node_run(s, n, e->requests, e->data, e->answers, MOST_REQUESTS);
     }

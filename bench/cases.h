@@ -14,8 +14,7 @@ struct chip {
     bool whole; /* every case, and not only those that show how the cost grows */
 };
 
-/* A run of pairs writes a page and discards it again, and so on. */
-enum what { FORMAT, CHECK, READ, WRITE, DISCARD, RUN_READS, RUN_WRITES, RUN_DISCARDS, RUN_PAIRS };
+enum what { FORMAT, CHECK, READ, WRITE, RUN_READS, RUN_WRITES };
 
 struct test_case {
     const char *name;

@@ -4,7 +4,7 @@
 
 #include "node.h"
 
-enum { MOST_REQUESTS = 1024, KIND_READ = 0, KIND_WRITE = 1, KIND_DISCARD = 2 };
+enum { MOST_REQUESTS = 1024, KIND_READ = 0, KIND_WRITE = 1 };
 
 struct exchange {
     uint32_t requests[2 * MOST_REQUESTS];

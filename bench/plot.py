@@ -10,7 +10,6 @@ CASES = [
     ("check, full", "#c0392b", "check, full chip"),
     ("run of 1,024 reads, spread", "#2e7d32", "run of 1,024 reads"),
     ("run of 1,024 writes, spread", "#7b4397", "run of 1,024 writes"),
-    ("run of 1,024 discards, spread", "#8a5a00", "run of 1,024 discards"),
 ]
 SWEEP = "#6b6b6b"
 WIDTH, HEIGHT = 860, 520

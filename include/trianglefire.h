@@ -1,18 +1,16 @@
 /*
  * Trianglefire: a flash translation layer for C and C++ firmware.
  *
- * The caller reads, writes and discards logical pages.  The library finds a place on flash for
- * each, keeps the map of these places on flash too, holds the entries in use in a small cache, and
- * collects blocks when room runs out.  Its code is proved to give the answers that this header
- * states.
+ * The caller reads and writes logical pages.  The library finds a place on flash for each, keeps
+ * the map of these places on flash too, holds the entries in use in a small cache, and collects
+ * blocks when room runs out.  Its code is proved to give the answers that this header states.
  *
  * How it is used:
  *
  *   1. Choose a geometry, and lend five slices of memory as the state of a node: chip, spare,
  *      directory, cache, record.  Their sizes are below.
  *   2. Call tf_format once.
- *   3. From then on call tf_read, tf_write, tf_discard and tf_run with the same geometry and the
- *      same slices.
+ *   3. From then on call tf_read, tf_write and tf_run with the same geometry and the same slices.
  *   4. Keep the geometry with the node, as the bytes that tf_settings_write makes of it: they, and
  *      tf_settings_read, say years later what to call it with.
  *
@@ -71,12 +69,11 @@
  */
 enum tf_reply {
     TF_DONE = 0,      /* done */
-    TF_UNWRITTEN = 1, /* a read or a discard of a page that is not written: it never was, or it was
-                         discarded since; the buffer of a read is left as it was */
+    TF_UNWRITTEN = 1, /* a read of a page that was never written; the buffer is left as it was */
     TF_GEOMETRY = 2,  /* the geometry is not accepted; answered whatever the counts of words are */
     TF_LENGTH = 3,    /* a slice has another size than below, or a run over TF_MOST_REQUESTS */
     TF_DAMAGED = 4,   /* the state breaks one of the rules below */
-    TF_KIND = 5,      /* a request of a run has a kind of 3 or more, none of enum tf_kind */
+    TF_KIND = 5,      /* a request of a run is neither TF_KIND_READ nor TF_KIND_WRITE */
     TF_PAGE = 6       /* the logical page is l or more */
 };
 
@@ -104,8 +101,7 @@ enum { TF_SPARE_STATE = 0, TF_SPARE_OWNER = 1, TF_WORDS_IN_SPARE = 2 };
 /* directory: for each translation page number the page that holds it, or TF_NONE. */
 
 /* cache: c entries of three words.  Those in use come first; the words of the others are TF_NONE.
- * Changed is 1 where the map on flash does not have it yet.  The physical page is TF_NONE where the
- * logical page is not written; a discard leaves it so, changed.
+ * Changed is 1 where the map on flash does not have it yet.
  *
  * The entries in use are a protected part, at most c/2 (rounded down), and behind it a trial part.
  * A page that is not cached enters at the front of the trial part; if all c entries are in use, the
@@ -135,7 +131,7 @@ enum { TF_COUNTS_READS = 0, TF_COUNTS_PROGRAMS = 1, TF_COUNTS_ERASES = 2, TF_COU
 
 /* requests: two words each. */
 enum { TF_REQUEST_KIND = 0, TF_REQUEST_PAGE = 1, TF_WORDS_IN_REQUEST = 2 };
-enum tf_kind { TF_KIND_READ = 0, TF_KIND_WRITE = 1, TF_KIND_DISCARD = 2 };
+enum { TF_KIND_READ = 0, TF_KIND_WRITE = 1 };
 
 /*
  * ---- Sizes of the slices, in words ------------------------------------------------------------
@@ -239,7 +235,7 @@ extern "C" {
 #endif
 
 /*
- * ---- The six calls on a node ------------------------------------------------------------------
+ * ---- The five calls on a node -----------------------------------------------------------------
  *
  * p, w, d, t, l, c are the geometry; counts takes the three counts.
  */
@@ -284,8 +280,8 @@ uint32_t tf_check(uint32_t p, uint32_t w, uint32_t d, uint32_t t, uint32_t l, ui
  * slice of the state.  It takes at most 2p+3 reads, programs and erases.
  *
  *   TF_DONE       buffer holds the words that were last written to the page
- *   TF_UNWRITTEN  the page was never written, or was discarded since; buffer is untouched, and the
- *                 state and the counts are those of the look-up
+ *   TF_UNWRITTEN  the page was never written; buffer is untouched, and the state and the counts are
+ *                 those of the look-up
  *   TF_GEOMETRY   refused, nothing changed
  *   TF_LENGTH     refused, nothing changed
  *   TF_DAMAGED    refused, nothing changed
@@ -322,41 +318,11 @@ uint32_t tf_write(uint32_t p, uint32_t w, uint32_t d, uint32_t t, uint32_t l, ui
                   uint32_t *counts, size_t counts_words);
 
 /*
- * Discards logical page `page`: from now on it reads TF_UNWRITTEN, until it is written again.  The
- * page on flash that held it is marked invalid: no call reads or copies it any more, and its room
- * is used anew once its block is collected and erased.  The place is looked up as for a read, so
- * that a discard, too, may change every slice of the state.  It takes at most 2p+2 reads, programs
- * and erases.
- *
- * A discard is no secure erase.  It erases no block of data: the words of the page, and those of
- * its earlier versions, stay on the chip until the blocks that hold them are collected and erased,
- * which may be much later or never.
- *
- *   TF_DONE       the page is not written from now on, and every other page reads as before
- *   TF_UNWRITTEN  the page was never written, or was discarded before; the state and the counts are
- *                 those of the look-up
- *   TF_GEOMETRY   refused, nothing changed
- *   TF_LENGTH     refused, nothing changed
- *   TF_DAMAGED    refused, nothing changed
- *   TF_PAGE       refused, nothing changed
- */
-uint32_t tf_discard(uint32_t p, uint32_t w, uint32_t d, uint32_t t, uint32_t l, uint32_t c,
-                    uint32_t page,
-                    uint32_t *chip, size_t chip_words,
-                    uint32_t *spare, size_t spare_words,
-                    uint32_t *directory, size_t directory_words,
-                    uint32_t *cache, size_t cache_words,
-                    uint32_t *record, size_t record_words,
-                    uint32_t *counts, size_t counts_words);
-
-/*
- * Serves n = requests_words/2 requests in their order, n at most TF_MOST_REQUESTS, each as tf_read,
- * tf_write or tf_discard would, for one test of the state.  Request i reads into, or writes from,
- * words i*w to i*w + w-1 of data, and its own reply goes to answers[i]: TF_DONE, TF_UNWRITTEN,
- * TF_KIND or TF_PAGE.  A discard needs no data, but has its w words like any request, so that data
- * is n*w words whatever the kinds are.  A request that is refused changes nothing but its answer,
- * and the run goes on; a read that is not TF_DONE leaves its words of data as they were, and so do
- * every write and every discard.
+ * Serves n = requests_words/2 requests in their order, n at most TF_MOST_REQUESTS, each as tf_read
+ * or tf_write would, for one test of the state.  Request i reads into, or writes from, words i*w to
+ * i*w + w-1 of data, and its own reply goes to answers[i]: TF_DONE, TF_UNWRITTEN, TF_KIND or
+ * TF_PAGE.  A request that is refused changes nothing but its answer, and the run goes on; a read
+ * that is not TF_DONE leaves its words of data as they were, and so does every write.
  *
  *   TF_DONE       every request has its answer; the counts are the sums of theirs.  With no
  *                 request nothing is changed

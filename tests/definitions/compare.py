@@ -10,8 +10,7 @@ So are records and geometries that are read and written as settings.
 Every other session begins from a state in the midst of others' work, in some with
 entries set to *none* or protected by hand, on a geometry with several cached
 entries of one translation page: dropped ones are then written back with
-neighbours, and requests find their entries in both parts of the cache. Pages are
-discarded in all of them, and then read, discarded or written again. Each tenth
+neighbours, and requests find their entries in both parts of the cache. Each tenth
 begins from a state with more entries protected than is sound.
 
 usage: compare.py [--seed N] [--sessions N] [--settings N]
@@ -30,27 +29,14 @@ HERE = pathlib.Path(__file__).resolve().parent
 ROOT = HERE.parent.parent
 NUMBERS = "PWDTLC"
 RECORD = ["open-data", "data-offset", "open-translation", "translation-offset", "used", "protected"]
-# What the driver counts, in the order of met.h.
+# What the driver counts, in its order.
 MET = ["neighbours written back", "of them at none", "drops with neighbours in both parts", "misses behind protected entries", "of them with a drop",
        "hits in trial below the limit", "at the limit", "hits of protected's first", "of one between", "of its last", "demoted entries dropped",
-       "refused for more protected than C/2", "than used", "discards done of a cached entry", "of them of an unchanged one", "done of another",
-       "discards of a cached entry at none", "of another page that isn't written", "entries at none by a discard dropped",
-       "written back beside a dropped one", "discarded pages read from flash", "written again", "blocks without a valid page collected"]
+       "refused for more protected than C/2", "than used"]
 HEAD = """-- Printed by tests/definitions/compare.py.
 use mathlib.Core.Path.{_≡_, refl}
 use mathlib.Core.List.{List, [], _∷_}
-use Rattle·scope.specs.Geometry.{Geometry}
-use Rattle·scope.specs.Lent.{State}
-use Rattle·scope.specs.Tables.Play.{computed, W, R, Played, formatted}
-use Rattle·scope.specs.Tables.Instances.{Asked, By, Discard, answered, told}
-
--- What a session tells, and the state that it leaves.
-unfoldable pub play : Geometry → List Asked → State → Played
-play g [] s = record { lines = []; left = s }
-play g (asked ∷ more) s =
-    let o = answered g asked s in
-    let rest = play g more (o .after) in
-    record { lines = told asked o ∷ rest .lines; left = rest .left }
+use Rattle·scope.specs.Tables.Play.{computed, W, R, Played, formatted, play}
 
 """
 
@@ -75,15 +61,11 @@ CROWDED = [[g for g in geometries(48, (w,), (c,)) if c < g[4]] for w, c in SHAPE
 
 
 def session(rng, l, least, most):
-    """Lines of a session, now and then with a page past the limit, or of one that was discarded, mostly to read it."""
-    lines, gone = [], []
+    """Lines of a session, now and then with a page past the limit."""
+    lines = []
     for i in range(rng.randint(least, most)):
-        page, kinds = rng.randrange(l + (rng.random() < 0.1)), "WWWWWWRRDD"
-        if gone and rng.random() < 0.3:
-            page, kinds = gone[0], "WRRRD"
-        kind = rng.choice(kinds)
-        lines.append(f"W {page} {10 + i}" if kind == "W" else f"{kind} {page}")
-        gone = [x for x in gone if x != page or kind == "R"] + [page] * (kind == "D")
+        page = rng.randrange(l + (rng.random() < 0.1))
+        lines.append(f"W {page} {10 + i}" if rng.random() < 0.75 else f"R {page}")
     return lines
 
 
@@ -109,8 +91,8 @@ def crowded_session(rng):
 def damaged_session(rng):
     """From a state in which more entries are protected than may be, after few requests no more than C/2 but more than are used."""
     geometry = rng.choice(rng.choice(CROWDED))
-    l, few = geometry[4], rng.choice((0, 0, 4, 6))
-    return geometry, session(rng, l, few, few) + [f"O {rng.choice((1, 1, 1, 2, 4294960000))}", "B"], session(rng, l, 2, 3)
+    l, few = geometry[4], rng.choice((0, 0, 1, 4, 6))
+    return geometry, session(rng, l, few, few) + [f"D {rng.choice((1, 1, 1, 2, 4294960000))}", "B"], session(rng, l, 2, 3)
 
 
 def session_of(number):
@@ -120,11 +102,6 @@ def session_of(number):
 
 def as_list(items):
     return "(" + "".join(f"{x} ∷ " for x in items) + "[])"
-
-
-def as_asked(line):
-    """A line of a session in the definitions' words."""
-    return f"Discard {line[2:]}" if line[0] == "D" else f"By ({line})"
 
 
 def as_state(sides):
@@ -143,8 +120,8 @@ def instance(driver, number, geometry, before, lines):
     g = "(record { " + "; ".join(f"{k} = {v}" for k, v in zip(NUMBERS, geometry)) + " })"
     start = f"({as_state(sides[:5])})" if before else f"(formatted {g})"
     return (f"session-{number} : record {{ lines = {as_list(prints)}; left = {as_state(sides[-5:])} }}\n"
-            f"    ≡ play {g} {as_list(map(as_asked, lines))} {start}\n"
-            f"unfolding computed answered told play\nsession-{number} = refl\n\n"), [int(x) for x in played[-1][1:]]
+            f"    ≡ play {g} {as_list(lines)} {start}\n"
+            f"unfolding computed\nsession-{number} = refl\n\n"), [int(x) for x in played[-1][1:]]
 
 
 def sessions(rng, driver, count):
@@ -167,11 +144,11 @@ def crates_under(names):
     return [x for x in lines if x.split(":", 1)[0] in wanted]
 
 
-def compiled(scratch, *sources):
+def compiled(scratch, source):
     """A driver over the independent program."""
-    program = scratch / pathlib.Path(sources[0]).stem
+    program = scratch / pathlib.Path(source).stem
     core = sorted((ROOT / "tests/independent").glob("ind*.c"))
-    subprocess.run(["cc", "-std=c11", "-O1", "-o", program, *(HERE / source for source in sources), *core], check=True)
+    subprocess.run(["cc", "-std=c11", "-O1", "-o", program, HERE / source, *core], check=True)
     return program
 
 
@@ -194,7 +171,7 @@ def main():
         (scratch / "crates.txt").write_text("\n".join(under) + "\ncompared: scope settings\n")
         (crate / "src/lib.rt").write_text("// Sessions and settings of the independent program. No code.\n")
         (crate / "specs/Lib.antt").write_text("pub mod Sessions\npub mod Settings\n")
-        text, met = sessions(rng, compiled(scratch, "driver.c", "met.c"), asked.sessions)
+        text, met = sessions(rng, compiled(scratch, "driver.c"), asked.sessions)
         (crate / "specs/Sessions.antt").write_text(text)
         text, answers = settings.instances(rng, compiled(scratch, "settings.c"), asked.settings)
         (crate / "specs/Settings.antt").write_text(text)

@@ -37,9 +37,7 @@ static_assert(TF_COUNTS_ERASES == 2 && TF_COUNTS_WORDS == 3, "counts");
 static_assert(TF_SPARE_STATE == 0 && TF_SPARE_OWNER == 1 && TF_WORDS_IN_SPARE == 2, "spare");
 static_assert(TF_ENTRY_LOGICAL == 0 && TF_ENTRY_PHYSICAL == 1, "cache");
 static_assert(TF_ENTRY_CHANGED == 2 && TF_WORDS_IN_ENTRY == 3, "cache");
-static_assert(TF_REQUEST_KIND == 0 && TF_REQUEST_PAGE == 1 && TF_WORDS_IN_REQUEST == 2, "requests");
-static_assert(TF_KIND_READ == 0 && TF_KIND_WRITE == 1 && TF_KIND_DISCARD == 2, "kinds");
-static_assert(sizeof(enum tf_kind) == sizeof(int), "an enum of small numbers");
+static_assert(TF_KIND_READ == 0 && TF_KIND_WRITE == 1 && TF_WORDS_IN_REQUEST == 2, "requests");
 
 /* 02's settings record: heads and numbers of seven fields; refusals "numbered from 1". */
 static_assert(TF_SETTINGS_BYTES == 7 * 3 + 1 + 2 + 2 + 2 + 2 + 4 + 2, "settings");

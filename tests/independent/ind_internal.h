@@ -158,6 +158,5 @@ uint32_t *ind_translate(struct ind_work *k, uint32_t l);
 /* ind_steps.c: the steps of a sound state for a page below l; the reply number. */
 uint32_t ind_step_read(struct ind_work *k, uint32_t l, uint32_t *buffer);
 uint32_t ind_step_write(struct ind_work *k, uint32_t l, const uint32_t *buffer);
-uint32_t ind_step_discard(struct ind_work *k, uint32_t l);
 
 #endif

@@ -1,8 +1,7 @@
 /*
  * The steps on pages and blocks: update a translation page, make room, collect,
- * read, write and discard.  They start from a sound state, so every page number
- * they meet is in range and every region has room; they keep the summary as they
- * go.
+ * read and write.  They start from a sound state, so every page number they meet
+ * is in range and every region has room; they keep the summary as they go.
  */
 #include "ind_internal.h"
 
@@ -230,21 +229,6 @@ uint32_t ind_step_write(struct ind_work *k, uint32_t l, const uint32_t *buffer)
     if (entry[1] != IND_NONE)
         mark_invalid(k, entry[1]);
     entry[1] = page;
-    entry[2] = 1;
-    return IND_DONE;
-}
-
-/*
- * P6: "translate; if a page is named, mark it invalid and set the entry to *none*,
- * changed".  Changed, since the word on flash may still name the page.
- */
-uint32_t ind_step_discard(struct ind_work *k, uint32_t l)
-{
-    uint32_t *entry = ind_translate(k, l);
-    if (entry[1] == IND_NONE)
-        return IND_UNWRITTEN;
-    mark_invalid(k, entry[1]);
-    entry[1] = IND_NONE;
     entry[2] = 1;
     return IND_DONE;
 }

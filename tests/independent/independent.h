@@ -1,5 +1,5 @@
 /*
- * A demand-cached flash translation layer: the six public calls, the settings
+ * A demand-cached flash translation layer: the five public calls, the settings
  * record, and two helpers for tests.
  *
  * Every slice is a pointer to 32-bit words followed by its count of words (bytes
@@ -64,22 +64,9 @@ uint32_t ind_write(uint32_t p, uint32_t w, uint32_t d, uint32_t t, uint32_t l, u
                    uint32_t *counts, size_t counts_n);
 
 /*
- * P6: gives up the page, if it is written: a read is UNWRITTEN then, until it is
- * written again, and its room is for others.  UNWRITTEN if there was none.
+ * A request is two words, kind (0 read, 1 write) and logical page.  Record i
+ * uses words i*w to i*w+w-1 of data, and its reply goes to answers[i].
  */
-uint32_t ind_discard(uint32_t p, uint32_t w, uint32_t d, uint32_t t, uint32_t l, uint32_t c,
-                     uint32_t page,
-                     uint32_t *chip, size_t chip_n, uint32_t *spare, size_t spare_n,
-                     uint32_t *directory, size_t directory_n, uint32_t *cache, size_t cache_n,
-                     uint32_t *record, size_t record_n, uint32_t *counts, size_t counts_n);
-
-/*
- * A request is two words, kind and logical page.  Record i uses words i*w to
- * i*w+w-1 of data, which only a read that is DONE changes, and its reply goes to
- * answers[i].
- */
-enum { IND_REQUEST_READ = 0, IND_REQUEST_WRITE = 1, IND_REQUEST_DISCARD = 2 };
-
 uint32_t ind_run(uint32_t p, uint32_t w, uint32_t d, uint32_t t, uint32_t l, uint32_t c,
                  uint32_t *chip, size_t chip_n, uint32_t *spare, size_t spare_n,
                  uint32_t *directory, size_t directory_n, uint32_t *cache, size_t cache_n,

@@ -7,33 +7,63 @@
 #include "selftest.h"
 
 #include "independent.h"
-#include "test_hands.h"
 
 #include <stdio.h>
 #include <stdlib.h>
 #include <string.h>
 
-static const struct line session_lines[] = {
-    {'W', 0, 10, 0, {0, 1, 0}, 0}, {'W', 1, 11, 0, {1, 2, 0}, 0}, {'W', 0, 12, 0, {2, 2, 0}, 0},
-    {'W', 2, 13, 0, {1, 2, 0}, 0}, {'W', 1, 14, 0, {2, 3, 1}, 0}, {'R', 0, 0, 0, {3, 1, 1}, 12},
-    {'R', 0, 0, 0, {1, 0, 0}, 12}, {'W', 0, 15, 0, {2, 3, 1}, 0},
-};
+static bool same(const uint32_t *a, const uint32_t *b, size_t n)
+{
+    return memcmp(a, b, n * sizeof *a) == 0;
+}
+
+/* The session's eight lines: write or read, page, value; then answer and word. */
+static void session_lines(struct world *x)
+{
+    static const struct {
+        char kind;
+        uint32_t page, value, reply, counts[3], word;
+    } lines[] = {
+        {'W', 0, 10, 0, {0, 1, 0}, 0},  {'W', 1, 11, 0, {1, 2, 0}, 0},
+        {'W', 0, 12, 0, {2, 2, 0}, 0},  {'W', 2, 13, 0, {1, 2, 0}, 0},
+        {'W', 1, 14, 0, {2, 3, 1}, 0},  {'R', 0, 0, 0, {3, 1, 1}, 12},
+        {'R', 0, 0, 0, {1, 0, 0}, 12},  {'W', 0, 15, 0, {2, 3, 1}, 0},
+    };
+    uint32_t counts[3], buffer[2];
+    REQUIRE(ind_format(GEOMETRY_OF(x), STATE_OF(x), counts, 3) == IND_DONE);
+    REQUIRE(counts[0] == 0 && counts[1] == 0 && counts[2] == 6);
+    for (size_t i = 0; i < sizeof lines / sizeof *lines; i++) {
+        uint32_t reply;
+        buffer[0] = buffer[1] = lines[i].value;
+        if (lines[i].kind == 'W')
+            reply = ind_write(GEOMETRY_OF(x), lines[i].page, STATE_OF(x), buffer, 2, counts, 3);
+        else
+            reply = ind_read(GEOMETRY_OF(x), lines[i].page, STATE_OF(x), buffer, 2, counts, 3);
+        REQUIRE(reply == lines[i].reply && same(counts, lines[i].counts, 3));
+        if (lines[i].kind == 'R')
+            REQUIRE(buffer[0] == lines[i].word && buffer[1] == lines[i].word);
+    }
+}
 
 /*
  * The whole state afterwards.  The text gives the words of pages 9 and 11; the
  * others follow from the steps: each data page holds its value, pages 8 and 10
  * are translation page 0 as it was after the fourth line and after the sixth.
  */
-static const struct session session = {
-    .n = sizeof session_lines / sizeof *session_lines,
-    .lines = session_lines,
-    .spare = {V, 1, V, 0, 0, 0, V, 2, N, N, N, N, N, N, N, N, 0, 0, V, 1, 0, 0, V, 0},
-    .chip = {14, 14, 15, 15, 12, 12, 13, 13, N, N, N, N,
-             N,  N,  N,  N,  2,  1,  3,  N,  2, 5, 2, 0},
-    .directory = {11, 9},
-    .cache = {0, 1, 1},
-    .record = {0, 2, 5, 2, 1, 0},
-};
+static void session_state(const struct world *x)
+{
+    static const uint32_t v = 65535, n = NONE;
+    const uint32_t spare[] = {v, 1, v, 0, 0, 0, v, 2, n, n, n, n,
+                              n, n, n, n, 0, 0, v, 1, 0, 0, v, 0};
+    const uint32_t chip[] = {14, 14, 15, 15, 12, 12, 13, 13, n, n, n, n,
+                             n,  n,  n,  n,  2,  1,  3,  n,  2, 5, 2, 0};
+    const uint32_t directory[] = {11, 9}, cache[] = {0, 1, 1}, record[] = {0, 2, 5, 2, 1, 0};
+    REQUIRE(same(x->slice[CHIP], chip, 24));
+    REQUIRE(same(x->slice[SPARE], spare, 24));
+    REQUIRE(same(x->slice[DIRECTORY], directory, 2));
+    REQUIRE(same(x->slice[CACHE], cache, 3));
+    REQUIRE(same(x->slice[RECORD], record, 6));
+}
 
 /* Single words changed in that state: the first rule broken, and where. */
 static void broken_rules(struct world *x)
@@ -81,9 +111,20 @@ static void marked_cases(struct world *x)
     REQUIRE(ind_read(GEOMETRY_OF(x), 3, STATE_OF(x), buffer, 2, counts, 3) == IND_PAGE);
     REQUIRE(ind_read(GEOMETRY_OF(x), 2, STATE_OF(x), buffer, 2, counts, 3) == IND_UNWRITTEN);
     REQUIRE(counts[0] == 0 && counts[1] == 0 && counts[2] == 0);
-    REQUIRE(memcmp(x->slice[CACHE], cache, sizeof cache) == 0);
+    REQUIRE(same(x->slice[CACHE], cache, 3));
     REQUIRE(x->slice[RECORD][4] == 1 && x->slice[RECORD][5] == 0);
     REQUIRE(buffer[0] == 5 && buffer[1] == 6);
+}
+
+/* With a cache of one entry the rules are one, and so are the orders. */
+static void session_by_all(struct world *x)
+{
+    for (int i = 3; i >= 0; i--) {
+        ind_rule = i % 2 == 0 ? IND_NEIGHBOURS : IND_ONE_ENTRY;
+        ind_order = i / 2 == 0 ? IND_SEGMENTED : IND_PLAIN;
+        session_lines(x);
+        session_state(x);
+    }
 }
 
 /* Fewer sessions by the rules and orders of before, the last ones by those of now. */
@@ -106,7 +147,7 @@ int main(int argc, char **argv)
     struct coverage seen = {0};
     struct world g = world_make(2, 2, 3, 3, 3, 1, &(uint64_t){seed});
     printf("seed %llu, effort %u\n", (unsigned long long)seed, effort);
-    try_session(&g, &session);
+    session_by_all(&g);
     broken_rules(&g);
     marked_cases(&g);
     world_free(&g);
@@ -115,8 +156,6 @@ int main(int argc, char **argv)
     test_neighbours();
     test_replacement(base + 11, 400 * effort);
     test_protected();
-    test_discards();
-    test_room(base + 12, 300 * effort);
     test_geometry_edges(base + 1, 200000 * effort);
     test_lengths(base + 2, 300 * effort);
     test_arbitrary_input(base + 3, 20000 * effort);

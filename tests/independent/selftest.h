@@ -6,16 +6,9 @@
 #include "test_naive.h"
 #include "test_world.h"
 
-/* Kinds of requests: read, write, discard. */
-enum { KINDS = 3 };
-
 /* What the random parts met, so that a run shows what it covered. */
 struct coverage {
-    uint64_t calls, runs, erases, full_bound[KINDS];
-    uint64_t replies[KINDS + 1][7]; /* of requests, the last of another kind */
-    uint64_t discards[2][WAYS];     /* by answer */
-    uint64_t after_discard[2][KINDS]; /* of pages discarded before: misses, hits */
-    uint64_t victims[VICTIMS];
+    uint64_t calls, runs, unwritten, erases, full_bound_writes, full_bound_reads;
     uint64_t states, corruptions, broken[8]; /* broken[0]: still sound */
     uint64_t programs, host, copied; /* all; those of data pages, by writes and collections */
     uint64_t translation_reads;
@@ -29,26 +22,14 @@ struct coverage {
 void print_coverage(const struct coverage *seen);
 void require_coverage(const struct coverage *seen); /* what was never met is a failure */
 
-/* test_oracle.c */
+/* test_sessions.c */
 struct oracle {
-    enum past { PAST_NEVER, PAST_WRITTEN, PAST_DISCARDED } *past; /* what each page met last */
-    uint32_t *words;   /* what was last written to each page, l*w words */
-    struct world twin; /* the state by the literal steps */
+    bool *written;
+    uint32_t *words; /* what was last written to each page, l*w words */
 };
 struct oracle oracle_of(const struct world *sound); /* what the state itself holds */
 void oracle_free(struct oracle *o);
-uint32_t valid_data_pages(const struct world *x);
-/* The state is the twin's; as many pages are valid as are written and not discarded since. */
-void oracle_agrees(const struct oracle *o, const struct world *x);
-/* The call for one request of a kind; the words are a read's or a write's. */
-uint32_t single(struct world *x, uint32_t kind, uint32_t l, uint32_t *words, uint32_t counts[3]);
-uint32_t bound_of(const struct world *x, uint32_t kind); /* of the counted operations */
-/* The literal steps of one request on the twin, held to the rest and to the bound. */
-uint32_t serve_twin(struct oracle *o, uint32_t kind, uint32_t l, uint32_t *words,
-                    struct tally *sum, struct coverage *seen);
-
-/* test_sessions.c */
-/* One random read, write, discard or run, held against the literal steps and the oracle. */
+/* One random read, write or run, held against the literal steps and the oracle. */
 void random_call(struct world *x, struct oracle *o, uint64_t *seed, struct coverage *seen);
 void test_sessions(uint64_t seed, uint32_t worlds, uint32_t calls, struct coverage *seen);
 void test_medium(uint64_t seed, uint32_t calls, struct coverage *seen);
@@ -62,12 +43,6 @@ void test_replacement(uint64_t seed, uint32_t worlds);
 
 /* test_protected.c */
 void test_protected(void);
-
-/* test_discards.c */
-void test_discards(void);
-
-/* test_room.c */
-void test_room(uint64_t seed, uint32_t worlds);
 
 /* test_damage.c */
 /* Every call must answer DAMAGED, with counts 0, 0, 0, and change nothing. */

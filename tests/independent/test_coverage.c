@@ -16,10 +16,8 @@ static const char *const met_names[MET_KINDS] = {
     [MET_ELSEWHERE] = "changed of another page",
     [MET_COLLECTED] = "collected first",
     [MET_FIRST] = "page didn't exist",
-    [MET_DROPPED] = "the dropped one at none",
     [MET_FULL_READ] = "reads at their full bound",
     [MET_FULL_WRITE] = "writes",
-    [MET_FULL_DISCARD] = "discards",
 };
 
 static const char *const order_names[ORDER_KINDS] = {
@@ -44,84 +42,51 @@ static const char *const order_names[ORDER_KINDS] = {
     [ORDER_PLAIN_BORDER] = "either with a border lent",
 };
 
-static const char *const way_names[WAYS] = {
-    [WAY_PROTECTED] = "hits in protected",
-    [WAY_TRIAL] = "in trial",
-    [WAY_PLAIN] = "before P5",
-    [WAY_ROOM] = "misses with room in the cache",
-    [WAY_DROP] = "with a drop",
-    [WAY_BACK] = "with a write-back",
-    [WAY_COLLECT] = "with a collection too",
-};
-
-static const char *const victim_names[VICTIMS] = {
-    [VICTIM_VALID] = "with valid pages",
-    [VICTIM_EMPTY] = "with none, the lowest",
-    [VICTIM_AFTER] = "with none, before lower ones with some",
-};
-
-static const char *const kind_names[KINDS + 1] = {"reads", "writes", "discards", "other kinds"};
-static const char *const reply_names[7] = {"done",    "unwritten", "geometry", "length",
-                                           "damaged", "kind",      "page"};
-
-/*
- * Prints the numbers of a table.  Bit i of `never` says that number i must be 0;
- * the others must not.
- */
-static void require_row(const char *title, const char *const names[], const uint64_t *numbers,
-                        int n, uint32_t never)
-{
-    printf("%s:", title);
-    for (int i = 0; i < n; i++) {
-        printf("%s %s %llu", i > 0 ? "," : "", names[i], (unsigned long long)numbers[i]);
-        snprintf(test_context, sizeof test_context, "met, %s: %s", title, names[i]);
-        REQUIRE((numbers[i] == 0) == (never >> i & 1));
-    }
-    printf("\n");
-}
-
 /*
  * What stood beside the dropped entries.  By P2 no changed neighbour is left, by
  * the rule before it none goes along.
  */
 static void require_met(const struct coverage *seen)
 {
-    require_row("written back by P2", met_names, seen->met[IND_NEIGHBOURS], MET_KINDS,
-                1 << MET_CHANGED);
-    require_row("written back by 01 before P2", met_names, seen->met[IND_ONE_ENTRY], MET_KINDS,
-                1 << MET_ALONG | 1 << MET_AT_NONE);
+    for (int rule = IND_NEIGHBOURS; rule <= IND_ONE_ENTRY; rule++) {
+        printf("written back by %s:", rule == IND_NEIGHBOURS ? "P2" : "01 before P2");
+        for (int kind = 0; kind < MET_KINDS; kind++) {
+            bool never = rule == IND_NEIGHBOURS ? kind == MET_CHANGED
+                                                : kind == MET_ALONG || kind == MET_AT_NONE;
+            printf("%s %s %llu", kind > 0 ? "," : "", met_names[kind],
+                   (unsigned long long)seen->met[rule][kind]);
+            snprintf(test_context, sizeof test_context, "rule %d, met: %s", rule,
+                     met_names[kind]);
+            REQUIRE((seen->met[rule][kind] == 0) == never);
+        }
+        printf("\n");
+    }
 }
 
-/* How requests were answered.  Tests 2, 3 and 4 are a call's, not theirs. */
-static void require_replies(const struct coverage *seen)
+/* What the order of the cache met. */
+static void require_orders(const struct coverage *seen)
 {
-    const uint32_t tests = 1 << IND_GEOMETRY | 1 << IND_LENGTH | 1 << IND_DAMAGED;
-    const uint32_t no_kind = tests | 1 << IND_KIND;
-    const uint32_t never[KINDS + 1] = {no_kind, no_kind | 1 << IND_UNWRITTEN, no_kind,
-                                       ~(UINT32_C(1) << IND_KIND)};
-    for (int kind = 0; kind <= KINDS; kind++)
-        require_row(kind_names[kind], reply_names, seen->replies[kind], 7, never[kind]);
-    require_row("requests at their full bound", kind_names, seen->full_bound, KINDS, 0);
-}
-
-/* P6's discards, and what came after them. */
-static void require_discards(const struct coverage *seen)
-{
-    for (int hit = 0; hit <= 1; hit++)
-        require_row(hit ? "of discarded pages, cached" : "of discarded pages, not cached",
-                    kind_names, seen->after_discard[hit], KINDS, 0);
-    require_row("discards done", way_names, seen->discards[IND_DONE], WAYS, 0);
-    require_row("discards of unwritten pages", way_names, seen->discards[IND_UNWRITTEN], WAYS, 0);
-    require_row("blocks collected", victim_names, seen->victims, VICTIMS, 0);
+    printf("order of the cache:");
+    for (int kind = 0; kind < ORDER_KINDS; kind++) {
+        printf("%s %s %llu", kind > 0 ? "," : "", order_names[kind],
+               (unsigned long long)seen->order[kind]);
+        snprintf(test_context, sizeof test_context, "order, met: %s", order_names[kind]);
+        REQUIRE(seen->order[kind] > 0);
+    }
+    printf("\n");
 }
 
 void print_coverage(const struct coverage *seen)
 {
-    printf("calls %llu, runs %llu, erases %llu\n", (unsigned long long)seen->calls,
-           (unsigned long long)seen->runs, (unsigned long long)seen->erases);
+    printf("calls %llu, runs %llu, unwritten reads %llu, erases %llu\n",
+           (unsigned long long)seen->calls, (unsigned long long)seen->runs,
+           (unsigned long long)seen->unwritten, (unsigned long long)seen->erases);
     printf("programs %llu, of data pages %llu by writes, %llu by collections\n",
            (unsigned long long)seen->programs, (unsigned long long)seen->host,
            (unsigned long long)seen->copied);
+    printf("writes at their full bound %llu, reads %llu\n",
+           (unsigned long long)seen->full_bound_writes,
+           (unsigned long long)seen->full_bound_reads);
     printf("states corrupted %llu, verdicts compared %llu, still sound %llu\nfirst broken rule:",
            (unsigned long long)seen->states, (unsigned long long)seen->corruptions,
            (unsigned long long)seen->broken[0]);
@@ -142,9 +107,7 @@ void print_coverage(const struct coverage *seen)
 void require_coverage(const struct coverage *seen)
 {
     require_met(seen);
-    require_row("order of the cache", order_names, seen->order, ORDER_KINDS, 0);
-    require_replies(seen);
-    require_discards(seen);
+    require_orders(seen);
     snprintf(test_context, sizeof test_context, "what the random parts met");
     for (int rule = 0; rule <= 7; rule++)
         REQUIRE(seen->broken[rule] > 0);

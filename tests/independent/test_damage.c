@@ -40,13 +40,12 @@ void refused_everywhere(struct world *x)
 {
     struct world before = world_copy(x);
     uint32_t buffer[512], untouched[512], counts[3] = {7, 7, 7};
-    uint32_t requests[2] = {IND_REQUEST_DISCARD, x->l}, answers[1] = {77};
+    uint32_t requests[2] = {1, x->l}, answers[1] = {77};
     memset(buffer, 0x5a, sizeof buffer);
     memcpy(untouched, buffer, sizeof buffer);
     REQUIRE(ind_read(GEOMETRY_OF(x), NONE, STATE_OF(x), buffer, x->w, counts, 3) == IND_DAMAGED);
     REQUIRE(counts[0] == 0 && counts[1] == 0 && counts[2] == 0);
     REQUIRE(ind_write(GEOMETRY_OF(x), 0, STATE_OF(x), buffer, x->w, counts, 3) == IND_DAMAGED);
-    REQUIRE(ind_discard(GEOMETRY_OF(x), x->l, STATE_OF(x), counts, 3) == IND_DAMAGED);
     REQUIRE(ind_run(GEOMETRY_OF(x), STATE_OF(x), requests, 2, buffer, x->w, answers, 1, counts,
                     3) == IND_DAMAGED);
     REQUIRE(answers[0] == 77 && memcmp(buffer, untouched, sizeof buffer) == 0);

@@ -1,9 +1,8 @@
 /* States and requests made by hand: see test_hands.h. */
 #include "test_hands.h"
 
-#include "selftest.h"
+#include "test_naive.h"
 
-#include <stdio.h>
 #include <string.h>
 
 /*
@@ -50,7 +49,8 @@ static void serve_naively(const struct hand *h, struct world *x, uint32_t *data,
 {
     for (uint32_t i = 0; i < h->n; i++) {
         const struct request *r = &h->requests[i];
-        uint32_t reply = naive_request(x, r->kind, r->page, data + i * HAND_W, n);
+        uint32_t reply = r->kind == 1 ? naive_write(x, r->page, data + i * HAND_W, n)
+                                      : naive_read(x, r->page, data + i * HAND_W, n);
         REQUIRE(reply == r->reply && data[i * HAND_W] == r->word);
     }
 }
@@ -58,14 +58,13 @@ static void serve_naively(const struct hand *h, struct world *x, uint32_t *data,
 void try_hand(const struct hand *h, const struct outcome *own)
 {
     struct world x = hand_world(h), twin = world_copy(&x), expected = world_copy(&x);
-    uint32_t requests[2 * HAND_MOST], answers[HAND_MOST], counts[3];
-    uint32_t data[HAND_MOST * HAND_W], twins_data[HAND_MOST * HAND_W];
+    uint32_t requests[6], answers[3], counts[3], data[3 * HAND_W], twins_data[3 * HAND_W];
     struct tally n = {0};
     ind_translation_programs = ind_translation_reads = 0;
     apply(&expected, h->after);
     apply(&expected, own->after);
     for (uint32_t i = 0; i < h->n * HAND_W; i++)
-        data[i] = twins_data[i] = 9000 + 100 * (i / HAND_W) + i % HAND_W;
+        data[i] = twins_data[i] = 9000 + i % HAND_W;
     for (uint32_t i = 0; i < h->n; i++) {
         requests[2 * i] = h->requests[i].kind;
         requests[2 * i + 1] = h->requests[i].page;
@@ -86,51 +85,4 @@ void try_hand(const struct hand *h, const struct outcome *own)
     world_free(&x);
     world_free(&twin);
     world_free(&expected);
-}
-
-void try_hands_by_order(const struct hand *hands, size_t n)
-{
-    for (size_t i = 0; i < 2 * n; i++) {
-        const struct hand *h = &hands[i / 2];
-        ind_order = i % 2 == 0 ? IND_SEGMENTED : IND_PLAIN;
-        snprintf(test_context, sizeof test_context, "by hand, order %d: %s", ind_order, h->name);
-        try_hand(h, &h->by[ind_order]);
-    }
-    ind_order = IND_SEGMENTED;
-}
-
-static void try_line(struct world *x, const struct line *line)
-{
-    uint32_t kind = line->kind == 'R'   ? IND_REQUEST_READ
-                    : line->kind == 'W' ? IND_REQUEST_WRITE
-                                        : IND_REQUEST_DISCARD;
-    uint32_t counts[3], buffer[2] = {line->value, line->value};
-    REQUIRE(single(x, kind, line->page, buffer, counts) == line->reply);
-    REQUIRE(memcmp(counts, line->counts, sizeof counts) == 0);
-    if (kind == IND_REQUEST_READ)
-        REQUIRE(buffer[0] == line->word && buffer[1] == line->word);
-    REQUIRE(naive_first_broken(x) == 0);
-}
-
-static void lines_agree(struct world *x, const struct session *s)
-{
-    const uint32_t *const after[SLICES] = {s->chip, s->spare, s->directory, s->cache, s->record};
-    uint32_t counts[3];
-    REQUIRE(ind_format(GEOMETRY_OF(x), STATE_OF(x), counts, 3) == IND_DONE);
-    REQUIRE(counts[0] == 0 && counts[1] == 0 && counts[2] == 6);
-    for (size_t i = 0; i < s->n; i++) {
-        snprintf(test_context, sizeof test_context, "line %u of a session", (unsigned)i + 1);
-        try_line(x, &s->lines[i]);
-    }
-    for (int i = 0; i < SLICES; i++)
-        REQUIRE(memcmp(x->slice[i], after[i], x->n[i] * sizeof(uint32_t)) == 0);
-}
-
-void try_session(struct world *g, const struct session *s)
-{
-    for (int i = 3; i >= 0; i--) {
-        ind_rule = i % 2 == 0 ? IND_NEIGHBOURS : IND_ONE_ENTRY;
-        ind_order = i / 2 == 0 ? IND_SEGMENTED : IND_PLAIN;
-        lines_agree(g, s);
-    }
 }

@@ -1,7 +1,7 @@
 /*
  * For tests: a state and requests made by hand, under the two settings of one of
  * the switches for studies, held word for word to lists of words: what a list
- * doesn't name stays as it was.  And whole sessions of lines.
+ * doesn't name stays as it was.
  *
  * P=2, W=4, D=5, T=3, L=7, C=4.  Translation page 0 is for logical pages 0 to 3,
  * translation page 1 for 4 to 6.  Data pages are 0 to 9, the others 10 to 15.
@@ -13,7 +13,6 @@
 #include "test_world.h"
 
 enum { HAND_P = 2, HAND_W = 4, HAND_D = 5, HAND_T = 3, HAND_L = 7, HAND_C = 4 };
-enum { HAND_MOST = 6 }; /* requests */
 #define N NONE
 #define V 65535
 
@@ -23,10 +22,7 @@ struct word {
 };
 #define END {SLICES, 0, 0}
 
-/*
- * A request as in a run, its answer, and the first of its words afterwards.  Those
- * of the first request are 9000 to 9003 before, of the second 9100 to 9103.
- */
+/* A request as in a run, its answer, and the first of its words afterwards. */
 struct request {
     uint32_t kind, page, reply, word;
 };
@@ -40,7 +36,7 @@ struct outcome {
 struct hand {
     const char *name;
     uint32_t n;
-    struct request requests[HAND_MOST];
+    struct request requests[3];
     struct word before[32], after[96]; /* changes of the base state; what both settings do */
     struct outcome by[2];
 };
@@ -69,24 +65,5 @@ struct hand {
 
 /* Serves the requests as a run and by the literal steps, as the switches stand. */
 void try_hand(const struct hand *h, const struct outcome *own);
-/* Tries each, its outcomes being by order, under both. */
-void try_hands_by_order(const struct hand *hands, size_t n);
-
-/*
- * A line of a session on G as the document has it, of kind W, R or D (a discard),
- * and what it prints; then the whole state after it.
- */
-struct line {
-    char kind;
-    uint32_t page, value, reply, counts[3], word;
-};
-struct session {
-    size_t n;
-    const struct line *lines;
-    uint32_t spare[24], chip[24], directory[2], cache[3], record[6];
-};
-
-/* From a format of G on, under each rule and order: with one entry they are one. */
-void try_session(struct world *g, const struct session *s);
 
 #endif

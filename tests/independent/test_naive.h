@@ -23,10 +23,8 @@ enum {
     MET_ELSEWHERE,  /* a changed entry of another translation page, left so */
     MET_COLLECTED,  /* a write-back beside changed neighbours that collected first */
     MET_FIRST,      /* one of a translation page that didn't exist */
-    MET_DROPPED,    /* one of an entry at *none* */
     MET_FULL_READ,  /* a read beside changed neighbours that took its full bound */
     MET_FULL_WRITE, /* a write */
-    MET_FULL_DISCARD,
     MET_KINDS
 };
 
@@ -57,54 +55,18 @@ enum {
     ORDER_KINDS
 };
 
-/* By which way a discard was translated. */
-enum {
-    WAY_PROTECTED, /* a hit in the protected part */
-    WAY_TRIAL,     /* a hit in the trial part */
-    WAY_PLAIN,     /* a hit in the one list before P5 */
-    WAY_ROOM,      /* a miss, with room in the cache */
-    WAY_DROP,      /* a miss that dropped an unchanged entry */
-    WAY_BACK,      /* one that wrote the dropped entry back, without a collection */
-    WAY_COLLECT,   /* with a collection in the translation region */
-    WAYS
-};
-
-/* Which victims the collections of the data region had. */
-enum {
-    VICTIM_VALID, /* one with valid pages to copy */
-    VICTIM_EMPTY, /* one without, which had the lowest number */
-    VICTIM_AFTER, /* one without, and full blocks that had some before it */
-    VICTIMS
-};
-
 struct tally {
     uint32_t reads, programs, erases;
     uint32_t host, copied; /* programs of data pages, by writes and by collections */
     uint32_t translation_reads;
-    uint64_t met[MET_KINDS], order[ORDER_KINDS], victims[VICTIMS];
-    uint64_t discards[2][WAYS]; /* the first by answer */
+    uint64_t met[MET_KINDS], order[ORDER_KINDS];
 };
 
-/*
- * A request of a sound state as a record of a run has it, of any kind and page;
- * the reply number.  The words are a read's or a write's.
- */
-uint32_t naive_request(struct world *x, uint32_t kind, uint32_t page, uint32_t *words,
-                       struct tally *n);
+/* The steps of a sound state for a page below L; the reply number. */
+uint32_t naive_read(struct world *x, uint32_t l, uint32_t *buffer, struct tally *n);
+uint32_t naive_write(struct world *x, uint32_t l, const uint32_t *buffer, struct tally *n);
 
-/* test_naive_notes.c: what the steps met.  An entry is in the cache. */
-void naive_note_part(const struct world *x, const uint32_t *entry, int if_protected, int if_trial,
-                     struct tally *n);
-void naive_note_met(const struct world *x, const uint32_t *dropped, bool collected, bool first,
-                    struct tally *n);
-void naive_note_victim(const struct world *x, uint32_t victim, struct tally *n);
-/* The way before the translation, as far as it shows; entry is NULL if there is none. */
-int naive_way(const struct world *x, const uint32_t *entry);
-
-/* How many pages of a block are in a state. */
-uint32_t naive_pages_in(const struct world *x, uint32_t block, uint32_t state);
-
-/* The part of the steps that moves entries: a cached page is hit, an uncached one enters. */
+/* Their part that moves entries: a cached page is hit, an uncached one enters. */
 void naive_hit(struct world *x, uint32_t l, struct tally *n);
 uint32_t naive_victim(const struct world *x); /* the logical page to be dropped */
 void naive_drop(struct world *x, struct tally *n);

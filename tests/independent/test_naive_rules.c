@@ -38,14 +38,11 @@ static bool rule_1(const struct world *x)
 
 static bool rule_2(const struct world *x)
 {
-    for (uint32_t a = 0; a < all_pages(x); a++) {
-        if (state(x, a) != 65535u)
-            continue;
+    for (uint32_t a = 0; a < all_pages(x); a++)
         for (uint32_t b = a + 1; b < all_pages(x); b++)
-            if ((a < data_pages(x)) == (b < data_pages(x)) && state(x, b) == 65535u &&
-                owner(x, a) == owner(x, b))
+            if ((a < data_pages(x)) == (b < data_pages(x)) && state(x, a) == 65535u &&
+                state(x, b) == 65535u && owner(x, a) == owner(x, b))
                 return false;
-    }
     return true;
 }
 

@@ -19,6 +19,15 @@ static uint32_t *open_block(struct world *x, int region) { return x->slice[RECOR
 static uint32_t *offset(struct world *x, int region) { return x->slice[RECORD] + 2 * region + 1; }
 static uint32_t *used(struct world *x) { return x->slice[RECORD] + 4; }
 
+/* Adds to one of two kinds that P5's order met, by the part that an entry is in. */
+static void note_part(const struct world *x, const uint32_t *entry, int if_protected,
+                      int if_trial, struct tally *n)
+{
+    bool protected = entry < x->slice[CACHE] + 3 * x->slice[RECORD][5];
+    if (ind_order == IND_SEGMENTED)
+        n->order[protected ? if_protected : if_trial]++;
+}
+
 static void read_page(struct world *x, uint32_t page, uint32_t *into, struct tally *n)
 {
     REQUIRE(spare(x, page)[0] == 65535);
@@ -60,11 +69,11 @@ static void erase_block(struct world *x, uint32_t block, struct tally *n)
     n->erases++;
 }
 
-uint32_t naive_pages_in(const struct world *x, uint32_t block, uint32_t state)
+static uint32_t pages_in_state(struct world *x, uint32_t block, uint32_t state)
 {
     uint32_t count = 0;
     for (uint32_t page = block * x->p; page < (block + 1) * x->p; page++)
-        count += x->slice[SPARE][2 * page] == state;
+        count += spare(x, page)[0] == state;
     return count;
 }
 
@@ -101,25 +110,13 @@ static uint32_t choose_victim(struct world *x, uint32_t first, uint32_t end)
 {
     uint32_t victim = NONE;
     for (uint32_t block = first; block < end; block++) {
-        if (naive_pages_in(x, block, NONE) > 0)
+        if (pages_in_state(x, block, NONE) > 0)
             continue;
-        if (victim == NONE || naive_pages_in(x, block, 65535) < naive_pages_in(x, victim, 65535))
+        if (victim == NONE || pages_in_state(x, block, 65535) < pages_in_state(x, victim, 65535))
             victim = block;
     }
     REQUIRE(victim != NONE);
     return victim;
-}
-
-/* "each touched translation page, in rising number, is updated once" */
-static void update_touched(struct world *x, const uint32_t *moved, struct tally *n)
-{
-    for (uint32_t t = 0; t < x->m; t++) {
-        bool touched = false;
-        for (uint32_t l = t * x->w; l < x->l && l < (t + 1) * x->w; l++)
-            touched = touched || moved[l] != NONE;
-        if (touched)
-            update(x, t, moved, n);
-    }
 }
 
 static void collect(struct world *x, int region, uint32_t erased, struct tally *n)
@@ -128,10 +125,8 @@ static void collect(struct world *x, int region, uint32_t erased, struct tally *
     uint32_t page_copy[512];
     uint32_t first = region ? x->d : 0, end = region ? x->d + x->t : x->d;
     uint32_t victim = choose_victim(x, first, end);
-    if (region == DATA) {
+    if (region == DATA)
         memset(moved, 0xff, x->l * sizeof(uint32_t));
-        naive_note_victim(x, victim, n);
-    }
     *open_block(x, region) = erased;
     *offset(x, region) = 0;
     for (uint32_t page = victim * x->p; page < (victim + 1) * x->p; page++) {
@@ -148,13 +143,18 @@ static void collect(struct world *x, int region, uint32_t erased, struct tally *
         } else if (entry != NULL) {
             entry[1] = place;
             entry[2] = 1;
-            naive_note_part(x, entry, ORDER_MOVED_PROTECTED, ORDER_MOVED_TRIAL, n);
+            note_part(x, entry, ORDER_MOVED_PROTECTED, ORDER_MOVED_TRIAL, n);
         } else {
             moved[owner] = place;
         }
     }
-    if (region == DATA)
-        update_touched(x, moved, n);
+    for (uint32_t t = 0; region == DATA && t < x->m; t++) {
+        bool touched = false;
+        for (uint32_t l = t * x->w; l < x->l && l < (t + 1) * x->w; l++)
+            touched = touched || moved[l] != NONE;
+        if (touched)
+            update(x, t, moved, n);
+    }
     erase_block(x, victim, n);
 }
 
@@ -165,7 +165,7 @@ static void make_room(struct world *x, int region, struct tally *n)
     if (*offset(x, region) < x->p)
         return;
     for (uint32_t block = end; block-- > first;)
-        if (naive_pages_in(x, block, NONE) == x->p) {
+        if (pages_in_state(x, block, NONE) == x->p) {
             count++;
             lowest = block;
         }
@@ -189,6 +189,38 @@ static bool is_set(struct world *x, uint32_t l, uint32_t dropped)
     return cached(x, l) != NULL && cached(x, l)[2] == 1;
 }
 
+/* What stands beside `dropped` when it is written back. */
+static void note_met(struct world *x, uint32_t dropped, bool collected, bool first,
+                     struct tally *n)
+{
+    struct tally along = {0};
+    uint32_t neighbours = 0;
+    for (uint32_t rank = 0; rank < *used(x); rank++) {
+        const uint32_t *entry = x->slice[CACHE] + 3 * rank;
+        if (entry[0] == dropped)
+            continue;
+        if (entry[0] / x->w != dropped / x->w) {
+            n->met[MET_ELSEWHERE] += entry[2];
+        } else if (entry[2] == 0) {
+            n->met[MET_UNCHANGED]++;
+        } else {
+            bool set = is_set(x, entry[0], dropped);
+            neighbours++;
+            n->met[set ? MET_ALONG : MET_CHANGED]++;
+            n->met[MET_AT_NONE] += set && entry[1] == NONE;
+            if (set)
+                note_part(x, entry, ORDER_ALONG_PROTECTED, ORDER_ALONG_TRIAL, &along);
+        }
+    }
+    uint64_t in_protected = along.order[ORDER_ALONG_PROTECTED];
+    uint64_t in_trial = along.order[ORDER_ALONG_TRIAL];
+    n->order[ORDER_ALONG_PROTECTED] += in_protected;
+    n->order[ORDER_ALONG_TRIAL] += in_trial;
+    n->order[ORDER_ALONG_BOTH] += in_protected > 0 && in_trial > 0;
+    n->met[MET_COLLECTED] += neighbours > 0 && collected;
+    n->met[MET_FIRST] += neighbours > 0 && first;
+}
+
 /* Word after word of the page is set, and then entry after entry "become unchanged". */
 static void write_back(struct world *x, uint32_t dropped, struct tally *n)
 {
@@ -205,7 +237,7 @@ static void write_back(struct world *x, uint32_t dropped, struct tally *n)
     x->slice[DIRECTORY][t] = program_next(x, TRANSLATION, page, t, n);
     if (former != NONE)
         mark_invalid(x, former);
-    naive_note_met(x, cached(x, dropped), n->erases > erases, former == NONE, n);
+    note_met(x, dropped, n->erases > erases, former == NONE, n);
     for (uint32_t i = 0; i < x->w; i++)
         if (is_set(x, t * x->w + i, dropped))
             cached(x, t * x->w + i)[2] = 0;
@@ -232,7 +264,7 @@ static void translate(struct world *x, uint32_t l, struct tally *n)
     naive_enter(x, l, place, n);
 }
 
-static uint32_t serve_read(struct world *x, uint32_t l, uint32_t *buffer, struct tally *n)
+uint32_t naive_read(struct world *x, uint32_t l, uint32_t *buffer, struct tally *n)
 {
     translate(x, l, n);
     uint32_t place = cached(x, l)[1];
@@ -242,7 +274,7 @@ static uint32_t serve_read(struct world *x, uint32_t l, uint32_t *buffer, struct
     return 0;
 }
 
-static uint32_t serve_write(struct world *x, uint32_t l, const uint32_t *buffer, struct tally *n)
+uint32_t naive_write(struct world *x, uint32_t l, const uint32_t *buffer, struct tally *n)
 {
     translate(x, l, n);
     uint32_t former = cached(x, l)[1];
@@ -256,38 +288,4 @@ static uint32_t serve_write(struct world *x, uint32_t l, const uint32_t *buffer,
     entry[1] = page;
     entry[2] = 1;
     return 0;
-}
-
-/*
- * P6: "translate; if a page is named, mark it invalid and set the entry to *none*,
- * changed; answer DONE.  If none is named, answer UNWRITTEN."
- */
-static uint32_t serve_discard(struct world *x, uint32_t l, struct tally *n)
-{
-    uint32_t programs = n->programs, erases = n->erases;
-    int way = naive_way(x, cached(x, l));
-    translate(x, l, n);
-    if (n->programs > programs)
-        way = n->erases > erases ? WAY_COLLECT : WAY_BACK;
-    uint32_t *entry = cached(x, l);
-    bool named = entry[1] != NONE;
-    n->discards[named ? 0 : 1][way]++;
-    if (!named)
-        return 1;
-    mark_invalid(x, entry[1]);
-    entry[1] = NONE;
-    entry[2] = 1;
-    return 0;
-}
-
-uint32_t naive_request(struct world *x, uint32_t kind, uint32_t page, uint32_t *words,
-                       struct tally *n)
-{
-    if (kind != 0 && kind != 1 && kind != 2)
-        return 5;
-    if (!(page < x->l))
-        return 6;
-    if (kind == 0)
-        return serve_read(x, page, words, n);
-    return kind == 1 ? serve_write(x, page, words, n) : serve_discard(x, page, n);
 }

@@ -13,7 +13,7 @@
 
 /* The slices of every call, in one order. */
 enum { BUFFER = SLICES, REQUESTS, DATA, ANSWERS, COUNTS, ALL };
-enum { FORMAT, CHECK, READ, WRITE, DISCARD, RUN, CALLS };
+enum { FORMAT, CHECK, READ, WRITE, RUN, CALLS };
 
 static uint32_t call(int which, const uint32_t g[6], uint32_t page, uint32_t *s[ALL],
                      const size_t n[ALL])
@@ -26,7 +26,6 @@ static uint32_t call(int which, const uint32_t g[6], uint32_t page, uint32_t *s[
     case CHECK: return ind_check(G6, FIVE, S(COUNTS));
     case READ: return ind_read(G6, page, FIVE, S(BUFFER), S(COUNTS));
     case WRITE: return ind_write(G6, page, FIVE, S(BUFFER), S(COUNTS));
-    case DISCARD: return ind_discard(G6, page, FIVE, S(COUNTS));
     default: return ind_run(G6, FIVE, S(REQUESTS), S(DATA), S(ANSWERS), S(COUNTS));
     }
 #undef G6
@@ -106,81 +105,46 @@ static bool takes(int which, int slice)
     return slice == BUFFER ? which == READ || which == WRITE : which == RUN;
 }
 
-/* A sound state, with slices that fit every call. */
-struct fit {
-    struct world x, before;
-    uint32_t extra[4][16], counts[3], *s[ALL];
-    size_t n[ALL];
-};
-
-static void fit_make(struct fit *f, uint64_t *seed)
-{
-    f->x = world_random_small(seed);
-    world_random_sound(&f->x, seed);
-    f->before = world_copy(&f->x);
-    memset(f->extra, 0, sizeof f->extra);
-    const size_t n[ALL] = {0, 0, 0, 0, 0, f->x.w, 4, 2 * f->x.w, 2, 3};
-    for (int i = 0; i < ALL; i++) {
-        bool extra = i >= BUFFER && i < COUNTS;
-        f->s[i] = i < SLICES ? f->x.slice[i] : extra ? f->extra[i - BUFFER] : f->counts;
-        f->n[i] = i < SLICES ? f->x.n[i] : n[i];
-    }
-}
-
-/* One call that must refuse, changing nothing but the counts, if it takes them. */
-static void refuses(struct fit *f, int which, uint32_t page, const size_t n[ALL], uint32_t reply)
-{
-    const uint32_t g[6] = {GEOMETRY_OF(&f->x)};
-    uint32_t left = n[COUNTS] == 3 ? 0 : 7;
-    f->counts[0] = f->counts[1] = f->counts[2] = 7;
-    REQUIRE(call(which, g, page, f->s, n) == reply);
-    REQUIRE(f->counts[0] == left && f->counts[1] == left && f->counts[2] == left);
-    REQUIRE(world_equal(&f->x, &f->before));
-}
-
-/* Each slice in turn one short, one long, empty or absurd. */
-static void try_wrong_lengths(struct fit *f, int which)
-{
-    for (int slice = 0; slice < ALL; slice++) {
-        const size_t wrong[5] = {f->n[slice] - 1, f->n[slice] + 1, 0, SIZE_MAX,
-                                 SIZE_MAX / 2 + 1 + f->n[slice]};
-        for (int k = 0; k < 5 && takes(which, slice); k++) {
-            size_t n[ALL];
-            memcpy(n, f->n, sizeof n);
-            n[slice] = wrong[k];
-            refuses(f, which, NONE, n, IND_LENGTH);
-        }
-    }
-}
-
-/* 1,025 records are too many even where everything else fits them; none is enough. */
-static void try_run_lengths(struct fit *f)
-{
-    struct world *x = &f->x;
-    uint32_t *many = calloc((size_t)1025 * (3 + x->w), sizeof *many), *counts = f->counts;
-    REQUIRE(many != NULL);
-    REQUIRE(ind_run(GEOMETRY_OF(x), STATE_OF(x), many, 2050, many + 3075, (size_t)1025 * x->w,
-                    many + 2050, 1025, counts, 3) == IND_LENGTH);
-    free(many);
-    REQUIRE(ind_run(GEOMETRY_OF(x), STATE_OF(x), NULL, 0, NULL, 0, NULL, 0, counts, 3) ==
-            IND_DONE);
-    REQUIRE(world_equal(x, &f->before) && counts[0] + counts[1] + counts[2] == 0);
-}
-
+/* Each slice in turn one short, one long, empty or absurd; nothing may change. */
 void test_lengths(uint64_t seed, uint32_t worlds)
 {
     for (uint32_t i = 0; i < worlds; i++) {
-        struct fit f;
-        fit_make(&f, &seed);
+        struct world x = world_random_small(&seed);
+        world_random_sound(&x, &seed);
+        struct world before = world_copy(&x);
+        const uint32_t g[6] = {GEOMETRY_OF(&x)};
+        uint32_t extra[4][16] = {{0}}, counts[3];
+        uint32_t *s[ALL] = {x.slice[0], x.slice[1], x.slice[2], x.slice[3], x.slice[4],
+                            extra[0],   extra[1],   extra[2],   extra[3],   counts};
+        const size_t fit[ALL] = {x.n[0], x.n[1], x.n[2], x.n[3], x.n[4], x.w, 4, 2 * x.w, 2, 3};
         for (int which = 0; which < CALLS; which++)
-            try_wrong_lengths(&f, which);
-        try_run_lengths(&f);
-        for (int which = READ; which <= DISCARD; which++) {
-            refuses(&f, which, f.x.l, f.n, IND_PAGE);
-            refuses(&f, which, NONE, f.n, IND_PAGE);
-        }
-        world_free(&f.before);
-        world_free(&f.x);
+            for (int slice = 0; slice < ALL; slice++) {
+                const size_t wrong[5] = {fit[slice] - 1, fit[slice] + 1, 0, SIZE_MAX,
+                                         SIZE_MAX / 2 + 1 + fit[slice]};
+                for (int k = 0; k < 5 && takes(which, slice); k++) {
+                    size_t n[ALL];
+                    memcpy(n, fit, sizeof n);
+                    n[slice] = wrong[k];
+                    counts[0] = counts[1] = counts[2] = 7;
+                    REQUIRE(call(which, g, NONE, s, n) == IND_LENGTH);
+                    REQUIRE(counts[0] == (slice == COUNTS ? 7 : 0));
+                    REQUIRE(world_equal(&x, &before));
+                }
+            }
+        /* 1,025 records are too many even where everything else fits them. */
+        uint32_t *many = calloc((size_t)1025 * (3 + x.w), sizeof *many);
+        REQUIRE(many != NULL);
+        REQUIRE(ind_run(g[0], g[1], g[2], g[3], g[4], g[5], STATE_OF(&x), many, 2050,
+                        many + 3075, (size_t)1025 * x.w, many + 2050, 1025, counts,
+                        3) == IND_LENGTH);
+        free(many);
+        REQUIRE(ind_run(g[0], g[1], g[2], g[3], g[4], g[5], STATE_OF(&x), NULL, 0, NULL, 0, NULL,
+                        0, counts, 3) == IND_DONE);
+        REQUIRE(world_equal(&x, &before) && counts[0] + counts[1] + counts[2] == 0);
+        REQUIRE(call(READ, g, x.l, s, fit) == IND_PAGE && call(WRITE, g, x.l, s, fit) == IND_PAGE);
+        REQUIRE(world_equal(&x, &before));
+        world_free(&before);
+        world_free(&x);
     }
 }
 
@@ -201,7 +165,6 @@ void test_arbitrary_input(uint64_t seed, uint32_t tries)
         uint32_t reply = ind_write(GEOMETRY_OF(&x), random_below(&seed, x.l), STATE_OF(&x), buffer,
                                    x.w, counts, 3);
         REQUIRE(reply == (broken ? IND_DAMAGED : IND_DONE));
-        REQUIRE(!broken || ind_discard(GEOMETRY_OF(&x), 0, STATE_OF(&x), counts, 3) == reply);
         REQUIRE(!broken || world_equal(&x, &before));
         REQUIRE(ind_first_broken_rule(GEOMETRY_OF(&before), STATE_OF(&before), NULL) == broken);
         world_free(&before);

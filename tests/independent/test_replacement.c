@@ -14,9 +14,8 @@
 
 /*
  * A letter is a logical page of ten, a capital one a changed entry, and protected
- * ones stand before the bar.  In the requests a capital letter is a write, and one
- * behind a dash a discard.  At the start no page is written.  Translation page 0 is
- * for a to d, 1 for e to h.
+ * ones stand before the bar.  In the requests a capital letter is a write.  At the
+ * start no page is written.  Translation page 0 is for a to d, 1 for e to h.
  */
 static const struct {
     uint32_t c;
@@ -92,22 +91,6 @@ static const struct {
     {3, "a|", "bc", "a|cb"},
     {3, "a|b", "ba", "a|b"},
     {3, "a|bc", "a", "a|bc"},
-    /* A discard is a use like any other, and its entry changed if it was written. */
-    {4, "|", "-a", "|a"},
-    {4, "|", "A-a", "A|"},
-    {4, "|", "A-a-a", "A|"},
-    {4, "|ab", "-c", "|cab"},
-    {4, "ab|cd", "-e", "ab|ec"},
-    {4, "ab|cd", "-c", "ca|bd"},
-    {4, "aB|cd", "-b", "Ba|cd"},
-    {4, "ab|cd", "E-e", "Ea|bc"},
-    {4, "ab|cd", "B-b", "Ba|cd"},
-    {1, "|", "A-ab", "|b"},
-    {1, "|", "A-ab-a", "|a"},
-    {1, "|A", "-a", "|A"},
-    {2, "a|b", "B-b", "B|a"},
-    {2, "|", "A-abcd-a", "A|d"},
-    {6, "AEb|CFD", "-g", "aEb|gcF"},
     /* Longer ones: pages used twice outlive a scan. */
     {4, "|", "abcdbcae", "ac|eb"},
     {4, "|", "aabbcdefgh", "ba|hg"},
@@ -155,26 +138,21 @@ static bool is_list(const struct world *x, const char *list)
 }
 
 /* One request, held to the literal steps on the twin too. */
-static void serve(struct world *x, struct world *twin, uint32_t kind, uint32_t l)
+static void serve(struct world *x, struct world *twin, char letter)
 {
-    uint32_t mine[4] = {1, 2, 3, l}, theirs[4], counts[3];
+    uint32_t mine[4] = {1, 2, 3, (uint32_t)letter}, theirs[4], counts[3], reply, expected;
     struct tally n = {0};
     memcpy(theirs, mine, sizeof mine);
-    uint32_t reply = single(x, kind, l, mine, counts);
-    REQUIRE(reply == naive_request(twin, kind, l, theirs, &n));
-    REQUIRE(memcmp(mine, theirs, sizeof mine) == 0);
+    if (isupper((unsigned char)letter)) {
+        reply = ind_write(GEOMETRY_OF(x), page_of(letter), STATE_OF(x), mine, 4, counts, 3);
+        expected = naive_write(twin, page_of(letter), theirs, &n);
+    } else {
+        reply = ind_read(GEOMETRY_OF(x), page_of(letter), STATE_OF(x), mine, 4, counts, 3);
+        expected = naive_read(twin, page_of(letter), theirs, &n);
+    }
+    REQUIRE(reply == expected && memcmp(mine, theirs, sizeof mine) == 0);
     REQUIRE(counts[0] == n.reads && counts[1] == n.programs && counts[2] == n.erases);
     REQUIRE(world_equal(x, twin) && naive_first_broken(x) == 0);
-}
-
-static void serve_letters(struct world *x, struct world *twin, const char *letters)
-{
-    for (; *letters != '\0'; letters++) {
-        uint32_t kind = isupper((unsigned char)*letters) ? IND_REQUEST_WRITE : IND_REQUEST_READ;
-        bool discard = *letters == '-';
-        letters += discard;
-        serve(x, twin, discard ? IND_REQUEST_DISCARD : kind, page_of(*letters));
-    }
 }
 
 static void try_orders(void)
@@ -185,7 +163,8 @@ static void try_orders(void)
         snprintf(test_context, sizeof test_context, "C=%u: %s, then %s, must be %s", orders[i].c,
                  orders[i].before, orders[i].requests, orders[i].after);
         REQUIRE(is_list(&x, orders[i].before));
-        serve_letters(&x, &twin, orders[i].requests);
+        for (const char *r = orders[i].requests; *r != '\0'; r++)
+            serve(&x, &twin, *r);
         REQUIRE(is_list(&x, orders[i].after));
         world_free(&x);
         world_free(&twin);
@@ -236,7 +215,10 @@ static void plain_session(struct world *x, uint32_t calls, uint64_t *seed)
         use(&t, x, x->slice[CACHE][3 * rank]);
     for (uint32_t i = 0; i < calls; i++) {
         uint32_t l = random_below(seed, x->l);
-        REQUIRE(single(x, random_below(seed, KINDS), l, buffer, counts) <= IND_UNWRITTEN);
+        if (random_below(seed, 2))
+            ind_read(GEOMETRY_OF(x), l, STATE_OF(x), buffer, x->w, counts, 3);
+        else
+            ind_write(GEOMETRY_OF(x), l, STATE_OF(x), buffer, x->w, counts, 3);
         use(&t, x, l);
         in_order(&t, x);
         REQUIRE(x->slice[RECORD][5] == border);
@@ -271,11 +253,11 @@ static void one_entry_session(uint32_t calls, uint64_t *seed, uint32_t met[2])
     for (int order = IND_SEGMENTED; order <= IND_PLAIN; order++)
         twin[order] = world_copy(&by[order]);
     for (uint32_t i = 0; i < calls; i++) {
-        uint32_t kind = random_below(seed, KINDS), l = random_below(seed, 5);
-        met[by[IND_PLAIN].slice[CACHE][0] == l]++;
+        char letter = (char)((random_below(seed, 2) ? 'a' : 'A') + (int)random_below(seed, 5));
+        met[by[IND_PLAIN].slice[CACHE][0] == page_of(letter)]++;
         for (int order = IND_SEGMENTED; order <= IND_PLAIN; order++) {
             ind_order = (enum ind_order)order;
-            serve(&by[order], &twin[order], kind, l);
+            serve(&by[order], &twin[order], letter);
         }
         REQUIRE(world_equal(&by[IND_SEGMENTED], &by[IND_PLAIN]));
     }

@@ -1,7 +1,6 @@
 /*
  * Random sessions.  After every call: the state is sound by the naive rules, a
- * read gave what was last written, as many data pages are valid as logical pages
- * are written and not discarded since, the counted operations are within their
+ * read gave what was last written, the counted operations are within their
  * bounds, and memory, reply and counts are those of the literal steps.
  */
 #include "selftest.h"
@@ -13,103 +12,170 @@
 #include <stdlib.h>
 #include <string.h>
 
+struct oracle oracle_of(const struct world *sound)
+{
+    const struct world *x = sound;
+    struct oracle o = {calloc(x->l, sizeof *o.written),
+                       calloc((size_t)x->l * x->w, sizeof *o.words)};
+    REQUIRE(o.written != NULL && o.words != NULL);
+    for (uint32_t page = 0; page < x->d * x->p; page++) {
+        const uint32_t *spare = x->slice[SPARE] + 2 * page;
+        if (spare[0] != 65535)
+            continue;
+        o.written[spare[1]] = true;
+        memcpy(o.words + (size_t)spare[1] * x->w, x->slice[CHIP] + (size_t)page * x->w,
+               x->w * sizeof(uint32_t));
+    }
+    return o;
+}
+
+void oracle_free(struct oracle *o)
+{
+    free(o->written);
+    free(o->words);
+}
+
+static void check_bound(const struct world *x, bool write, const struct tally *n,
+                        struct coverage *seen)
+{
+    uint32_t operations = n->reads + n->programs + n->erases;
+    uint32_t bound = write ? (2 * x->p + 1) * (x->p + 1) : 2 * x->p + 3;
+    REQUIRE(operations <= bound);
+    if (operations == bound && write)
+        seen->full_bound_writes++;
+    if (operations == bound && !write)
+        seen->full_bound_reads++;
+    if (operations == bound && n->met[MET_ALONG] + n->met[MET_CHANGED] > 0)
+        seen->met[ind_rule][write ? MET_FULL_WRITE : MET_FULL_READ]++;
+    seen->erases += n->erases;
+}
+
+/* Adds one request's tally to its call's and to what was met. */
+static void add_tally(struct tally *sum, const struct tally *n, struct coverage *seen)
+{
+    sum->reads += n->reads;
+    sum->programs += n->programs;
+    sum->erases += n->erases;
+    seen->host += n->host;
+    seen->copied += n->copied;
+    seen->translation_reads += n->translation_reads;
+    for (int kind = 0; kind < MET_KINDS; kind++)
+        seen->met[ind_rule][kind] += n->met[kind];
+    for (int kind = 0; kind < ORDER_KINDS; kind++)
+        seen->order[kind] += n->order[kind];
+}
+
+/* The other rule and order, if the cache has one entry: they make no difference then. */
+static void switch_for_twin(const struct world *x)
+{
+    if (x->c > 1)
+        return;
+    ind_rule = ind_rule == IND_NEIGHBOURS ? IND_ONE_ENTRY : IND_NEIGHBOURS;
+    ind_order = ind_order == IND_SEGMENTED ? IND_PLAIN : IND_SEGMENTED;
+}
+
+/* The literal steps of one request on the twin, with the oracle's view of it. */
+static uint32_t serve_twin(struct world *twin, struct oracle *o, bool write, uint32_t l,
+                           uint32_t *words, struct tally *sum, struct coverage *seen)
+{
+    size_t bytes = twin->w * sizeof(uint32_t);
+    struct tally n = {0};
+    uint32_t reply;
+    switch_for_twin(twin);
+    if (write) {
+        reply = naive_write(twin, l, words, &n);
+        REQUIRE(reply == IND_DONE);
+        o->written[l] = true;
+        memcpy(o->words + (size_t)l * twin->w, words, bytes);
+    } else {
+        reply = naive_read(twin, l, words, &n);
+        REQUIRE(reply == (o->written[l] ? IND_DONE : IND_UNWRITTEN));
+        if (reply == IND_DONE)
+            REQUIRE(memcmp(words, o->words + (size_t)l * twin->w, bytes) == 0);
+        seen->unwritten += reply == IND_UNWRITTEN;
+    }
+    switch_for_twin(twin); /* back */
+    check_bound(twin, write, &n, seen);
+    add_tally(sum, &n, seen);
+    return reply;
+}
+
 static void fill(uint32_t *words, size_t n, uint64_t *seed)
 {
     for (size_t i = 0; i < n; i++)
         words[i] = random_below(seed, 8) ? (uint32_t)random_64(seed) : NONE;
 }
 
-static void counts_are(const uint32_t counts[3], const struct tally *n)
+static void single_call(struct world *x, struct world *twin, struct oracle *o, uint64_t *seed,
+                        struct coverage *seen)
 {
-    REQUIRE(counts[0] == n->reads && counts[1] == n->programs && counts[2] == n->erases);
-}
-
-/* More writes than reads, and more of these than discards. */
-static uint32_t random_kind(uint64_t *seed)
-{
-    uint32_t of_six = random_below(seed, 6);
-    return of_six < 3 ? IND_REQUEST_WRITE : of_six < 5 ? IND_REQUEST_READ : IND_REQUEST_DISCARD;
-}
-
-/* "KIND now begins at 3": that one often, and any above. */
-static uint32_t random_bad_kind(uint64_t *seed)
-{
-    return KINDS | (uint32_t)random_64(seed) >> random_below(seed, 32);
-}
-
-static void single_call(struct world *x, struct oracle *o, uint64_t *seed, struct coverage *seen)
-{
-    uint32_t mine[512], theirs[512], counts[3] = {7, 7, 7};
-    uint32_t l = random_below(seed, x->l), kind = random_kind(seed);
+    uint32_t mine[512], theirs[512], counts[3] = {7, 7, 7}, reply;
+    uint32_t l = random_below(seed, x->l);
+    bool write = random_below(seed, 5) < 3;
     struct tally n = {0};
     fill(mine, x->w, seed);
-    memcpy(theirs, mine, x->w * sizeof *mine);
-    uint32_t reply = single(x, kind, l, mine, counts);
-    REQUIRE(reply == serve_twin(o, kind, l, theirs, &n, seen));
+    memcpy(theirs, mine, sizeof mine);
+    if (write)
+        reply = ind_write(GEOMETRY_OF(x), l, STATE_OF(x), mine, x->w, counts, 3);
+    else
+        reply = ind_read(GEOMETRY_OF(x), l, STATE_OF(x), mine, x->w, counts, 3);
+    REQUIRE(reply == serve_twin(twin, o, write, l, theirs, &n, seen));
     REQUIRE(memcmp(mine, theirs, x->w * sizeof(uint32_t)) == 0);
-    counts_are(counts, &n);
+    REQUIRE(counts[0] == n.reads && counts[1] == n.programs && counts[2] == n.erases);
     seen->programs += counts[1];
     seen->calls++;
 }
 
-/* The slices of a run, with words for a twin. */
-struct run {
-    uint32_t n, *requests, *answers, *mine, *theirs;
-};
-
-/* A few of the records have a bad kind or page. */
-static struct run run_make(const struct world *x, uint32_t n, uint64_t *seed)
+/* A run of n records, a few of them with a bad kind or page. */
+static void run_call(struct world *x, struct world *twin, struct oracle *o, uint32_t n,
+                     uint64_t *seed, struct coverage *seen)
 {
-    size_t words = (size_t)n * x->w;
-    struct run r = {n, malloc(2 * n * sizeof(uint32_t) + 1), malloc(n * sizeof(uint32_t) + 1),
-                    malloc(words * sizeof(uint32_t) + 1), malloc(words * sizeof(uint32_t) + 1)};
-    REQUIRE(r.requests != NULL && r.answers != NULL && r.mine != NULL && r.theirs != NULL);
-    fill(r.mine, words, seed);
-    memcpy(r.theirs, r.mine, words * sizeof(uint32_t));
-    for (uint32_t i = 0; i < n; i++) {
-        bool bad_kind = random_below(seed, 16) == 0, bad_page = random_below(seed, 16) == 0;
-        r.requests[2 * i] = bad_kind ? random_bad_kind(seed) : random_kind(seed);
-        r.requests[2 * i + 1] = bad_page ? (uint32_t)random_64(seed) : random_below(seed, x->l);
-    }
-    return r;
-}
-
-static void run_free(struct run *r)
-{
-    free(r->requests);
-    free(r->answers);
-    free(r->mine);
-    free(r->theirs);
-}
-
-static void run_call(struct world *x, struct oracle *o, uint32_t n, uint64_t *seed,
-                     struct coverage *seen)
-{
-    struct run r = run_make(x, n, seed);
-    size_t words = (size_t)n * x->w;
+    uint32_t *requests = malloc(2 * n * sizeof(uint32_t) + 1);
+    uint32_t *answers = malloc(n * sizeof(uint32_t) + 1);
+    uint32_t *mine = malloc((size_t)n * x->w * sizeof(uint32_t) + 1);
+    uint32_t *theirs = malloc((size_t)n * x->w * sizeof(uint32_t) + 1);
     uint32_t counts[3] = {7, 7, 7};
     struct tally sum = {0};
-    REQUIRE(ind_run(GEOMETRY_OF(x), STATE_OF(x), r.requests, 2 * n, r.mine, words, r.answers, n,
-                    counts, 3) == IND_DONE);
-    for (uint32_t i = 0; i < n; i++)
-        REQUIRE(r.answers[i] == serve_twin(o, r.requests[2 * i], r.requests[2 * i + 1],
-                                           r.theirs + (size_t)i * x->w, &sum, seen));
-    REQUIRE(memcmp(r.mine, r.theirs, words * sizeof(uint32_t)) == 0);
-    counts_are(counts, &sum);
+    REQUIRE(requests != NULL && answers != NULL && mine != NULL && theirs != NULL);
+    fill(mine, (size_t)n * x->w, seed);
+    memcpy(theirs, mine, (size_t)n * x->w * sizeof(uint32_t));
+    for (uint32_t i = 0; i < n; i++) {
+        requests[2 * i] = random_below(seed, 16) ? random_below(seed, 2) : random_below(seed, 5);
+        requests[2 * i + 1] = random_below(seed, 16) ? random_below(seed, x->l)
+                                                     : (uint32_t)random_64(seed);
+    }
+    REQUIRE(ind_run(GEOMETRY_OF(x), STATE_OF(x), requests, 2 * n, mine, (size_t)n * x->w, answers,
+                    n, counts, 3) == IND_DONE);
+    for (uint32_t i = 0; i < n; i++) {
+        uint32_t kind = requests[2 * i], page = requests[2 * i + 1], expected;
+        if (kind > 1)
+            expected = IND_KIND;
+        else if (page >= x->l)
+            expected = IND_PAGE;
+        else
+            expected = serve_twin(twin, o, kind == 1, page, theirs + (size_t)i * x->w, &sum, seen);
+        REQUIRE(answers[i] == expected);
+    }
+    REQUIRE(memcmp(mine, theirs, (size_t)n * x->w * sizeof(uint32_t)) == 0);
+    REQUIRE(counts[0] == sum.reads && counts[1] == sum.programs && counts[2] == sum.erases);
     seen->programs += counts[1];
     seen->runs++;
-    run_free(&r);
+    free(requests);
+    free(answers);
+    free(mine);
+    free(theirs);
 }
 
 void random_call(struct world *x, struct oracle *o, uint64_t *seed, struct coverage *seen)
 {
-    world_assign(&o->twin, x); /* which may have been made odd */
+    struct world twin = world_copy(x);
     if (random_below(seed, 10))
-        single_call(x, o, seed, seen);
+        single_call(x, &twin, o, seed, seen);
     else
-        run_call(x, o, random_below(seed, 9), seed, seen);
+        run_call(x, &twin, o, random_below(seed, 9), seed, seen);
+    REQUIRE(world_equal(x, &twin));
     REQUIRE(naive_first_broken(x) == 0);
-    oracle_agrees(o, x);
+    world_free(&twin);
 }
 
 /*
@@ -186,16 +252,18 @@ void test_many_pages(uint64_t seed, uint32_t runs, struct coverage *seen)
     struct world x = world_make(64, 1, 512, 512, 16000, 4096, &own);
     snprintf(test_context, sizeof test_context, "many pages, seed %llu", (unsigned long long)seed);
     world_random_sound(&x, &own);
+    struct world twin = world_copy(&x);
     struct oracle o = oracle_of(&x);
     const struct coverage before = *seen;
     ind_translation_programs = ind_translation_reads = 0;
     for (uint32_t i = 0; i < runs; i++) {
-        run_call(&x, &o, 1024, &own, seen);
-        oracle_agrees(&o, &x);
+        run_call(&x, &twin, &o, 1024, &own, seen);
+        REQUIRE(world_equal(&x, &twin));
         REQUIRE(ind_first_broken_rule(GEOMETRY_OF(&x), STATE_OF(&x), NULL) == 0);
         REQUIRE(ind_check(GEOMETRY_OF(&x), STATE_OF(&x), counts, 3) == IND_DONE);
     }
     check_translation(&before, seen);
     oracle_free(&o);
+    world_free(&twin);
     world_free(&x);
 }

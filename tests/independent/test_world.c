@@ -34,8 +34,8 @@ static void scramble(uint32_t *words, size_t n, uint64_t *seed)
         words[i] = (uint32_t)random_64(seed);
 }
 
-static struct world world_lend(uint32_t p, uint32_t w, uint32_t d, uint32_t t, uint32_t l,
-                               uint32_t c)
+struct world world_make(uint32_t p, uint32_t w, uint32_t d, uint32_t t, uint32_t l, uint32_t c,
+                        uint64_t *seed)
 {
     struct world x = {p, w, d, t, l, c, (l + w - 1) / w, {0}, {0}};
     size_t pages = (size_t)(d + t) * p;
@@ -44,16 +44,8 @@ static struct world world_lend(uint32_t p, uint32_t w, uint32_t d, uint32_t t, u
         x.n[i] = n[i];
         x.slice[i] = malloc(n[i] * sizeof(uint32_t));
         REQUIRE(x.slice[i] != NULL);
+        scramble(x.slice[i], n[i], seed);
     }
-    return x;
-}
-
-struct world world_make(uint32_t p, uint32_t w, uint32_t d, uint32_t t, uint32_t l, uint32_t c,
-                        uint64_t *seed)
-{
-    struct world x = world_lend(p, w, d, t, l, c);
-    for (int i = 0; i < SLICES; i++)
-        scramble(x.slice[i], x.n[i], seed);
     return x;
 }
 
@@ -65,7 +57,8 @@ void world_assign(struct world *to, const struct world *from)
 
 struct world world_copy(const struct world *from)
 {
-    struct world x = world_lend(GEOMETRY_OF(from));
+    uint64_t seed = 0;
+    struct world x = world_make(GEOMETRY_OF(from), &seed);
     world_assign(&x, from);
     return x;
 }

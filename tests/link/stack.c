@@ -1,7 +1,6 @@
 /* How deep each call goes: it is made on a stack of its own that was painted before, and what is no longer paint was used.  No call may
  * go deeper than the header says (STACK_KIB, taken from it).  The node is small and full, so that writes drop entries, with neighbours, and
- * collect in both regions, and discards drop entries and collect; of four requests one finds its page in the cache's trial part, and one in
- * the protected part. */
+ * collect in both regions; and of four requests one finds its page in the cache's trial part, and one in the protected part. */
 #define _XOPEN_SOURCE 700
 #include <stdbool.h>
 #include <stdio.h>
@@ -23,7 +22,7 @@ static uint32_t requests[REQUESTS * TF_WORDS_IN_REQUEST], data[REQUESTS * W], an
 static uint8_t settings[TF_SETTINGS_BYTES + FIELDS * 4];
 static uint32_t stack[STACK_WORDS];
 static ucontext_t here, there;
-static bool refused, erased, protected, discarded, run_discarded;
+static bool refused, erased, protected;
 
 static uint32_t page_of(uint32_t i)
 {
@@ -43,8 +42,6 @@ static void check(void)
 static void run(void)
 {
     refused |= tf_run(NODE, STATE, requests, REQUESTS * TF_WORDS_IN_REQUEST, data, REQUESTS * W, answers, REQUESTS, COUNTS) != TF_DONE;
-    for (uint32_t i = 0; i < REQUESTS; i++)
-        run_discarded |= requests[2 * i] == TF_KIND_DISCARD && answers[i] == TF_DONE;
 }
 
 static void write_all(void)
@@ -60,16 +57,6 @@ static void read_all(void)
 {
     for (uint32_t i = 0; i < REQUESTS; i++)
         refused |= tf_read(NODE, page_of(i), STATE, page, W, COUNTS) != TF_DONE;
-}
-
-/* The first discard of a page is done; those after it only look it up. */
-static void discard_all(void)
-{
-    for (uint32_t i = 0; i < REQUESTS; i++) {
-        uint32_t reply = tf_discard(NODE, page_of(i), STATE, COUNTS);
-        refused |= reply != TF_DONE && reply != TF_UNWRITTEN;
-        discarded |= reply == TF_DONE && counts[TF_COUNTS_ERASES] > 0;
-    }
 }
 
 static void settings_write(void)
@@ -101,21 +88,10 @@ static size_t depth(void (*calls)(void))
     return (STACK_WORDS - left) * sizeof *stack;
 }
 
-/* What was to be met and was not, NULL if all was. */
-static const char *unmet(void)
-{
-    return refused          ? "a call was refused"
-           : !erased        ? "no write collected in both regions"
-           : !protected     ? "the protected part was never full"
-           : !discarded     ? "no discard that was done collected"
-           : !run_discarded ? "no discard of a run was done"
-                            : NULL;
-}
-
 int main(void)
 {
     for (uint32_t i = 0; i < REQUESTS; i++) {
-        requests[2 * i] = i % 3 != 0 ? TF_KIND_WRITE : i < REQUESTS / 2 ? TF_KIND_READ : TF_KIND_DISCARD;
+        requests[2 * i] = i % 3 == 0 ? TF_KIND_READ : TF_KIND_WRITE;
         requests[2 * i + 1] = page_of(i);
     }
     for (size_t at = TF_SETTINGS_BYTES; at < sizeof settings; at += 4) {
@@ -124,7 +100,7 @@ int main(void)
     }
     const struct { const char *name; void (*calls)(void); } made[] = {
         {"format", format}, {"write", write_all}, {"read", read_all}, {"run", run}, {"check", check},
-        {"discard", discard_all}, {"settings write", settings_write}, {"settings read", settings_read}};
+        {"settings write", settings_write}, {"settings read", settings_read}};
     size_t most = 0;
     printf("link: bytes of stack:");
     for (size_t i = 0; i < sizeof made / sizeof *made; i++) {
@@ -132,8 +108,9 @@ int main(void)
         most = bytes > most ? bytes : most;
         printf(" %s %zu%s", made[i].name, bytes, i + 1 < sizeof made / sizeof *made ? "," : "\n");
     }
-    if (unmet() != NULL) {
-        printf("error: %s\n", unmet());
+    if (refused || !erased || !protected) {
+        puts(refused ? "error: a call was refused"
+                     : erased ? "error: the protected part was never full" : "error: no write collected in both regions");
         return 1;
     }
     if (most > STACK_KIB * 1024) {

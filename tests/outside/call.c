@@ -5,13 +5,7 @@
 #include "stop.h"
 #include "trianglefire.h"
 
-const char *const call_name[CALLS] = {"format", "check",   "read",
-                                      "write",  "discard", "run"};
-
-bool call_of_page(int which)
-{
-    return which == READ || which == WRITE || which == DISCARD;
-}
+const char *const call_name[CALLS] = {"format", "check", "read", "write", "run"};
 
 bool call_takes(int which, int slice)
 {
@@ -37,7 +31,6 @@ bool call_shares(int which, int slice)
         case READ: return prefix##_read(SIX, c->page, FIVE, SLICE(BUFFER), SLICE(COUNTS)); \
         case WRITE:                                                                        \
             return prefix##_write(SIX, c->page, FIVE, SLICE(BUFFER), SLICE(COUNTS));       \
-        case DISCARD: return prefix##_discard(SIX, c->page, FIVE, SLICE(COUNTS));          \
         default:                                                                           \
             return prefix##_run(SIX, FIVE, SLICE(REQUESTS), SLICE(DATA), SLICE(ANSWERS),   \
                                 SLICE(COUNTS));                                            \

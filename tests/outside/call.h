@@ -8,11 +8,8 @@
 
 #include "lent.h"
 
-enum { FORMAT, CHECK, READ, WRITE, DISCARD, RUN, CALLS };
+enum { FORMAT, CHECK, READ, WRITE, RUN, CALLS };
 extern const char *const call_name[CALLS];
-
-/* The kinds of a run's records, by their numbers; from KINDS on a record answers KIND. */
-enum { READS, WRITES, DISCARDS, KINDS };
 
 enum { DONE, UNWRITTEN, GEOMETRY, LENGTH, DAMAGED, KIND, PAGE, REPLIES };
 
@@ -25,8 +22,6 @@ struct call {
     int wrong;  /* the slice that was last given another length, or ALL */
 };
 
-/* Whether a call is for one logical page. */
-bool call_of_page(int which);
 /* Whether a call takes a slice at all, and whether it only looks at it. */
 bool call_takes(int which, int slice);
 bool call_shares(int which, int slice);

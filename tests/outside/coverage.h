@@ -2,7 +2,6 @@
 #ifndef COVERAGE_H
 #define COVERAGE_H
 
-#include "discards.h"
 #include "neighbours.h"
 #include "replacement.h"
 
@@ -16,19 +15,18 @@ enum {
 struct coverage {
     uint64_t sessions, calls, records;
     uint64_t replies[CALLS][REPLIES];  /* by call and reply */
-    uint64_t answers[KINDS + 1][REPLIES]; /* of served records: of each kind, and of all others */
-    uint64_t next_kind;                /* of them records of the first kind that there isn't */
-    uint64_t wrong_length[CALLS][ALL]; /* by call and slice */
+    uint64_t answers[REPLIES];         /* of the records of runs that were served */
+    uint64_t wrong_length[ALL];        /* by slice */
     uint64_t broken[RULES + 1];        /* by the first rule broken, where asked */
     uint64_t still_sound;              /* changed words that left a sound state */
-    uint64_t collections[REGIONS];     /* in single requests */
+    uint64_t collections[REGIONS];     /* in single reads and writes */
     uint64_t erases;                   /* in runs */
     uint64_t full_offset;              /* writes that found the open block at offset P */
     uint64_t odd;                      /* times that words bound by no rule were changed */
-    uint64_t emptied;                  /* times that an entry was set to *none* by hand */
+    uint64_t emptied;                  /* times that an entry was set to *none* */
     uint64_t null;                     /* calls with an empty slice given as NULL, 0 */
     uint64_t corners[CORNERS];         /* sessions by corner of the geometry */
-    struct discards discards;
+    uint32_t open, offset, erased;     /* of the data region, as the step before left it */
     struct neighbours neighbours;
     struct replacement replacement;
 };

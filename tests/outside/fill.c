@@ -84,24 +84,19 @@ static void other_geometry(uint32_t g[6], uint64_t *seed)
     }
 }
 
-/*
- * By a seed of their own, so that fewer records are the first of more.  Most are
- * writes, so that the node stays full enough to collect.
- */
+/* By a seed of their own, so that fewer records are the first of more. */
 static void fill_requests(uint32_t *requests, size_t n, uint32_t l, uint64_t seed)
 {
-    static const uint32_t kinds[8] = {READS,  READS,  READS,  WRITES,
-                                      WRITES, WRITES, WRITES, DISCARDS};
     uint32_t hot = l < 8 ? l : 8;
     for (size_t i = 0; i < n; i++) {
         uint32_t odd = random_below(&seed, 16);
         bool page = i % 2 == 1;
         if (odd == 0)
-            requests[i] = too_great(page ? l : KINDS, &seed);
+            requests[i] = too_great(page ? l : 2, &seed);
         else if (page)
             requests[i] = random_below(&seed, odd % 2 ? l : hot);
         else
-            requests[i] = kinds[random_below(&seed, 8)];
+            requests[i] = random_below(&seed, 2);
     }
 }
 

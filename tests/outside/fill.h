@@ -23,7 +23,8 @@ bool changes_protected(const struct changes *c, const struct world *x);
 
 /*
  * Sets a cached entry of a sound state to *none*, changed, and marks its page
- * invalid, as a discard would, but at any rank.  False if no entry names a page.
+ * invalid: sound too, and a state that no call leaves.  False if no entry names a
+ * page.
  */
 bool fill_emptied(struct world *x, uint64_t seed);
 

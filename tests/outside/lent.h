@@ -14,9 +14,6 @@ extern const char *const slice_name[ALL];
 
 enum { MOST_REQUESTS = 1024, MOST_ENTRIES = 4096, COUNTS_WORDS = 3 };
 
-/* The state of a valid page; an erased one's is *none*. */
-enum { VALID = 65535 };
-
 /* The words of the record that say how many entries of the cache are used, and protected. */
 enum { USED = 4, PROTECTED = 5, RECORD_WORDS = 6 };
 

@@ -19,8 +19,8 @@ static void list_records(const struct play *p)
     size_t records = p->call.n[REQUESTS] / 2;
     printf(" of %zu:", records);
     for (size_t i = 0; i < records && i < 12; i++) {
-        static const char *const kinds[KINDS] = {"read", "write", "discard"};
-        if (requests[2 * i] < KINDS)
+        static const char *const kinds[] = {"read", "write"};
+        if (requests[2 * i] < 2)
             printf(" %s %u,", kinds[requests[2 * i]], requests[2 * i + 1]);
         else
             printf(" kind %u %u,", requests[2 * i], requests[2 * i + 1]);
@@ -62,7 +62,7 @@ static void list_step(const struct play *p, const struct step *step, size_t numb
                c->g[5]);
     if (step->kind == OTHER_LENGTH || step->kind == OTHER_GEOMETRY)
         list_lengths(p);
-    if (call_of_page(c->which))
+    if (c->which == READ || c->which == WRITE)
         printf(" page %u", c->page);
     if (c->which == RUN)
         list_records(p);

@@ -6,7 +6,6 @@
 #define ind_check tf_check
 #define ind_read tf_read
 #define ind_write tf_write
-#define ind_discard tf_discard
 #define ind_run tf_run
 #define ind_first_broken_rule tf_first_broken_rule
 #define ind_accept tf_accept
@@ -16,7 +15,6 @@
 #define ind_translate tf_translate
 #define ind_step_read tf_step_read
 #define ind_step_write tf_step_write
-#define ind_step_discard tf_step_discard
 #define ind_rule tf_rule
 #define ind_order tf_order
 #define ind_translation_programs tf_translation_programs

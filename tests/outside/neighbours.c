@@ -1,39 +1,38 @@
 /* What the sessions met of P2: see neighbours.h. */
 #include "neighbours.h"
 
-#include "store.h"
 #include "tell.h"
 
 #include <stdio.h>
 
 static const char *const name[NEIGHBOURS] = {
     "together", "two or more neighbours", "one at none", "one at none over a word",
-    "one at none by a discard", "over a word by a discard", "one at the page's first word",
-    "one at its last", "an unchanged entry between", "a changed entry of another page left",
-    "a new page", "collected first", "collected with the page itself",
-    "an unchanged entry dropped beside changed ones",
+    "one at the page's first word", "one at its last", "an unchanged entry between",
+    "a changed entry of another page left", "a new page", "collected first",
+    "collected with the page itself", "an unchanged entry dropped beside changed ones",
     "a collection's update that left a changed entry"};
 
-/* What a changed entry is to a write-back of the translation page of `first`, which lies at `named`. */
-static uint32_t beside(const struct play *p, const uint32_t *entry, uint32_t first, uint32_t named)
+static uint32_t bit(int which, bool met)
 {
-    const struct world *x = &p->state[OF_ARCHIVE];
+    return (uint32_t)met << which;
+}
+
+/* What a changed entry is to a write-back of the translation page of `first`, which lies at `named`. */
+static uint32_t beside(const struct world *x, const uint32_t *entry, uint32_t first, uint32_t named)
+{
     uint32_t i = entry[0] - first; /* wraps, and so is W or more, if before the page */
     if (i >= x->w)
         return bit(ELSEWHERE, true);
     uint32_t word = named == NONE ? NONE : x->slice[CHIP][(size_t)named * x->w + i];
-    bool at_none = entry[1] == NONE;
-    bool by_call = at_none && entry[0] < x->l && p->store->gone[entry[0]];
     return bit(TOGETHER, true) | bit(FIRST_WORD, i == 0) | bit(NEW_PAGE, named == NONE) |
            bit(LAST_WORD, i == x->w - 1 || entry[0] == x->l - 1) |
-           bit(AT_NONE, at_none && word == NONE) | bit(NONE_OVER_WORD, at_none && word != NONE) |
-           bit(NONE_BY_CALL, by_call && word == NONE) | bit(OVER_BY_CALL, by_call && word != NONE);
+           bit(AT_NONE, entry[1] == NONE && word == NONE) |
+           bit(NONE_OVER_WORD, entry[1] == NONE && word != NONE);
 }
 
 /* What the drop of the last entry meets among the others, from the rear to the front. */
-static uint32_t dropped(const struct play *p, const uint32_t *last, uint32_t named)
+static uint32_t dropped(const struct world *x, const uint32_t *last, uint32_t named)
 {
-    const struct world *x = &p->state[OF_ARCHIVE];
     uint32_t bits = 0, first = last[0] / x->w * x->w;
     bool unchanged = false; /* an entry of the page was passed that is */
     for (const uint32_t *entry = last; entry != x->slice[CACHE];) {
@@ -43,7 +42,7 @@ static uint32_t dropped(const struct play *p, const uint32_t *last, uint32_t nam
         if (entry[2] == 0)
             continue;
         bits |= bit(SEVERAL, of_page && bits & bit(TOGETHER, true));
-        bits |= bit(BETWEEN, of_page && unchanged) | beside(p, entry, first, named);
+        bits |= bit(BETWEEN, of_page && unchanged) | beside(x, entry, first, named);
     }
     if (!(bits & bit(TOGETHER, true)))
         return 0;
@@ -60,7 +59,7 @@ void neighbours_before(struct neighbours *n, const struct play *p, const struct 
     n->bits = 0;
     n->written_back = false;
     n->former = NONE;
-    if (!call_of_page(step->kind) || last[0] >= x->l)
+    if ((step->kind != READ && step->kind != WRITE) || last[0] >= x->l)
         return; /* no request, or the cache isn't full */
     for (const uint32_t *entry = x->slice[CACHE]; entry <= last; entry += 3)
         if (entry[0] == step->at)
@@ -69,10 +68,10 @@ void neighbours_before(struct neighbours *n, const struct play *p, const struct 
     if (n->former != NONE && n->former >= (x->d + x->t) * x->p)
         return;
     n->written_back = last[2] == 1;
-    n->bits = dropped(p, last, n->former);
+    n->bits = dropped(x, last, n->former);
 }
 
-/* A read or discard erases only where room for its write-back is made by collecting. */
+/* A read erases only where room for its write-back is made by collecting. */
 static uint32_t room_made(const struct neighbours *n, const struct play *p)
 {
     if (!(n->bits & bit(TOGETHER, true)))
@@ -106,9 +105,9 @@ static uint32_t updates(const struct neighbours *n, const struct play *p)
 
 void neighbours_after(struct neighbours *n, const struct play *p, const struct step *step)
 {
-    if (!call_of_page(step->kind) || p->reply > UNWRITTEN)
+    if ((step->kind != READ && step->kind != WRITE) || p->reply > UNWRITTEN)
         return;
-    n->bits |= step->kind == WRITE ? updates(n, p) : room_made(n, p);
+    n->bits |= step->kind == READ ? room_made(n, p) : updates(n, p);
     for (int i = 0; i < NEIGHBOURS; i++)
         n->met[i] += n->bits >> i & 1;
 }

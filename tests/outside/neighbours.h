@@ -1,5 +1,5 @@
 /*
- * What the sessions met of P2, in single requests: a changed entry that
+ * What the sessions met of P2, in single reads and writes: a changed entry that
  * is dropped is written back with its neighbours, which are the other changed
  * entries of its translation page.
  */
@@ -13,14 +13,12 @@ enum {
     SEVERAL,        /* two or more of them */
     AT_NONE,        /* one at *none*, as its word was */
     NONE_OVER_WORD, /* one at *none*, whose word was another */
-    NONE_BY_CALL,   /* one at *none* that a discard left there, and no hand, as its word was */
-    OVER_BY_CALL,   /* the same, whose word was another */
     FIRST_WORD,     /* one at the translation page's first word */
     LAST_WORD,      /* one at its last, as W or L has it */
     BETWEEN,        /* an unchanged entry of the page ranked between */
     ELSEWHERE,      /* a changed entry of another translation page was left */
     NEW_PAGE,       /* the translation page did not exist */
-    COLLECTED,      /* room was made by collecting; told of reads and discards */
+    COLLECTED,      /* room was made by collecting; told of reads alone */
     PAGE_MOVED,     /* that moved the page to be updated; likewise */
     /* And beside them: */
     UNCHANGED,      /* an unchanged entry dropped, its page's changed ones left */

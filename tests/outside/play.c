@@ -3,8 +3,6 @@
 
 #include "fill.h"
 #include "independent.h"
-#include "store.h"
-#include "victims.h"
 
 #include <stdio.h>
 #include <string.h>
@@ -109,10 +107,8 @@ bool play_start(struct play *p, const struct session *s)
 {
     struct lent *lent = sides();
     const struct step format = {FORMAT, 0, s->seed, NULL};
-    static struct store store;
-    static struct victims victims;
     uint64_t seed = s->seed;
-    *p = (struct play){.session = s, .store = &store, .victims = &victims, .broken = -1};
+    *p = (struct play){.session = s, .broken = -1};
     for (int side = 0; side < 2; side++) {
         lent[side].placing = s->placing;
         p->state[side] = view(&lent[side], s->g);
@@ -122,8 +118,6 @@ bool play_start(struct play *p, const struct session *s)
     else
         fill_any_words(&p->state[OF_ARCHIVE], &seed);
     world_assign(&p->state[OF_INDEPENDENT], &p->state[OF_ARCHIVE]);
-    store_start(p);
-    victims_start(p);
     return s->start != FORMATTED || play_step(p, &format, true);
 }
 
@@ -159,7 +153,7 @@ static void change_soundly(struct play *p, const struct step *step)
             world_make_odd(&p->state[side], &(uint64_t){step->seed});
 }
 
-static bool take_step(struct play *p, const struct step *step, bool whole)
+bool play_step(struct play *p, const struct step *step, bool whole)
 {
     p->called = p->emptied = false;
     p->broken = -1;
@@ -177,10 +171,4 @@ static bool take_step(struct play *p, const struct step *step, bool whole)
             p->call.which = CHECK;
     }
     return serve(p, whole);
-}
-
-bool play_step(struct play *p, const struct step *step, bool whole)
-{
-    victims_before(p, step);
-    return take_step(p, step, whole) && store_step(p, step) && victims_after(p, step);
 }

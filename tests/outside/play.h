@@ -1,33 +1,27 @@
 /*
  * Plays a session on two copies of the lent memory, the archive's and the
- * independent program's, and compares reply, counts and lent words; and holds the
- * archive's to what the calls before say.
+ * independent program's, and compares reply, counts and lent words.
  */
 #ifndef PLAY_H
 #define PLAY_H
 
 #include "session.h"
 
-struct store;
-struct victims;
-
 struct play {
     const struct session *session;
-    struct world state[2];   /* the five slices, as either side has them */
-    struct store *store;     /* what the pages hold by the calls so far: store.h */
-    struct victims *victims; /* which block a write collects: victims.h */
-    struct call call;        /* the last call */
-    uint32_t reply;          /* what the independent program answered */
-    bool called;             /* whether the last step made a call */
-    bool emptied;            /* whether it set an entry to *none* */
-    struct changes changes;  /* for CHANGED_WORD: what was changed */
-    int broken;              /* the first rule that broke by it, where that was asked; else -1 */
-    char text[160];          /* what differs, after a step that failed */
+    struct world state[2];  /* the five slices, as either side has them */
+    struct call call;       /* the last call */
+    uint32_t reply;         /* what the independent program answered */
+    bool called;            /* whether the last step made a call */
+    bool emptied;           /* whether it set an entry to *none* */
+    struct changes changes; /* for CHANGED_WORD: what was changed */
+    int broken;             /* the first rule that broke by it, where that was asked; else -1 */
+    char text[160];         /* what differs, after a step that failed */
 };
 
 enum { OF_ARCHIVE, OF_INDEPENDENT };
 
-/* Both false if the two sides differ, or from what the calls before say. */
+/* Both false if the two sides differ. */
 bool play_start(struct play *p, const struct session *s);
 /* The words of the state are compared if `whole`; all else always. */
 bool play_step(struct play *p, const struct step *step, bool whole);

@@ -26,6 +26,16 @@ static const uint32_t least_entries[REPLACED] = {
     [PROTECTED_LAST] = 4, [OTHER_PROTECTED] = 2, [OTHERS_IN_BOTH] = 3,  [DEMOTED_DROPPED] = 2,
     [DEMOTED_HIT] = 2,    [MOVED_PROTECTED] = 2, [MOVED_TRIAL] = 2};
 
+static uint32_t bit(int which, bool met)
+{
+    return (uint32_t)met << which;
+}
+
+static bool is_request(const struct step *step)
+{
+    return step->kind == READ || step->kind == WRITE;
+}
+
 /* The neighbours of the last entry, if its drop writes it back, by the part that they are in. */
 static uint32_t written_back(const struct world *x, uint32_t protected)
 {
@@ -79,7 +89,7 @@ void replacement_before(struct replacement *r, const struct play *p, const struc
     const struct world *x = &p->state[OF_INDEPENDENT];
     uint32_t used = x->slice[RECORD][USED], protected = x->slice[RECORD][PROTECTED], rank = 0;
     r->bits = 0;
-    if (!call_of_page(step->kind)) {
+    if (!is_request(step)) {
         r->demoted = NONE; /* where it is after other steps isn't followed */
         return;
     }
@@ -134,7 +144,7 @@ void replacement_after(struct replacement *r, const struct play *p, const struct
         count_number(r, p);
     if (step->kind == OTHER_LENGTH && p->call.wrong == RECORD && (n == 5 || n == 7))
         r->lengths[n == 7][p->call.which] += p->reply == LENGTH;
-    if (!call_of_page(step->kind) || p->reply > UNWRITTEN)
+    if (!is_request(step) || p->reply > UNWRITTEN)
         return;
     r->bits |= moved(r, p);
     for (int i = 0; i < REPLACED; i++)

@@ -1,5 +1,5 @@
 /*
- * What the sessions met of P5: in which part of the cache single requests
+ * What the sessions met of P5: in which part of the cache single reads and writes
  * found their entries or entered them, what became of the others, and states that
  * the number of protected entries alone made unsound.
  */

@@ -85,10 +85,10 @@ static void add_any(struct session *s, int part, uint64_t *seed)
         int kind;
         uint32_t weight[3];
     } weights[] = {
-        {WRITE, {440, 300, 100}},     {READ, {140, 110, 60}},        {DISCARD, {80, 50, 50}},
-        {RUN, {80, 250, 600}},        {CHECK, {40, 40, 30}},         {OTHER_LENGTH, {40, 40, 40}},
-        {OTHER_GEOMETRY, {40, 40, 40}}, {TOO_MANY, {5, 5, 20}},      {CHANGED_WORD, {90, 120, 40}},
-        {ODD_WORDS, {30, 30, 12}},    {EMPTIED, {12, 12, 8}},        {FORMAT, {3, 3, 0}},
+        {WRITE, {440, 300, 100}},     {READ, {200, 150, 100}},       {RUN, {80, 250, 600}},
+        {CHECK, {60, 50, 40}},        {OTHER_LENGTH, {40, 40, 40}},  {OTHER_GEOMETRY, {40, 40, 40}},
+        {TOO_MANY, {5, 5, 20}},       {CHANGED_WORD, {90, 120, 40}}, {ODD_WORDS, {30, 30, 12}},
+        {EMPTIED, {12, 12, 8}},       {FORMAT, {3, 3, 0}},
     };
     int column = part == LARGEST ? 2 : part == MIDDLE;
     uint32_t left = random_below(seed, 1000), i = 0;
@@ -96,7 +96,7 @@ static void add_any(struct session *s, int part, uint64_t *seed)
         left -= weights[i++].weight[column];
     int kind = weights[i].kind;
     uint32_t at = 0;
-    if (call_of_page(kind))
+    if (kind == READ || kind == WRITE)
         at = choose_page(s, seed);
     else if (kind == RUN)
         at = choose_records(s, part, seed);

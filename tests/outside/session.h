@@ -8,7 +8,7 @@
 
 #include "call.h"
 
-/* What a step does; FORMAT to RUN, the calls, are that call with lengths that fit. */
+/* What a step does; FORMAT to RUN are that call with lengths that fit. */
 enum {
     OTHER_LENGTH = CALLS, /* a call with a slice of another length */
     OTHER_GEOMETRY,       /* a call with another geometry, often with other lengths too */
@@ -28,7 +28,7 @@ struct changes {
 
 struct step {
     int kind;
-    uint32_t at; /* the page of a request, a run's records, the changed word */
+    uint32_t at; /* a read's or write's page, a run's records, the changed word */
     uint64_t seed;
     const struct changes *fixed; /* for CHANGED_WORD: these, and not what the seed gives */
 };

@@ -12,9 +12,7 @@
  *                  moved page has its own translation page                   (P-1)(2P+1) + 2P-1
  *   write          program                                                   1
  *
- * These are (2P+1)(P+1); a read is the first two and one read more, 2P+3, and a
- * discard the first two alone, 2P+2.  Discards come last: they leave the translation
- * region as full as it was, but not that of the data.
+ * These are (2P+1)(P+1); a read is the first two and one read more, 2P+3.
  *
  * A neighbour written back costs nothing more, and the same is reached with one:
  * W = C = 2, M = 3P-1 as before, and of the data region two pages are invalid,
@@ -37,32 +35,27 @@ static struct session of_good_requests(const uint32_t g[6], uint64_t seed, size_
     return s;
 }
 
-/* So many requests, of which the last are discards. */
-enum { AFTERWARDS = 120, ROUNDS = 60, LAST = 12 };
-
 struct session session_bounds(uint32_t p, uint64_t seed)
 {
+    enum { AFTERWARDS = 120 };
     const uint32_t l = 3 * p - 1, g[6] = {p, 1, 4, 4, l, 1};
-    struct session s = of_good_requests(g, seed, l + AFTERWARDS + 2 * LAST);
+    struct session s = of_good_requests(g, seed, l + AFTERWARDS);
     for (uint32_t i = 0; i < l + AFTERWARDS; i++) {
         bool first = i < l;
         int kind = first || random_below(&seed, 2) ? WRITE : READ;
         uint32_t page = first ? i : random_below(&seed, l);
         session_add(&s, kind, page, &seed);
     }
-    for (uint32_t i = 0; i < LAST; i++) {
-        uint32_t page = random_below(&seed, l), other = page + 1 + random_below(&seed, l - 1);
-        session_add(&s, WRITE, page, &seed);
-        session_add(&s, DISCARD, other % l, &seed);
-    }
     return s;
 }
+
+enum { ROUNDS = 60 };
 
 /* Every page written, with room for the rounds and a request before them. */
 static struct session of_two_words(uint32_t p, uint64_t *seed)
 {
     const uint32_t m = 3 * p - 1, l = 2 * m, g[6] = {p, 2, 7, 4, l, 2};
-    struct session s = of_good_requests(g, *seed, l + 1 + (ROUNDS + LAST) * 3);
+    struct session s = of_good_requests(g, *seed, l + 1 + ROUNDS * 3);
     for (uint32_t i = 0; i < l; i++)
         session_add(&s, WRITE, i % m * 2 + i / m, seed);
     return s;
@@ -71,10 +64,10 @@ static struct session of_two_words(uint32_t p, uint64_t *seed)
 /* Rounds of writes of pages 0 and 1, and a request of another even page. */
 static void add_rounds(struct session *s, uint32_t first, uint64_t *seed)
 {
-    for (uint32_t i = 0; i < ROUNDS + LAST; i++) {
+    for (uint32_t i = 0; i < ROUNDS; i++) {
         session_add(s, WRITE, first, seed);
         session_add(s, WRITE, 1 - first, seed);
-        session_add(s, i >= ROUNDS ? DISCARD : random_below(seed, 2) ? WRITE : READ,
+        session_add(s, random_below(seed, 2) ? WRITE : READ,
                     2 + 2 * random_below(seed, s->g[4] / 2 - 1), seed);
     }
 }
@@ -99,21 +92,17 @@ struct session session_bounds_protected(uint32_t p, uint64_t seed)
 /*
  * A cache of six, three of them protected, and three words a page: entries follow
  * moved pages with their rank kept, and those of both parts are written back
- * together.  For a time pages are discarded as often as written, and then none, so
- * that the node fills again.  Last, every page is read.
+ * together.  Last, every page is read.
  */
 struct session session_soak(uint64_t seed, size_t calls)
 {
-    enum { A_TIME = 1000 };
     static const uint32_t g[6] = {4, 3, 9, 4, 31, 6};
     struct session s = of_good_requests(g, seed, calls);
     s.placing = BEGINNING;
     while (s.steps < calls) {
         uint32_t any = random_below(&seed, 100);
-        bool last = calls - s.steps <= g[4], discards = s.steps / A_TIME % 2;
+        bool last = calls - s.steps <= g[4];
         int kind = any < 55 ? WRITE : any < 90 ? READ : any < 95 ? RUN : CHECK;
-        if (discards && any >= 35 && any < 70)
-            kind = DISCARD;
         uint32_t at = kind == RUN ? random_below(&seed, 8) : random_below(&seed, g[4]);
         if (last)
             kind = READ, at = (uint32_t)(calls - s.steps) - 1;

@@ -1,7 +1,9 @@
-/* Soak and bounds: see soak.h.  That nothing is lost is store.c's to say. */
+/*
+ * Soak and bounds: see soak.h.  Beside the independent program's answer every
+ * read is held to what was last written, kept here in a plain array.
+ */
 #include "soak.h"
 
-#include "discards.h"
 #include "neighbours.h"
 #include "replacement.h"
 #include "tell.h"
@@ -10,26 +12,60 @@
 #include <stdio.h>
 #include <string.h>
 
-enum { STATE_EVERY = 64 };
+enum { MOST_PAGES = 382, STATE_EVERY = 64 };
 
 /* Requests by whether they wrote neighbours back, and one of them protected. */
 enum { ALONE, WITH_OTHERS, WITH_PROTECTED, WAYS };
 
-/* The greatest costs of requests that were done, by kind. */
+/* The first word last written to each page, and the greatest costs seen. */
 struct watch {
-    uint32_t most[KINDS][WAYS];
-    struct discards discards;
+    bool written[MOST_PAGES];
+    uint32_t word[MOST_PAGES];
+    uint32_t most_read[WAYS], most_write[WAYS];
     struct neighbours neighbours;
     struct replacement replacement;
 };
 
-static uint32_t bound(int kind, uint32_t pages)
+static bool lost(struct play *p, uint32_t page)
 {
-    switch (kind) {
-    case READS: return 2 * pages + 3;
-    case WRITES: return (2 * pages + 1) * (pages + 1);
-    default: return 2 * pages + 2;
+    snprintf(p->text, sizeof p->text, "page %u does not read as it was last written", page);
+    return false;
+}
+
+/* What one request did: a write is noted, a read held to the note. */
+static bool watch_request(struct watch *h, struct play *p, uint32_t kind, uint32_t page,
+                          uint32_t reply, uint32_t word)
+{
+    if (kind == 1) {
+        h->written[page] = true;
+        h->word[page] = word;
+        return true;
     }
+    if (reply == UNWRITTEN)
+        return !h->written[page] || lost(p, page);
+    return (h->written[page] && h->word[page] == word) || lost(p, page);
+}
+
+static bool watch_run(struct watch *h, struct play *p)
+{
+    const uint32_t *requests = play_slice(p, OF_ARCHIVE, REQUESTS);
+    const uint32_t *data = play_slice(p, OF_ARCHIVE, DATA);
+    const uint32_t *answers = play_slice(p, OF_ARCHIVE, ANSWERS), w = p->call.g[1];
+    for (size_t i = 0; i < p->call.n[ANSWERS]; i++)
+        if (answers[i] <= UNWRITTEN &&
+            !watch_request(h, p, requests[2 * i], requests[2 * i + 1], answers[i], data[i * w]))
+            return false;
+    return true;
+}
+
+static uint32_t read_bound(uint32_t pages)
+{
+    return 2 * pages + 3;
+}
+
+static uint32_t write_bound(uint32_t pages)
+{
+    return (2 * pages + 1) * (pages + 1);
 }
 
 static int way_of(const struct watch *h)
@@ -42,16 +78,29 @@ static int way_of(const struct watch *h)
 static bool watch_cost(struct watch *h, struct play *p)
 {
     const uint32_t *counts = play_slice(p, OF_ARCHIVE, COUNTS);
-    uint32_t cost = counts[0] + counts[1] + counts[2];
-    int kind = p->call.which - READ, by = way_of(h);
-    uint32_t most = bound(kind, p->call.g[0]);
-    if (p->reply == DONE && cost > h->most[kind][by])
-        h->most[kind][by] = cost;
-    if (cost <= most)
+    uint32_t cost = counts[0] + counts[1] + counts[2], pages = p->call.g[0];
+    bool write = p->call.which == WRITE;
+    uint32_t *most = write ? h->most_write : h->most_read;
+    uint32_t bound = write ? write_bound(pages) : read_bound(pages);
+    int by = way_of(h);
+    if (cost > most[by])
+        most[by] = cost;
+    if (cost <= bound)
         return true;
     snprintf(p->text, sizeof p->text, "%s: costs %u, more than %u", call_name[p->call.which], cost,
-             most);
+             bound);
     return false;
+}
+
+static bool watch_step(struct watch *h, struct play *p)
+{
+    if (p->call.which == RUN)
+        return watch_run(h, p);
+    if (p->call.which != READ && p->call.which != WRITE)
+        return true;
+    return watch_cost(h, p) &&
+           watch_request(h, p, p->call.which == WRITE, p->call.page, p->reply,
+                         play_slice(p, OF_ARCHIVE, BUFFER)[0]);
 }
 
 /* Plays a session of good requests under watch; its words are compared every so often and last. */
@@ -65,35 +114,19 @@ static bool play_watched(const struct session *s, struct watch *h, struct play *
         return false;
     for (size_t i = 0; i < s->steps; i++) {
         bool whole = i % STATE_EVERY == 0 || i + 1 == s->steps;
-        discards_before(&h->discards, p, &s->step[i]);
         neighbours_before(&h->neighbours, p, &s->step[i]);
         replacement_before(&h->replacement, p, &s->step[i]);
         if (!play_step(p, &s->step[i], whole))
             return false;
-        discards_after(&h->discards, p, &s->step[i]);
         neighbours_after(&h->neighbours, p, &s->step[i]);
         replacement_after(&h->replacement, p, &s->step[i]);
-        if (call_of_page(s->step[i].kind) && !watch_cost(h, p))
+        if (!watch_step(h, p))
             return false;
         ++*calls;
         if (progress != NULL)
             tell_progress(progress, *calls, s->steps);
     }
     return true;
-}
-
-static void soak_print(const struct watch *h, size_t calls, uint32_t pages)
-{
-    static const char *const name[KINDS] = {"read", "write", "discard"};
-    printf("soak: %zu calls on one chip, nothing lost; %" PRIu64 " wrote neighbours back", calls,
-           h->neighbours.met[TOGETHER]);
-    for (int kind = 0; kind < KINDS; kind++)
-        printf("; most for a %s %u of %u, with neighbours %u, with a protected one %u", name[kind],
-               h->most[kind][ALONE], bound(kind, pages), h->most[kind][WITH_OTHERS],
-               h->most[kind][WITH_PROTECTED]);
-    printf("\n");
-    discards_print(&h->discards);
-    replacement_print_size(&h->replacement, OF_MORE);
 }
 
 bool soak(uint64_t seed, size_t calls)
@@ -104,7 +137,14 @@ bool soak(uint64_t seed, size_t calls)
     size_t played;
     bool good = play_watched(&s, &h, &p, &played, "soak: calls");
     if (good) {
-        soak_print(&h, played, s.g[0]);
+        printf("soak: %zu calls on one chip, nothing lost; most for a read %u of %u, for a write "
+               "%u of %u; of %" PRIu64 " that wrote neighbours back %u and %u, where one was "
+               "protected %u and %u\n",
+               played, h.most_read[ALONE], read_bound(s.g[0]), h.most_write[ALONE],
+               write_bound(s.g[0]), h.neighbours.met[TOGETHER], h.most_read[WITH_OTHERS],
+               h.most_write[WITH_OTHERS], h.most_read[WITH_PROTECTED],
+               h.most_write[WITH_PROTECTED]);
+        replacement_print_size(&h.replacement, OF_MORE);
         /* What stands before it is met as the cache fills, once or twice if at all. */
         good = calls < 10000 || replacement_whole_size(&h.replacement, OF_MORE, TRIAL_AT);
     } else {
@@ -112,14 +152,6 @@ bool soak(uint64_t seed, size_t calls)
     }
     session_free(&s);
     return good;
-}
-
-static bool reached(const struct watch *h, int by, uint32_t pages)
-{
-    for (int kind = 0; kind < KINDS; kind++)
-        if (h->most[kind][by] != bound(kind, pages))
-            return false;
-    return true;
 }
 
 /* A session whose requests, of this sort, must reach the bounds; the calls it made are added. */
@@ -131,9 +163,9 @@ static bool reach_bounds(struct session s, int by, uint64_t seed, size_t *calls)
     struct play p;
     size_t played;
     bool good = play_watched(&s, &h, &p, &played, NULL);
-    if (good && !reached(&h, by, pages)) {
-        snprintf(p.text, sizeof p.text, "P=%u%s: most for a read %u, a write %u, a discard %u",
-                 pages, with[by], h.most[READS][by], h.most[WRITES][by], h.most[DISCARDS][by]);
+    if (good && (h.most_read[by] != read_bound(pages) || h.most_write[by] != write_bound(pages))) {
+        snprintf(p.text, sizeof p.text, "P=%u%s: most for a read %u, for a write %u", pages,
+                 with[by], h.most_read[by], h.most_write[by]);
         good = false;
     }
     *calls += played;
@@ -154,9 +186,9 @@ bool bounds(uint64_t seed)
             return false;
         tell_progress("bounds: P", pages, 64);
     }
-    printf("bounds: for every P from 1 to 64 the most for a read is 2P+3, for a write (2P+1)(P+1) "
-           "and for a discard 2P+2, all reached, also where neighbours are written back, and where "
-           "one of them is protected (%zu calls)\n",
+    printf("bounds: for every P from 1 to 64 the most for a read is 2P+3 and for a write "
+           "(2P+1)(P+1), both reached, also where neighbours are written back, and where one of "
+           "them is protected (%zu calls)\n",
            calls);
     return true;
 }

@@ -14,12 +14,6 @@ void tell_progress(const char *what, uint64_t done, uint64_t all);
 void tell_failure(const char *part, uint64_t seed, uint32_t number, uint64_t calls,
                   struct session *s, const char *text);
 
-/* What one step met, as a bit for each. */
-static inline uint32_t bit(int which, bool met)
-{
-    return (uint32_t)met << which;
-}
-
 /* A line of how often each of these was met. */
 void tell_row(const char *head, const char *const name[], const uint64_t n[], int from, int to);
 /* Whether this was met; a line if it never was. */

@@ -7,7 +7,7 @@ import re
 import subprocess
 import xml.etree.ElementTree
 
-from tool import ANSWER, DONE, G, HEADER_WORDS, SESSION, SESSION_LINES, ToolTest, words_of
+from tool import DONE, G, HEADER_WORDS, SESSION, SESSION_LINES, ToolTest, words_of
 
 NONE = 4294967295
 VALID, INVALID = 65535, 0
@@ -73,7 +73,6 @@ class Replay(ToolTest):
 
     def test_runs_and_single_requests_leave_the_same_image(self):
         trace = self.trace(random.Random(7), 2500, 40)
-        self.assertGreater(trace.count(b"D"), 100)
         images = []
         for option in "--lines", "--json":
             self.tool("new", "--preset", "small", "--", option)
@@ -84,13 +83,13 @@ class Replay(ToolTest):
     def test_comments_and_unwritten_pages(self):
         self.new()
         answer = json.loads(self.tool("replay", self.node, "--json", data=b"# none yet\n\nR 1\nR 02").stdout)
-        self.assertEqual(answer, {"host_writes": 0, "host_reads": 2, "host_discards": 0, "unwritten": 2, "reads": 0, "programs": 0,
-                                  "erases": 0, "write_amplification": None})
+        self.assertEqual(answer, {"host_writes": 0, "host_reads": 2, "unwritten": 2, "reads": 0, "programs": 0, "erases": 0,
+                                  "write_amplification": None})
 
     @staticmethod
     def trace(chance, lines, limit):
         return b"".join(b"%c %d%s\n" % (kind, chance.randrange(limit), b" %d" % chance.randrange(2 ** 32) if kind == 87 else b"")
-                        for kind in chance.choices(b"WRD", (6, 2, 1), k=lines))
+                        for kind in chance.choices(b"WR", (3, 1), k=lines))
 
 
 class Pages(ToolTest):
@@ -117,7 +116,7 @@ class Pages(ToolTest):
         self.assertIn(b"ends within a page", run.stderr)
         run = self.tool("dump", self.node, 299, 2502)
         self.assertEqual(run.stdout, b"\xff" * 16 + data + bytes(5) + b"\xff" * 16)
-        self.assertIn(b"2 of the 2502 pages are not written (never, or discarded since) and are given as FF bytes", run.stderr)
+        self.assertIn(b"2 of the 2502 pages were never written", run.stderr)
 
     def test_load_from_a_file_and_a_whole_run(self):
         self.new("8,4,420,96,3000,16")
@@ -128,7 +127,7 @@ class Pages(ToolTest):
         self.assertIn(b"pages 0 to 1023 are written", run.stdout)
 
     def test_against_a_table_of_pages(self):
-        """Random work on nodes of odd shapes: every page reads as what was last written to it, unless it was discarded since."""
+        """Random work on nodes of odd shapes: every page reads as what was last written to it."""
         for seed, geometry in enumerate(["1,1,9,12,7,1", "2,3,2,2,1,4096", "4,8,12,6,40,4", "5,7,6,4,24,3", "64,2,3,5,127,9"]):
             chance = random.Random(seed)
             self.node = self.folder / f"{seed}.img"
@@ -143,21 +142,11 @@ class Pages(ToolTest):
                 page, value = chance.randrange(l), chance.randrange(2 ** 32)
                 self.tool("replay", self.node, data=b"R %d\nW %d %d\n" % (first, page, value))
                 table[page] = value.to_bytes(4, "little") * w
-                self.discard(chance, l, table)
             dump = self.tool("dump", self.node, 0, l).stdout
             self.assertEqual(dump, b"".join(table.get(page, b"\xff" * 4 * w) for page in range(l)))
             self.assertEqual(self.tool("check", self.node).returncode, DONE)
             info = json.loads(self.tool("info", self.node, "--json").stdout)
             self.assertEqual(info["written"], len(table))
-
-    def discard(self, chance, l, table):
-        """Discards some pages, which then are not in the table."""
-        first = chance.randrange(l)
-        pages = range(first, first + chance.randint(1, min(l - first, 5)))
-        there = table.keys() & set(pages)
-        self.tool("discard", self.node, first, len(pages), status=DONE if there else ANSWER)
-        for page in there:
-            del table[page]
 
 
 class Looks(ToolTest):
@@ -181,7 +170,7 @@ words        chip 24, spare 24, directory 2, cache 3, record 6
         info = json.loads(self.tool("info", self.node, "--json").stdout)
         self.assertEqual(info["geometry"], {"P": 2, "W": 2, "D": 3, "T": 3, "L": 3, "C": 1})
         self.assertEqual(info["data"], {"blocks": 3, "erased": 1, "full": 2, "open": 0,
-                                        "pages": {"valid": 3, "invalid": 1, "discarded": 0, "erased": 2, "unknown": 0}})
+                                        "pages": {"valid": 3, "invalid": 1, "erased": 2, "unknown": 0}})
         self.assertEqual(info["cache"], {"entries": 1, "used": 1, "protected": 0, "changed": 1})
 
     def test_check(self):
@@ -196,7 +185,7 @@ data blocks 0 to 2
     0> ##     1  x#     2  ..
 translation blocks 3 to 5
     3  ..     4  x#     5> x#
-# valid, x invalid, d discarded, . erased; > open block
+# valid, x invalid, . erased; > open block
 """)
         blocks = json.loads(self.tool("map", self.node, "--json").stdout)
         self.assertEqual(blocks["translation"][2], {"block": 5, "open": True, "pages": "x#"})
@@ -224,7 +213,7 @@ class Help(ToolTest):
     def test_every_command_has_help_with_an_example(self):
         overview = self.tool("--help").stdout.decode()
         commands = re.findall(r"^  (\w+) ", overview, re.MULTILINE)
-        self.assertEqual(len(commands), 12)
+        self.assertEqual(len(commands), 11)
         for command in commands:
             text = self.tool(command, "--help").stdout.decode()
             self.assertTrue(text.startswith(f"usage: tfnode {command} FILE"), text)

@@ -17,8 +17,6 @@ class Usage(ToolTest):
             (["format"], "there is no command `format`"),
             (["info"], "FILE is missing; see `tfnode info --help`"),
             (["write", self.node], "PAGE is missing"),
-            (["discard", self.node], "FIRST is missing; see `tfnode discard --help`"),
-            (["discard", self.node, 0, 1, 2], "`2` is one word too many"),
             (["info", self.node, "more"], "`more` is one word too many"),
             (["info", self.node, "--colour"], "unknown option --colour; see `tfnode info --help`"),
             (["info", self.node, "-j"], "unknown option -j"),
@@ -41,19 +39,14 @@ class Usage(ToolTest):
                 self.refused("read", "--", self.node, text, says="PAGE is", status=USAGE)
         self.refused("dump", self.node, 0, "x", says="COUNT is `x`", status=USAGE)
         self.refused("load", self.node, "x", says="FIRST is `x`", status=USAGE)
-        self.refused("discard", self.node, "x", says="FIRST is `x`", status=USAGE)
-        for text in "", "x", "-1", "[1]", "4294967296":
-            self.refused("discard", "--", self.node, 0, text, says=f"COUNT is `{text}`", status=USAGE)
-        self.refused("discard", self.node, 0, 0, says="COUNT is 0, so there is nothing to discard; give 1 or more", status=USAGE)
 
     def test_pages_past_the_limit(self):
         self.new()
-        for command in "read", "write", "load", "discard":
+        for command in "read", "write", "load":
             self.refused(command, self.node, 3, data=b"x", says="page 3 is past the last; the node has pages 0 to 2", status=USAGE)
         self.refused("read", self.node, 4294967295, says="past the last", status=USAGE)
-        for command in "dump", "discard":
-            self.refused(command, self.node, 1, 3, says="3 pages from page 1 go past the last", status=USAGE)
-            self.refused(command, self.node, 2, 4294967295, says="go past the last", status=USAGE)
+        self.refused("dump", self.node, 1, 3, says="3 pages from page 1 go past the last", status=USAGE)
+        self.refused("dump", self.node, 2, 4294967295, says="go past the last", status=USAGE)
         self.refused("load", self.node, 1, data=bytes(17), says="from page 1 on the node takes 16 bytes", status=USAGE)
 
     def test_data_past_the_limit_after_a_whole_run(self):
@@ -68,14 +61,11 @@ class Usage(ToolTest):
     def test_traces(self):
         self.new()
         for line in (b"W", b"W 0", b"W 0 ", b"W 0 1 2", b"W 0  1", b"R", b"R ", b"R 0 ", b"R 0 0", b"RR 0", b"r 0", b" R 0", b"R\t0",
-                     b"X 0", b"D", b"D ", b"D 0 ", b"D 0 1", b"DD 0", b"d 0", b"D -1", b"D 4294967296", b"D 0\0",
-                     b"R -0", b"R 0x0", b"R 4294967296", b"W 0 4294967296", b"R 0\r", b"R 0\0", b"R \xff", b"R " + b"9" * 100000):
+                     b"X 0", b"R -0", b"R 0x0", b"R 4294967296", b"W 0 4294967296", b"R 0\r", b"R 0\0", b"R \xff", b"R " + b"9" * 100000):
             with self.subTest(line=line[:20]):
                 self.refused("replay", self.node, data=b"W 0 1\n# one\n" + line + b"\n",
-                             says=["line 3 of the trace is none of `W page value`, `R page` and `D page`", "nothing of the trace is kept"],
-                             status=USAGE)
-        for line in b"R 3\n", b"W 3 1\n", b"D 3\n":
-            self.refused("replay", self.node, data=b"W 0 1\n" + line, says="line 2 of the trace has page 3", status=USAGE)
+                             says=["line 3 of the trace", "nothing of the trace is kept"], status=USAGE)
+        self.refused("replay", self.node, data=b"W 0 1\nR 3\n", says="line 2 of the trace has page 3", status=USAGE)
 
     def test_geometries(self):
         for text in ("", "1", "2,2,3,3,3", "2,2,3,3,3,1,1", "2,2,3,3,3,", ",2,3,3,3,1", "2;2;3;3;3;1", "2, 2,3,3,3,1", "2,2,3,3,3,1:",
@@ -110,7 +100,7 @@ class Usage(ToolTest):
 class Files(ToolTest):
     # An upgrade is a look where the image is of the newest layout; test_upgrade.py has the others.
     LOOKS = [["info"], ["settings"], ["check"], ["map"], ["read", 0], ["dump", 0, 1], ["upgrade"]]
-    CHANGES = [["write", 0], ["load", 0], ["discard", 0], ["replay"]]
+    CHANGES = [["write", 0], ["load", 0], ["replay"]]
 
     def each(self, says, commands=LOOKS + CHANGES, status=FILE):
         for command, *rest in commands:
@@ -173,10 +163,9 @@ class Files(ToolTest):
         self.each("is damaged, so nothing was done; `tfnode check` says what is wrong",
                   [["read", 0], ["dump", 0, 1]] + self.CHANGES, status=ANSWER)
 
-    def test_not_written(self):
+    def test_never_written(self):
         self.new()
-        says = "page 1 is not written (never, or discarded since); `tfnode write` writes it"
-        self.refused("read", self.node, 1, says=says, status=ANSWER)
+        self.refused("read", self.node, 1, says="page 1 was never written", status=ANSWER)
 
 
 class Disks(ToolTest):
@@ -200,14 +189,11 @@ class Disks(ToolTest):
 
     def test_a_report_that_cannot_be_printed(self):
         self.session()
-        for command in "write", "discard":
-            with open("/dev/full", "wb") as full:
-                run = subprocess.run([self.program, command, self.node, "0"], input=b"12345678", stdout=full, stderr=subprocess.PIPE)
-            self.assertEqual(run.returncode, FILE)
-            self.assertIn(b"(the change itself is done)", run.stderr)
-            if command == "write":
-                self.assertEqual(self.tool("read", self.node, 0).stdout, b"12345678")
-        self.tool("read", self.node, 0, status=ANSWER)
+        with open("/dev/full", "wb") as full:
+            run = subprocess.run([self.program, "write", self.node, "0"], input=b"12345678", stdout=full, stderr=subprocess.PIPE)
+        self.assertEqual(run.returncode, FILE)
+        self.assertIn(b"(the change itself is done)", run.stderr)
+        self.assertEqual(self.tool("read", self.node, 0).stdout, b"12345678")
 
     def test_a_trace_whose_lines_cannot_be_printed_is_not_kept(self):
         self.session()

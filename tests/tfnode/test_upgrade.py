@@ -136,8 +136,8 @@ class Upgraded(UpgradeTest):
 
 class Refused(UpgradeTest):
     COMMANDS = [["info"], ["info", "--json"], ["settings"], ["settings", "--write", "out"], ["check"], ["check", "--json"], ["map"],
-                ["map", "--json"], ["map", "--svg", "out"], ["read", 0], ["dump", 0, 1], ["write", 0], ["load", 0], ["discard", 0],
-                ["replay"], ["replay", "--lines"]]
+                ["map", "--json"], ["map", "--svg", "out"], ["read", 0], ["dump", 0, 1], ["write", 0], ["load", 0], ["replay"],
+                ["replay", "--lines"]]
 
     def upgrade_refused(self, image, says, **more):
         self.node.write_bytes(image)

@@ -88,9 +88,9 @@ void take_arguments(struct arguments *arguments, const struct command *command, 
             arguments->operands[count++] = *words++;
         }
     }
-    const char *next = command->operands[count];
-    if (next != NULL && next[0] != '[' && !given(arguments, OPTION_HELP))
-        fail(STATUS_USAGE, "%s is missing; see `tfnode %s --help`", next, command->name);
+    if (command->operands[count] != NULL && !given(arguments, OPTION_HELP))
+        fail(STATUS_USAGE, "%s is missing; see `tfnode %s --help`", command->operands[count],
+             command->name);
 }
 
 /* Digits up to `end`; false if there is none, anything else, or more than 32 bits. */

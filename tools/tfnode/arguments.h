@@ -24,14 +24,14 @@ enum option {
 };
 
 struct arguments {
-    const char *operands[MOST_OPERANDS]; /* NULL where one was left away */
-    unsigned given;                      /* the options that were */
+    const char *operands[MOST_OPERANDS];
+    unsigned given; /* the options that were */
     const char *geometry, *preset, *svg, *settings, *write;
 };
 
 struct command {
     const char *name;
-    const char *operands[MOST_OPERANDS + 1]; /* names, in [] if it may be left away, then NULL */
+    const char *operands[MOST_OPERANDS + 1]; /* their names, ended by NULL */
     unsigned options;                        /* those it takes besides --help */
     enum status (*run)(const struct arguments *arguments);
     const char *help;

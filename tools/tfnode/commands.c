@@ -16,14 +16,13 @@ const char overview[] =
     "  read      read one page to standard output\n"
     "  load      write many pages from standard input\n"
     "  dump      read many pages to standard output\n"
-    "  discard   give up pages that are no longer needed\n"
     "  replay    serve a trace of requests and say what it cost\n"
     "  map       a picture of every block\n"
     "  upgrade   bring an image of an older layout to the newest\n"
     "\n"
     "`tfnode COMMAND --help` says more of each.  A command that changes the image\n"
     "replaces it whole or leaves it as it was; the others never change it.\n"
-    "Exit status: 0 done, 1 damaged or not written, 2 wrong use, 3 file trouble.\n";
+    "Exit status: 0 done, 1 damaged or never written, 2 wrong use, 3 file trouble.\n";
 
 static const char help_new[] =
     "usage: tfnode new FILE --geometry P,W,D,T,L,C [--json]\n"
@@ -76,9 +75,8 @@ static const char help_write[] =
 static const char help_read[] =
     "usage: tfnode read FILE PAGE > data\n"
     "\n"
-    "Reads logical page PAGE, all of its bytes.  If it was never written, or was\n"
-    "discarded since, nothing is printed and the exit status is 1.  The image stays\n"
-    "as it is.\n"
+    "Reads logical page PAGE, all of its bytes.  If it was never written nothing is\n"
+    "printed and the exit status is 1.  The image stays as it is.\n"
     "\n"
     "example: tfnode read node.img 3 | hexdump -C\n";
 
@@ -94,42 +92,28 @@ static const char help_load[] =
 static const char help_dump[] =
     "usage: tfnode dump FILE FIRST COUNT > data\n"
     "\n"
-    "Reads COUNT logical pages from FIRST on.  Pages that were never written, or\n"
-    "were discarded since, are given as FF bytes, and how many is said.  The image\n"
-    "stays as it is.\n"
+    "Reads COUNT logical pages from FIRST on.  Pages that were never written are\n"
+    "given as FF bytes, and how many is said.  The image stays as it is.\n"
     "\n"
     "example: tfnode dump node.img 0 40 > survey.bin\n";
-
-static const char help_discard[] =
-    "usage: tfnode discard FILE FIRST [COUNT] [--json]\n"
-    "\n"
-    "Discards COUNT logical pages from FIRST on, or that one page: they are not\n"
-    "written any more, and their room is used again.  Prints what was freed.  If\n"
-    "none of them is written nothing is done and the exit status is 1.  All of them\n"
-    "are discarded or none: the image is replaced once, at the end.  This is no\n"
-    "secure erase: what the pages held stays on the chip until their blocks are\n"
-    "erased.\n"
-    "\n"
-    "example: tfnode discard node.img 0 2\n";
 
 static const char help_replay[] =
     "usage: tfnode replay FILE [--json | --lines] < trace\n"
     "\n"
     "Serves the requests of a trace, a line each: `W page value` writes the value to\n"
-    "every word of the page, `R page` reads it, `D page` discards it.  Blank lines\n"
-    "and lines that begin with # are left out.  Prints what the flash did, and the\n"
-    "write amplification.  With --lines it prints for each request the answer,\n"
-    "reads, programs, erases and, for a read, the first word.  The whole trace is\n"
-    "kept or nothing of it.\n"
+    "every word of the page, `R page` reads it.  Blank lines and lines that begin\n"
+    "with # are left out.  Prints what the flash did, and the write amplification.\n"
+    "With --lines it prints for each request the answer, reads, programs, erases\n"
+    "and, for a read, the first word.  The whole trace is kept or nothing of it.\n"
     "\n"
     "example: printf 'W 0 10\\nR 0\\n' | tfnode replay node.img\n";
 
 static const char help_map[] =
     "usage: tfnode map FILE [--json | --svg OUT]\n"
     "\n"
-    "Shows every page of every block: # valid, x invalid, d invalid since its logical\n"
-    "page was discarded, . erased, and > before an open block; in colour on a\n"
-    "terminal, unless NO_COLOR is set.  With --svg the picture goes to the file OUT.\n"
+    "Shows every page of every block: # valid, x invalid, . erased, and > before an\n"
+    "open block; in colour on a terminal, unless NO_COLOR is set.  With --svg the\n"
+    "picture goes to the file OUT.\n"
     "\n"
     "example: tfnode map node.img --svg node.svg\n";
 
@@ -153,7 +137,6 @@ static const struct command commands[] = {
     {"read", {"FILE", "PAGE"}, 0, command_read, help_read},
     {"load", {"FILE", "FIRST"}, OPTION_JSON, command_load, help_load},
     {"dump", {"FILE", "FIRST", "COUNT"}, 0, command_dump, help_dump},
-    {"discard", {"FILE", "FIRST", "[COUNT]"}, OPTION_JSON, command_discard, help_discard},
     {"replay", {"FILE"}, OPTION_JSON | OPTION_LINES, command_replay, help_replay},
     {"map", {"FILE"}, OPTION_JSON | OPTION_SVG, command_map, help_map},
     {"upgrade", {"FILE"}, OPTION_JSON, command_upgrade, help_upgrade},

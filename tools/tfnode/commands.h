@@ -18,8 +18,6 @@ enum status command_read(const struct arguments *arguments);
 /* pages.c */
 enum status command_load(const struct arguments *arguments);
 enum status command_dump(const struct arguments *arguments);
-/* discard.c */
-enum status command_discard(const struct arguments *arguments);
 /* replay.c */
 enum status command_replay(const struct arguments *arguments);
 /* map.c */

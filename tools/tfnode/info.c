@@ -18,10 +18,8 @@ struct use {
 
 static void find_use(const struct node *node, struct use *use)
 {
-    static struct states states;
-    find_states(node, &states);
     for (int region = 0; region < REGIONS; region++)
-        survey_region(node, &states, (enum region)region, &use->regions[region]);
+        survey_region(node, (enum region)region, &use->regions[region]);
     use->used = node->slices[RECORD][TF_RECORD_USED];
     if (use->used > number(node, C))
         use->used = number(node, C);
@@ -37,11 +35,8 @@ static void print_region(const char *name, const struct survey *survey)
     print_number(survey->blocks, "block", "blocks");
     printf(": %" PRIu32 " wholly erased, %" PRIu32 " full, block %" PRIu32 " open\n",
            survey->erased, survey->full, survey->open);
-    printf("%-13s%" PRIu32 " valid pages, %" PRIu32 " invalid", "", survey->pages[PAGE_VALID],
-           invalid(survey->pages));
-    if (survey->pages[PAGE_DISCARDED] > 0)
-        printf(" (%" PRIu32 " discarded)", survey->pages[PAGE_DISCARDED]);
-    printf(", %" PRIu32 " erased", survey->pages[PAGE_ERASED]);
+    printf("%-13s%" PRIu32 " valid pages, %" PRIu32 " invalid, %" PRIu32 " erased", "",
+           survey->pages[PAGE_VALID], survey->pages[PAGE_INVALID], survey->pages[PAGE_ERASED]);
     if (survey->pages[PAGE_UNKNOWN] > 0)
         printf(", %" PRIu32 " in no known state", survey->pages[PAGE_UNKNOWN]);
     putchar('\n');
@@ -71,10 +66,10 @@ static void print_region_json(const char *name, const struct survey *survey)
 {
     printf("\"%s\": {\"blocks\": %" PRIu32 ", \"erased\": %" PRIu32 ", \"full\": %" PRIu32
            ", \"open\": %" PRIu32 ", \"pages\": {\"valid\": %" PRIu32 ", \"invalid\": %" PRIu32
-           ", \"discarded\": %" PRIu32 ", \"erased\": %" PRIu32 ", \"unknown\": %" PRIu32 "}}, ",
+           ", \"erased\": %" PRIu32 ", \"unknown\": %" PRIu32 "}}, ",
            name, survey->blocks, survey->erased, survey->full, survey->open,
-           survey->pages[PAGE_VALID], invalid(survey->pages), survey->pages[PAGE_DISCARDED],
-           survey->pages[PAGE_ERASED], survey->pages[PAGE_UNKNOWN]);
+           survey->pages[PAGE_VALID], survey->pages[PAGE_INVALID], survey->pages[PAGE_ERASED],
+           survey->pages[PAGE_UNKNOWN]);
 }
 
 static void print_info_json(const struct image *image, const struct use *use, bool sound)

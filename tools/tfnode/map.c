@@ -2,6 +2,7 @@
 #include "map.h"
 
 #include "commands.h"
+#include "survey.h"
 
 #include <inttypes.h>
 #include <stdio.h>
@@ -9,10 +10,9 @@
 #include <sys/ioctl.h>
 #include <unistd.h>
 
-/* Terminal colours of the page states: dim, green, red, yellow, and reversed for what no rule
- * knows. */
+/* Terminal colours of the page states: dim, green, red, and reversed for what no rule knows. */
 static const char *const colours[PAGE_STATES] = {"\033[2m", "\033[30;42m", "\033[30;41m",
-                                                "\033[30;43m", "\033[7m"};
+                                                "\033[7m"};
 
 enum { CELL_EXTRA = 8, PLAIN_WIDTH = 100 }; /* a cell is its pages, a number and a mark */
 
@@ -34,13 +34,12 @@ static uint32_t cells_in_line(const struct node *node)
 }
 
 /* The pages of a block, a character each; the colour changes only where the state does. */
-static void print_pages(const struct node *node, const struct states *states, uint32_t block,
-                        bool colour)
+static void print_pages(const struct node *node, uint32_t block, bool colour)
 {
     const uint32_t p = number(node, P);
-    int before = PAGE_STATES;
+    enum page_state before = PAGE_STATES;
     for (uint32_t i = 0; i < p; i++) {
-        int state = states->of_page[block * p + i];
+        enum page_state state = state_of_page(node, block * p + i);
         if (colour && state != before)
             printf("\033[0m%s", colours[state]);
         putchar(page_marks[state]);
@@ -50,8 +49,7 @@ static void print_pages(const struct node *node, const struct states *states, ui
         fputs("\033[0m", stdout);
 }
 
-static void print_region(const struct node *node, const struct states *states, enum region region,
-                         bool colour)
+static void print_region(const struct node *node, enum region region, bool colour)
 {
     const uint32_t cells = cells_in_line(node);
     uint32_t first, end;
@@ -59,13 +57,12 @@ static void print_region(const struct node *node, const struct states *states, e
     printf("%s blocks %" PRIu32 " to %" PRIu32 "\n", region_names[region], first, end - 1);
     for (uint32_t block = first; block < end; block++) {
         printf("%5" PRIu32 "%c ", block, block_is_open(node, region, block) ? '>' : ' ');
-        print_pages(node, states, block, colour);
+        print_pages(node, block, colour);
         putchar((block - first + 1) % cells == 0 || block == end - 1 ? '\n' : ' ');
     }
 }
 
-static void print_region_json(const struct node *node, const struct states *states,
-                              enum region region)
+static void print_region_json(const struct node *node, enum region region)
 {
     uint32_t first, end;
     region_blocks(node, region, &first, &end);
@@ -73,7 +70,7 @@ static void print_region_json(const struct node *node, const struct states *stat
     for (uint32_t block = first; block < end; block++) {
         printf("%s{\"block\": %" PRIu32 ", \"open\": %s, \"pages\": \"", block == first ? "" : ", ",
                block, block_is_open(node, region, block) ? "true" : "false");
-        print_pages(node, states, block, false);
+        print_pages(node, block, false);
         printf("\"}");
     }
     putchar(']');
@@ -81,25 +78,23 @@ static void print_region_json(const struct node *node, const struct states *stat
 
 enum status command_map(const struct arguments *arguments)
 {
-    static struct states states;
     struct image image;
     if (given(arguments, OPTION_SVG) && given(arguments, OPTION_JSON))
         fail(STATUS_USAGE, "--svg and --json are two forms of the map; give one of them");
     image_open(&image, arguments->operands[0], LOOK);
-    find_states(&image.node, &states);
     if (given(arguments, OPTION_SVG)) {
-        map_to_svg(&image, &states, arguments->svg);
+        map_to_svg(&image, arguments->svg);
     } else if (given(arguments, OPTION_JSON)) {
         putchar('{');
-        print_region_json(&image.node, &states, DATA);
+        print_region_json(&image.node, DATA);
         fputs(", ", stdout);
-        print_region_json(&image.node, &states, TRANSLATION);
+        print_region_json(&image.node, TRANSLATION);
         puts("}");
     } else {
         bool colour = colour_wanted();
-        print_region(&image.node, &states, DATA, colour);
-        print_region(&image.node, &states, TRANSLATION, colour);
-        puts("# valid, x invalid, d discarded, . erased; > open block");
+        print_region(&image.node, DATA, colour);
+        print_region(&image.node, TRANSLATION, colour);
+        puts("# valid, x invalid, . erased; > open block");
     }
     return STATUS_DONE;
 }

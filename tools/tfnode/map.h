@@ -3,9 +3,8 @@
 #define MAP_H
 
 #include "image.h"
-#include "survey.h"
 
 /* map_svg.c: writes a picture of every block to a file, which must not be the image. */
-void map_to_svg(const struct image *image, const struct states *states, const char *path);
+void map_to_svg(const struct image *image, const char *path);
 
 #endif

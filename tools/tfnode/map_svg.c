@@ -6,6 +6,7 @@
 
 #include "beside.h"
 #include "say.h"
+#include "survey.h"
 
 #include <errno.h>
 #include <stdio.h>
@@ -17,15 +18,12 @@ enum { WIDTH = 1000, MARGIN = 20, TOP = 56, HEADING = 34 };
 enum { SQUARE = 6, LABEL = 44, GAP = 20, ROW = 14 };
 
 /* Told apart without red and green. */
-static const char *const fills[PAGE_STATES] = {"#e4e7eb", "#2b6cb0", "#e39a3b", "#8a4b08",
-                                              "#111111"};
-static const char *const names[PAGE_STATES] = {"erased", "valid", "invalid", "discarded",
-                                              "unknown"};
+static const char *const fills[PAGE_STATES] = {"#e4e7eb", "#2b6cb0", "#e39a3b", "#111111"};
+static const char *const names[PAGE_STATES] = {"erased", "valid", "invalid", "unknown"};
 
 struct picture {
     FILE *out;
     const struct node *node;
-    const struct states *states;
     unsigned columns, column_width;
     unsigned y; /* where the next region begins */
 };
@@ -60,16 +58,17 @@ static void draw_legend(const struct picture *picture)
     fprintf(picture->out, "<text x=\"%u\" y=\"42\">open block</text>\n", x + 18);
 }
 
-/* The pages of a block from x on. */
-static void draw_pages(const struct picture *picture, uint32_t block, unsigned x, unsigned y)
+/* The pages of a block from x on; how many are in each state. */
+static void draw_pages(const struct picture *picture, uint32_t block, unsigned x, unsigned y,
+                       unsigned counts[PAGE_STATES])
 {
     const uint32_t p = number(picture->node, P);
-    const unsigned char *states = picture->states->of_page + block * p;
     for (uint32_t i = 0; i < p;) {
-        unsigned char state = states[i];
+        enum page_state state = state_of_page(picture->node, block * p + i);
         uint32_t from = i;
-        while (i < p && states[i] == state)
+        while (i < p && state_of_page(picture->node, block * p + i) == state)
             i++;
+        counts[state] += i - from;
         draw_box(picture, x + from * SQUARE, y, (i - from) * SQUARE, 10, fills[state]);
     }
 }
@@ -77,18 +76,15 @@ static void draw_pages(const struct picture *picture, uint32_t block, unsigned x
 static void draw_block(const struct picture *picture, uint32_t block, bool open, unsigned x,
                        unsigned y)
 {
-    uint32_t pages[PAGE_STATES];
-    count_pages(picture->node, picture->states, block, pages);
+    unsigned counts[PAGE_STATES] = {0};
     fprintf(picture->out, "<g><text x=\"%u\" y=\"%u\" text-anchor=\"end\">%u</text>", x + LABEL - 6,
             y + 9, block);
-    draw_pages(picture, block, x + LABEL, y);
+    draw_pages(picture, block, x + LABEL, y, counts);
     if (open)
         draw_frame(picture, x + LABEL - 1, y - 1, number(picture->node, P) * SQUARE + 2, 12);
-    fprintf(picture->out, "<title>block %u%s: %u valid, %u invalid", block, open ? ", open" : "",
-            pages[PAGE_VALID], invalid(pages));
-    if (pages[PAGE_DISCARDED] > 0)
-        fprintf(picture->out, " (%u discarded)", pages[PAGE_DISCARDED]);
-    fprintf(picture->out, ", %u erased</title></g>\n", pages[PAGE_ERASED]);
+    fprintf(picture->out,
+            "<title>block %u%s: %u valid, %u invalid, %u erased</title></g>\n", block,
+            open ? ", open" : "", counts[PAGE_VALID], counts[PAGE_INVALID], counts[PAGE_ERASED]);
 }
 
 static unsigned rows(const struct picture *picture, unsigned count)
@@ -132,13 +128,12 @@ static void draw(struct picture *picture)
     fputs("</svg>\n", picture->out);
 }
 
-void map_to_svg(const struct image *image, const struct states *states, const char *path)
+void map_to_svg(const struct image *image, const char *path)
 {
     struct stat there;
     char *text = NULL;
     size_t length = 0;
-    struct picture picture = {
-        .out = open_memstream(&text, &length), .node = &image->node, .states = states};
+    struct picture picture = {.out = open_memstream(&text, &length), .node = &image->node};
     bool taken = lstat(path, &there) == 0;
     if (taken && !S_ISREG(there.st_mode))
         fail(STATUS_USAGE, "%s is no plain file; give --svg another name", path);

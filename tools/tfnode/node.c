@@ -109,15 +109,6 @@ uint32_t node_write(struct node *node, uint32_t page, const uint32_t *buffer,
     return reply;
 }
 
-uint32_t node_discard(struct node *node, uint32_t page, struct totals *totals)
-{
-    uint32_t counts[TF_COUNTS_WORDS];
-    uint32_t reply = tf_discard(GEOMETRY_OF(&node->geometry), page, STATE_OF(node), counts,
-                                TF_COUNTS_WORDS);
-    add(totals, counts);
-    return reply;
-}
-
 uint32_t node_run(struct node *node, const uint32_t *requests, uint32_t *data, uint32_t *answers,
                   size_t n, struct totals *totals)
 {

@@ -58,7 +58,6 @@ uint32_t node_check(const struct node *node);
 uint32_t node_read(struct node *node, uint32_t page, uint32_t *buffer, struct totals *totals);
 uint32_t node_write(struct node *node, uint32_t page, const uint32_t *buffer,
                     struct totals *totals);
-uint32_t node_discard(struct node *node, uint32_t page, struct totals *totals);
 
 /* Serves n requests, n at most TF_MOST_REQUESTS, over n pages of data and n answers. */
 uint32_t node_run(struct node *node, const uint32_t *requests, uint32_t *data, uint32_t *answers,

@@ -66,8 +66,7 @@ enum status command_read(const struct arguments *arguments)
     demand_pages(&image.node, page, 1);
     uint32_t reply = node_read(&image.node, page, buffer, &totals);
     if (reply == TF_UNWRITTEN)
-        fail(STATUS_ANSWER, "page %" PRIu32 " is not written (never, or discarded since); `tfnode "
-             "write` writes it", page);
+        fail(STATUS_ANSWER, "page %" PRIu32 " was never written; `tfnode write` writes it", page);
     if (reply != TF_DONE)
         fail_refused(reply, image.path);
     write_pages(&image.node, buffer, 1);

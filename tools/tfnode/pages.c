@@ -1,12 +1,42 @@
-/* tfnode load, tfnode dump: many pages, in runs.  A load is one change: the image is replaced after
- * the last run. */
+/*
+ * tfnode load, tfnode dump: many pages, in runs of as many requests as the library takes.  A load
+ * is one change: the image is replaced after the last run.
+ */
 #include "commands.h"
+#include "image.h"
 #include "report.h"
-#include "runs.h"
 #include "stream.h"
 
 #include <inttypes.h>
 #include <stdio.h>
+
+/* What one run lends beside the state. */
+struct run {
+    uint32_t requests[TF_MOST_REQUESTS * TF_WORDS_IN_REQUEST];
+    uint32_t answers[TF_MOST_REQUESTS];
+    uint32_t *data;
+};
+
+static void begin_run(struct run *run, const struct node *node)
+{
+    run->data = allocate_words((size_t)TF_MOST_REQUESTS * number(node, W));
+}
+
+/* One request of a kind for each of n pages from `first`. */
+static void serve(struct image *image, struct run *run, uint32_t kind, uint32_t first, size_t n,
+                  struct totals *totals)
+{
+    for (size_t i = 0; i < n; i++) {
+        run->requests[i * TF_WORDS_IN_REQUEST + TF_REQUEST_KIND] = kind;
+        run->requests[i * TF_WORDS_IN_REQUEST + TF_REQUEST_PAGE] = first + (uint32_t)i;
+    }
+    uint32_t reply = node_run(&image->node, run->requests, run->data, run->answers, n, totals);
+    if (reply != TF_DONE)
+        fail_refused(reply, image->path);
+    for (size_t i = 0; i < n; i++)
+        if (run->answers[i] != TF_DONE && run->answers[i] != TF_UNWRITTEN)
+            fail_refused(run->answers[i], image->path);
+}
 
 /* Loads all of standard input from page `first` on; gives its bytes. */
 static uint64_t load_input(struct image *image, uint32_t first, struct totals *totals)
@@ -14,16 +44,16 @@ static uint64_t load_input(struct image *image, uint32_t first, struct totals *t
     static struct run run;
     const uint64_t room = number(&image->node, L) - first;
     const uint64_t expected = pages_expected(&image->node);
-    uint64_t n, loaded = 0, bytes = 0;
-    run_begin(&run, &image->node);
+    uint64_t loaded = 0, bytes = 0;
+    size_t n;
+    begin_run(&run, &image->node);
     do {
         size_t got = read_pages(&image->node, run.data, TF_MOST_REQUESTS);
-        n = pages_of_bytes(&image->node, got);
+        n = (size_t)pages_of_bytes(&image->node, got);
         if (n > room - loaded)
             fail(STATUS_USAGE, "the data goes past the last page; from page %" PRIu32 " on the "
                  "node takes %" PRIu64 " bytes", first, room * page_bytes(&image->node));
-        run_add_pages(&run, TF_KIND_WRITE, first + (uint32_t)loaded, (uint32_t)n);
-        run_serve(&run, image, totals);
+        serve(image, &run, TF_KIND_WRITE, first + (uint32_t)loaded, n, totals);
         loaded += n;
         bytes += got;
         show_progress("load", loaded, expected);
@@ -56,12 +86,18 @@ enum status command_load(const struct arguments *arguments)
     return STATUS_DONE;
 }
 
-/* Gives the words of pages that are not written as an erased page has them. */
-static void erase_unwritten(const struct node *node, struct run *run, size_t n)
+/* Gives the words of pages that were never written as an erased page has them; how many. */
+static uint64_t erase_unwritten(const struct node *node, struct run *run, size_t n)
 {
-    for (size_t i = 0; i < n; i++)
-        for (size_t j = 0; run->answers[i] == TF_UNWRITTEN && j < number(node, W); j++)
+    uint64_t unwritten = 0;
+    for (size_t i = 0; i < n; i++) {
+        if (run->answers[i] == TF_DONE)
+            continue;
+        unwritten++;
+        for (size_t j = 0; j < number(node, W); j++)
             run->data[i * number(node, W) + j] = TF_ERASED;
+    }
+    return unwritten;
 }
 
 enum status command_dump(const struct arguments *arguments)
@@ -71,21 +107,21 @@ enum status command_dump(const struct arguments *arguments)
     uint32_t count = number_operand(arguments->operands[2], "COUNT");
     struct image image;
     struct totals totals = {0};
-    uint32_t unwritten = 0;
+    uint64_t unwritten = 0;
     image_open(&image, arguments->operands[0], LOOK);
     demand_pages(&image.node, first, count);
-    run_begin(&run, &image.node);
+    begin_run(&run, &image.node);
     for (uint32_t done = 0; done < count;) {
-        uint32_t n = run_add_pages(&run, TF_KIND_READ, first + done, count - done);
-        unwritten += run_serve(&run, &image, &totals);
-        erase_unwritten(&image.node, &run, n);
+        uint32_t n = count - done < TF_MOST_REQUESTS ? count - done : TF_MOST_REQUESTS;
+        serve(&image, &run, TF_KIND_READ, first + done, n, &totals);
+        unwritten += erase_unwritten(&image.node, &run, n);
         write_pages(&image.node, run.data, n);
         done += n;
         show_progress("dump", done, count);
     }
     end_progress();
     if (unwritten > 0)
-        note("%" PRIu32 " of the %" PRIu32 " pages are not written (never, or discarded since) and "
-             "are given as FF bytes", unwritten, count);
+        note("%" PRIu64 " of the %" PRIu32 " pages were never written and are given as FF bytes",
+             unwritten, count);
     return STATUS_DONE;
 }

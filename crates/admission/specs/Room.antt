@@ -4,7 +4,7 @@ use Rattle.std.proofs.Common.{arith, mul-le-mul}
 use Rattle.scope.specs.Geometry.{Geometry, Accepted}
 use Rattle.scope.specs.Lent.{most_requests}
 use Rattle.scope.specs.Operations.{no_counts}
-use Rattle.promises.specs.Bounds.{read_bound, write_bound, discard_bound}
+use Rattle.promises.specs.Bounds.{read_bound, write_bound}
 use Rattle.lent.specs.declared.Counts.{Counts as Counted}
 use Rattle.lent.specs.Model.{counts}
 use Rattle.lent.specs.Shapes.{RoomToCount, told}
@@ -23,6 +23,3 @@ module _ {g : Geometry} (ok : Accepted g) where
 
   pub read_few : read_bound g ≤ most_cost
   read_few = omega (arith, ok.P_to)
-
-  pub discard_few : discard_bound g ≤ most_cost
-  discard_few = omega (arith, ok.P_to)

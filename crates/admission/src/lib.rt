@@ -4,6 +4,7 @@
 ghost use Rattle.std.specs.Prelude.{◌≡◌, ◌≤◌, length};
 ghost use Rattle.lent.specs.Model.{geometry, state};
 ghost use Rattle.lent.specs.Notes.{census_words};
+ghost use Rattle.scope.specs.Boundary.{call_sizes};
 ghost use Rattle.scope.specs.Replies.{DONE};
 ghost use Rattle.replies.specs.Model.{request};
 ghost use Rattle.admission.specs.Tested.{StateTested};
@@ -12,7 +13,7 @@ ghost use Rattle.admission.specs.SingleTested.{SingleTested};
 
 use lent::{CENSUS_WORDS, FILTER_WORDS, Geometry, Record};
 use replies::Request;
-use replies::tests::{DONE, request_answer, size_answer};
+use replies::tests::{DONE, page_lengths_right, request_answer, size_answer};
 use soundness::sound::is_sound;
 
 const DAMAGED: u32 = 4;
@@ -95,12 +96,14 @@ pub fn check_answer(
     DONE
 }
 
-// All tests of a single request: the state's, with whether the lengths of what else it lends are right, and then its own.
+// All tests of a single request: the state's, with the lengths of what else it lends, and then its own.
 pub fn single_answer(
     rec: Record,
-    others: bool,
+    record_words: usize,
     g: Geometry,
     q: Request,
+    buffer: usize,
+    counts: usize,
     chip: &[u32],
     spare: &[u32],
     directory: &[u32],
@@ -109,13 +112,12 @@ pub fn single_answer(
     filter: &mut [u64; FILTER_WORDS],
 ) -> u32
     requires { census_words ≤ length census.old }
-    ensures { SingleTested (geometry g) others (request q)
+    ensures { SingleTested (geometry g) (call_sizes record_words counts) (request q) buffer
         (state chip.now spare.now directory.now cache.now rec) result
         census.new filter.new }
 {
-    let answer = state_answer(
-        rec, others, g, chip, spare, directory, cache, census, filter,
-    );
+    let right = page_lengths_right(g, record_words, buffer, counts);
+    let answer = state_answer(rec, right, g, chip, spare, directory, cache, census, filter);
     if answer != DONE {
         return answer;
     }

@@ -1,63 +1,60 @@
--- A single request, be it a read, a write or a discard, refused and served.
-use Rattle.std.specs.Prelude.{ℕ, ◌≤◌, ◌≡◌, refl, ◌≢◌, Bool, true, List, ◌++◌, eqb, length}
-use Rattle.std.proofs.Common.{ap, sym, ◌∙◌, arith, eqb-true}
+-- A single request, be it a read or a write, refused and served.
+use Rattle.std.specs.Prelude.{ℕ, ◌≤◌, ◌≡◌, refl, ◌≢◌, Bool, List, ◌++◌, eqb, length}
+use Rattle.std.proofs.Common.{ap, sym, ◌∙◌, arith}
+use borrow.Author.Tests.{eqb-true}
 use Rattle.flash.specs.Cases.{and_true}
 use Rattle.lent.specs.Does.{Does}
 use Rattle.scope.specs.Geometry.{Geometry, Accepted}
 use Rattle.scope.specs.Lent.{State, Request}
 use Rattle.scope.specs.Operations.{Counts, no_counts, Step, look, ◌>>=◌}
 use Rattle.scope.specs.Replies.{DONE, Size, first_applying, right_sizes, admit}
-use Rattle.scope.specs.Calls.{state_sizes, state_tests, request_tests, single_tests}
+use Rattle.scope.specs.Requests.{Replied, replied}
+use Rattle.scope.specs.Calls.{state_sizes, buffer_sizes, state_tests, request_tests, single_tests}
 use Rattle.scope.specs.Boundary.{put_counts}
 use Rattle.scope.specs.Contracts.{Answers}
 use Rattle.words.specs.Noted.{Noted}
 use Rattle.lent.specs.Ready.{ReadyFor}
 use Rattle.replies.specs.Answers.{does_answers, refuses, admits}
 use Rattle.replies.specs.Sizes.{buffer_right, with_others}
-use Rattle.admission.specs.Tested.{request_below, SinglePasses, single_passes, geometry_passes, state_ready}
+use Rattle.admission.specs.Tested.{request_below, single_passes, geometry_passes, state_ready}
 use Rattle.admission.specs.Room.{most_cost, room_at_first}
 use Rattle.admission.specs.SingleTested.{SingleTested}
 
--- The definition of each, by its steps and by what it hands back with a refusal.
-abbrev pub single : {A : Type 0} → Geometry → List Size → Request → (ℕ → A) → Step A → Step A
-single g sizes q refused steps = look (λ s. single_tests g sizes q s) >>= (λ tests. admit tests refused steps)
+-- The definition of either, by its steps.
+abbrev pub single : Geometry → List Size → Request → List ℕ → Step Replied → Step Replied
+single g others q buffer steps = look (λ s. single_tests g others q buffer s) >>= (λ tests. admit tests (replied buffer) steps)
 
--- `right` is the code's name for whether the sizes beside the state's are right.
-module _ {g : Geometry} (sizes : List Size) {right : Bool} {q : Request} {s : State} {n : ℕ} {census filter : List ℕ}
-    (named : right ≡ right_sizes sizes) (t : SingleTested g right q s n census filter) where
-  answered : n ≡ first_applying (single_tests g sizes q s)
+module _ {g : Geometry} {others : List Size} {q : Request} (buffer : List ℕ) {s : State} {n : ℕ} {census filter : List ℕ}
+    (t : SingleTested g others q (length buffer) s n census filter) where
+  answered : n ≡ first_applying (single_tests g others q buffer s)
   answered =
-      t.tested ∙ ap (λ (b : Bool). first_applying (state_tests g b s ++ request_tests g s.small q)) (with_others g s sizes named)
-
-  passes : n ≡ DONE → SinglePasses g s right q
-  passes e = single_passes g s right q (sym e ∙ t.tested)
+      t.tested
+      ∙ ap (λ (b : Bool). first_applying (state_tests g b s ++ request_tests g s.small q)) (with_others g s (buffer_sizes g buffer ++ others) refl)
 
   -- What the steps begin with.
   pub single_ready : (bound : ℕ) → (Accepted g → bound ≤ most_cost) → n ≡ DONE
-      → ReadyFor q.page g s bound (record { reads = 0; programs = 0; erases = 0 }) × Noted g s census filter
+      → (ReadyFor q.page g s bound (record { reads = 0; programs = 0; erases = 0 }) × (length buffer ≡ g.W))
+      × Noted g s census filter
+  unfolding right_sizes
   single_ready bound few e =
-      let pass = passes e in
-      let room : bound ≤ most_cost = few (geometry_passes g s right pass.state_passed.sizes_passed) in (
-        record {
-          ready = state_ready g s right pass.state_passed (room_at_first (omega arith) refl);
-          below = request_below g s.small q pass.request_passed;
-        },
+      let right = buffer_right g (length buffer) others in
+      let pass = single_passes g s right q (sym e ∙ t.tested) in
+      let sizes = pass.state_passed.sizes_passed in
+      let room : bound ≤ most_cost = few (geometry_passes g s right sizes) in (
+        (
+          record {
+            ready = state_ready g s right pass.state_passed (room_at_first (omega arith) refl);
+            below = request_below g s.small q pass.request_passed;
+          },
+          eqb-true (length buffer) g.W (and_true (eqb (length buffer) g.W) (right_sizes others) (and_true (right_sizes (state_sizes g s)) right sizes.sized).1).0,
+        ),
         t.noted e,
       )
 
-  -- All sizes are right.
-  pub single_sized : n ≡ DONE → right_sizes sizes ≡ true
-  single_sized e = sym named ∙ (and_true (right_sizes (state_sizes g s)) right (passes e).state_passed.sizes_passed.sized).1
+  module _ (steps : Step Replied) {counts counts' : List ℕ} where
+    pub single_refused : n ≢ DONE → counts' ≡ put_counts counts no_counts → Answers (single g others q buffer steps s) counts (replied buffer n) s counts'
+    single_refused h e = does_answers no_counts (refuses _ (λ t. t) (replied buffer) steps answered h) e
 
-  module _ {A : Type 0} (refused : ℕ → A) (steps : Step A) {counts counts' : List ℕ} where
-    pub single_refused : n ≢ DONE → counts' ≡ put_counts counts no_counts → Answers (single g sizes q refused steps s) counts (refused n) s counts'
-    single_refused h e = does_answers no_counts (refuses _ (λ t. t) refused steps answered h) e
-
-    pub single_served : {x : A} {s' : State} (c : Counts) → n ≡ DONE → Does steps s no_counts x s' c → counts' ≡ put_counts counts c
-        → Answers (single g sizes q refused steps s) counts x s' counts'
-    single_served c e d p = does_answers c (admits _ (λ t. t) refused steps (sym e ∙ answered) d) p
-
--- The first of them is the page buffer's, where one is lent.
-pub buffer_sized : (g : Geometry) (buffer : List ℕ) (others : List Size) → buffer_right g (length buffer) others ≡ true → length buffer ≡ g.W
-unfolding right_sizes
-buffer_sized g buffer others right = eqb-true (length buffer) g.W (and_true (eqb (length buffer) g.W) (right_sizes others) right).0
+    pub single_served : {x : Replied} {s' : State} (c : Counts) → n ≡ DONE → Does steps s no_counts x s' c → counts' ≡ put_counts counts c
+        → Answers (single g others q buffer steps s) counts x s' counts'
+    single_served c e d p = does_answers c (admits _ (λ t. t) (replied buffer) steps (sym e ∙ answered) d) p

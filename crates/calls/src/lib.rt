@@ -1,9 +1,9 @@
-// Format, check, read, write and discard by value: 01's tests, then the steps, for every input. No call has a `requires`, and each contract settles the reply, the
+// Format, check, read and write by value: 01's tests, then the steps, for every input. No call has a `requires`, and each contract settles the reply, the
 // record, every lent list and the counts by citing the call's definition. `record_words` is how many words the small record has where the
 // caller lends it: RECORD_WORDS for Rattle, and any number for C.
 ghost use Rattle.std.specs.Prelude.{length};
 ghost use Rattle.lent.specs.Model.{geometry, state};
-ghost use Rattle.scope.specs.Calls.{format, check, read, write, discard};
+ghost use Rattle.scope.specs.Calls.{format, check, read, write};
 ghost use Rattle.scope.specs.Requests.{replied};
 ghost use Rattle.scope.specs.Boundary.{call_sizes};
 ghost use Rattle.scope.specs.Contracts.{Answers};
@@ -11,8 +11,8 @@ ghost use Rattle.scope.specs.Contracts.{Answers};
 use admission::{check_answer, single_answer};
 use lent::{CENSUS_WORDS, FILTER_WORDS, Geometry, Record, Work};
 use replies::counting::{NO_COUNTS, put_counts, put_none};
-use replies::tests::{DONE, lengths_right, page_lengths_right, size_answer};
-use replies::{KIND_DISCARD, KIND_READ, KIND_WRITE, Out, Request};
+use replies::tests::{DONE, lengths_right, size_answer};
+use replies::{KIND_READ, KIND_WRITE, Out, Request};
 use requests::answers;
 
 // The old state isn't tested.
@@ -101,15 +101,16 @@ pub fn read(
 {
     let mut census = [0u32; CENSUS_WORDS];
     let mut filter = [0u64; FILTER_WORDS];
-    let right = page_lengths_right(g, record_words, buffer.len(), counts.len());
     let answer = single_answer(
         rec,
-        right,
+        record_words,
         g,
         Request {
             kind: KIND_READ,
             page,
         },
+        buffer.len(),
+        counts.len(),
         chip,
         spare,
         directory,
@@ -167,15 +168,16 @@ pub fn write(
 {
     let mut census = [0u32; CENSUS_WORDS];
     let mut filter = [0u64; FILTER_WORDS];
-    let right = page_lengths_right(g, record_words, buffer.len(), counts.len());
     let answer = single_answer(
         rec,
-        right,
+        record_words,
         g,
         Request {
             kind: KIND_WRITE,
             page,
         },
+        buffer.len(),
+        counts.len(),
         chip,
         spare,
         directory,
@@ -207,70 +209,6 @@ pub fn write(
     let new = written.work.rec;
     Out {
         answer: written.value,
-        rec: new,
-    }
-}
-
-// Lends no page buffer.
-pub fn discard(
-    rec: Record,
-    record_words: usize,
-    g: Geometry,
-    page: u32,
-    chip: &mut [u32],
-    spare: &mut [u32],
-    directory: &mut [u32],
-    cache: &mut [u32],
-    counts: &mut [u32],
-) -> Out
-    ensures { Answers
-        (discard (geometry g) (call_sizes record_words (length counts.old)) page
-        (state chip.old spare.old directory.old cache.old rec))
-        counts.old result.answer
-        (state chip.new spare.new directory.new cache.new result.rec)
-        counts.new }
-{
-    let mut census = [0u32; CENSUS_WORDS];
-    let mut filter = [0u64; FILTER_WORDS];
-    let right = lengths_right(record_words, counts.len());
-    let answer = single_answer(
-        rec,
-        right,
-        g,
-        Request {
-            kind: KIND_DISCARD,
-            page,
-        },
-        chip,
-        spare,
-        directory,
-        cache,
-        &mut census,
-        &mut filter,
-    );
-    if answer != DONE {
-        put_none(counts);
-        return Out { answer, rec };
-    }
-    let work = Work {
-        rec,
-        counts: NO_COUNTS,
-    };
-    let discarded = answers::discard(
-        work,
-        g,
-        page,
-        chip,
-        spare,
-        &mut census,
-        directory,
-        cache,
-        &mut filter,
-    );
-    put_counts(counts, discarded.work.counts);
-    let new = discarded.work.rec;
-    Out {
-        answer: discarded.value,
         rec: new,
     }
 }

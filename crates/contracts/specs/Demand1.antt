@@ -8,7 +8,7 @@ use Rattle.scope.specs.Replies.{DONE}
 use Rattle.promises.specs.Call.{Call, Answer, make, as_lent}
 use Rattle.promises.specs.Grounds.{Refusal, Refuses, AllPassed, grounds}
 use Rattle.promises.specs.EachRecord.{Ran}
-use Rattle.promises.specs.Demand1.{tested, read_keeps, write_keeps, run_ran, run_operations, unwritten_by, empty_run, check_unchanged}
+use Rattle.promises.specs.Demand1.{tested, read_keeps, write_keeps, run_ran, run_operations, unwritten_by_read, empty_run, check_unchanged}
 use Rattle.contracts.specs.Made.{entry, Made, ByContract, LeftAlone}
 use Rattle.contracts.specs.Demands.{Demand1, did, DoneAsListed}
 use Rattle.contracts.specs.Outcomes.{Says, says, made_as}
@@ -48,7 +48,7 @@ module _ (g : Geometry) (m : Made) (contract : ByContract g m) where
       record {
         refuses = carried (λ a. Refuses a.reply (grounds g m.call s)) (tested g s m.call).answers;
         passes = carried (λ a. ¬ (Refusal a.reply) → AllPassed (grounds g m.call s)) (tested g s m.call).passes;
-        unwritten_by = λ e. unwritten_by g s m.call (ap (λ (a : Answer). a.reply) told.value ∙ e);
+        unwritten_by_read = λ e. unwritten_by_read g s m.call (ap (λ (a : Answer). a.reply) told.value ∙ e);
         unchanged = λ h. alone ((tested g s m.call).refuses (subst (λ (a : Answer). Refusal a.reply) (sym told.value) h));
         check_unchanged = λ others e. known_alone e (check_unchanged g s others);
         empty_run = λ others words answers e. known_alone e (empty_run g s others words answers);

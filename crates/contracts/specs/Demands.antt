@@ -1,19 +1,19 @@
 -- The three demands, as statements about whatever outcome the contract of a public call allows: one m, from any lent memory whatever
 -- (demand 1 and what was done), or on the node that a trace of calls has left (demands 2 and 3). The theorem is `calls_meet` of
 -- Theorems.antt.
-use Rattle.std.specs.Prelude.{ℕ, ◌+◌, ◌≤◌, ◌<◌, ◌≡◌, ◌≢◌, ◌⊎◌, List, [], ◌++◌, length, get_or}
+use Rattle.std.specs.Prelude.{ℕ, ◌+◌, ◌≤◌, ◌<◌, ◌≡◌, ◌≢◌, List, [], ◌++◌, length, get_or}
 use Rattle.scope.specs.Geometry.{Geometry, Accepted}
 use Rattle.scope.specs.Lent.{none, State, Request, most_requests}
 use Rattle.scope.specs.Sound.{Sound}
 use Rattle.scope.specs.Operations.{Operation, apply_all, counted}
 use Rattle.scope.specs.Replies.{DONE, UNWRITTEN, Size}
 use Rattle.scope.specs.Boundary.{Words, put_counts}
-use Rattle.scope.specs.Calls.{state_sizes, buffer_sizes, run_sizes, read_of, write_of, discard_of, part, no_request}
+use Rattle.scope.specs.Calls.{state_sizes, buffer_sizes, run_sizes, read_of, write_of, part, no_request}
 use Rattle.flash.specs.Moments.{Allowed, ClearsEach}
-use Rattle.promises.specs.Call.{Call, Format, Check, ReadPage, WritePage, DiscardPage, Run, Answer, make}
+use Rattle.promises.specs.Call.{Call, Format, Check, ReadPage, WritePage, Run, Answer, make}
 use Rattle.promises.specs.Grounds.{Refusal, Refuses, Right, AllPassed, grounds}
 use Rattle.promises.specs.EachRecord.{before_record, record_outcome, records_did, Ran}
-use Rattle.promises.specs.Remembered.{Store, Nothing, noted_records, held, Tells, Takes}
+use Rattle.promises.specs.Remembered.{Store, Nothing, noted_records, held, Tells}
 use Rattle.promises.specs.Bounds.{OneForEach, BelowLimit, ServesWell}
 use Rattle.contracts.specs.Made.{Numbers, AsWords, entry, exit, counts_at_entry, counts_at_exit, Made, ContractAllows, ByContract, LeftAlone, Whole, Trace, remembered}
 
@@ -23,9 +23,8 @@ pub record Demand1 (g : Geometry) (m : Made) : Type 0 where
   -- Each refusal exactly on its grounds, and no other number; what isn't refused has passed every test.
   pub refuses : Refuses m.answer.reply (grounds g m.call (entry m.lent))
   pub passes : ¬ (Refusal m.answer.reply) → AllPassed (grounds g m.call (entry m.lent))
-  pub unwritten_by : m.answer.reply ≡ UNWRITTEN
-      → ((others : List Size) × (l : ℕ) × (buffer : List ℕ) × (m.call ≡ ReadPage others l buffer))
-      ⊎ ((others : List Size) × (l : ℕ) × (m.call ≡ DiscardPage others l))
+  pub unwritten_by_read : m.answer.reply ≡ UNWRITTEN
+      → (others : List Size) × (l : ℕ) × (buffer : List ℕ) × (m.call ≡ ReadPage others l buffer)
   -- The table's "lent memory after" is "unchanged". So it is after check, and "an empty run changes nothing".
   pub unchanged : Refusal m.answer.reply → LeftAlone m
   pub check_unchanged : (others : List Size) → m.call ≡ Check others → LeftAlone m
@@ -58,8 +57,7 @@ pub record DoneAsListed (g : Geometry) (m : Made) : Type 0 where
 
 -- ---- Demand 2: reads give what was written
 
--- The store is what a program remembers, of pages "written and not discarded since" (02, P6): a read tells what it holds, and a discard whether
--- it holds any; so does each record of a run.
+-- The store is what a program remembers: a read tells what it holds, and so does each record of a run.
 pub record Demand2 (g : Geometry) (store : Store) (m : Made) : Type 0 where
   pub read_tells : (others : List Size) (l : ℕ) (buffer : List ℕ) → m.call ≡ ReadPage others l buffer
       → ¬ (Refusal m.answer.reply) → Tells (store l) m.answer.reply m.answer.words
@@ -69,14 +67,6 @@ pub record Demand2 (g : Geometry) (store : Store) (m : Made) : Type 0 where
       let reply = get_or m.answer.answers i none in
       m.answer.reply ≡ DONE → i < length requests → q.kind ≡ 0 → ¬ (Refusal reply)
       → Tells (noted_records g requests words m.answer.answers i store q.page) reply (part g i m.answer.words)
-  pub discard_takes : (others : List Size) (l : ℕ) → m.call ≡ DiscardPage others l → ¬ (Refusal m.answer.reply)
-      → Takes (store l) m.answer.reply
-  pub record_takes : (others : List Size) (requests : List Request) (words answers : List ℕ) (i : ℕ)
-      → m.call ≡ Run others requests words answers →
-      let q = get_or requests i no_request in
-      let reply = get_or m.answer.answers i none in
-      m.answer.reply ≡ DONE → i < length requests → q.kind ≡ 2 → ¬ (Refusal reply)
-      → Takes (noted_records g requests words m.answer.answers i store q.page) reply
 
 -- ---- Demand 3: there is always room, at a bounded cost
 
@@ -88,9 +78,6 @@ pub record Demand3 (g : Geometry) (m : Made) : Type 0 where
   pub writes_well : (others : List Size) (l : ℕ) (buffer : List ℕ) → m.call ≡ WritePage others l buffer
       → Right (buffer_sizes g buffer ++ others) → BelowLimit g (entry m.lent).small (write_of l)
       → ServesWell g (write_of l) m.answer.reply (did g m)
-  pub discards_well : (others : List Size) (l : ℕ) → m.call ≡ DiscardPage others l
-      → Right others → BelowLimit g (entry m.lent).small (discard_of l)
-      → ServesWell g (discard_of l) m.answer.reply (did g m)
   pub checks_well : (others : List Size) → m.call ≡ Check others → Right others → m.answer.reply ≡ DONE
   pub runs_well : (others : List Size) (requests : List Request) (words answers : List ℕ)
       → m.call ≡ Run others requests words answers

@@ -7,10 +7,10 @@ use Rattle.scope.specs.Lent.{State, Request}
 use Rattle.scope.specs.Operations.{Outcome, Step}
 use Rattle.scope.specs.Replies.{Size}
 use Rattle.scope.specs.Requests.{Replied, replied}
-use Rattle.scope.specs.Calls.{RunReplied, run_replied, format, check, read, write, discard, run}
-use Rattle.scope.specs.Boundary.{Words, word_sizes, requests_of, in_words, tf_format, tf_check, tf_read, tf_write, tf_discard, tf_run}
+use Rattle.scope.specs.Calls.{RunReplied, run_replied, format, check, read, write, run}
+use Rattle.scope.specs.Boundary.{Words, word_sizes, requests_of, in_words, tf_format, tf_check, tf_read, tf_write, tf_run}
 use Rattle.scope.specs.Contracts.{Answers, Gives}
-use Rattle.promises.specs.Call.{Format, Check, ReadPage, WritePage, DiscardPage, Run, Answer, answer}
+use Rattle.promises.specs.Call.{Format, Check, ReadPage, WritePage, Run, Answer, answer}
 use Rattle.contracts.specs.Made.{Numbers, AsWords, ContractAllows}
 
 -- What a call hands back, as an answer.
@@ -51,10 +51,6 @@ module _ (g : Geometry) (others : List Size) (s : State) {s' : State} {counts co
         → ContractAllows g (WritePage others l buffer) (by_page (replied buffer r)) (Numbers s counts s' counts')
     write_made h = answers_as by_page h
 
-  pub discard_made : (l : ℕ) {r : ℕ} → Answers (discard g others l s) counts r s' counts'
-      → ContractAllows g (DiscardPage others l) (by_number r) (Numbers s counts s' counts')
-  discard_made l h = answers_as by_number h
-
   pub run_made : (requests : List Request) (words answers : List ℕ) {words' answers' : List ℕ} {r : ℕ}
       → Answers (run g others requests words answers s) counts (run_replied words' answers' r) s' counts'
       → ContractAllows g (Run others requests words answers) (by_run (run_replied words' answers' r)) (Numbers s counts s' counts')
@@ -83,11 +79,6 @@ module _ (g : Geometry) (w : Words) {w' : Words} where
         → ContractAllows g (WritePage (word_sizes w) l buffer) (by_page (replied buffer r)) (AsWords w w')
     unfolding tf_write
     tf_write_made h = gives_as by_page (write g (word_sizes w) l buffer) w h
-
-  pub tf_discard_made : (l : ℕ) {r : ℕ} → Gives (tf_discard g l w) r w'
-      → ContractAllows g (DiscardPage (word_sizes w) l) (by_number r) (AsWords w w')
-  unfolding tf_discard
-  tf_discard_made l h = gives_as by_number (discard g (word_sizes w) l) w h
 
   pub tf_run_made : (requests words answers : List ℕ) {words' answers' : List ℕ} {r : ℕ}
       → Gives (tf_run g w requests words answers) (run_replied words' answers' r) w'

@@ -10,5 +10,3 @@ pub mod Theorems
 pub mod ReadAfterWrite
 -- 02, P5.
 pub mod Replacement
--- 02, P6.
-pub mod Discarded

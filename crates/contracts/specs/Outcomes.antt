@@ -10,8 +10,8 @@ use Rattle.scope.specs.Operations.{Outcome, no_counts, counted, apply_all, give}
 use Rattle.scope.specs.Boundary.{Words, from_words, to_words, put_counts, in_words}
 use Rattle.scope.specs.Laws.SmallRecord.{record_stored, record_words_kept}
 use Rattle.scope.specs.Laws.Applied.{SameFlash}
-use Rattle.scope.specs.Laws.AppliedSteps.{format_applied, check_applied, read_applied, write_applied, discard_applied, run_applied}
-use Rattle.promises.specs.Call.{Call, Format, Check, ReadPage, WritePage, DiscardPage, Run, Answer, make}
+use Rattle.scope.specs.Laws.AppliedSteps.{format_applied, check_applied, read_applied, write_applied, run_applied}
+use Rattle.promises.specs.Call.{Call, Format, Check, ReadPage, WritePage, Run, Answer, make}
 use Rattle.contracts.specs.Made.{Lent, Numbers, AsWords, entry, exit, counts_at_entry, counts_at_exit, ContractAllows, SameLent, Whole}
 
 -- The state that is left is the definition's where the record is whole; chip and spare are, whole or not.
@@ -65,5 +65,4 @@ made_as g (Format others) s = (format_applied others).law s
 made_as g (Check others) s = (check_applied others).law s
 made_as g (ReadPage others l buffer) s = (read_applied others l buffer).law s
 made_as g (WritePage others l buffer) s = (write_applied others l buffer).law s
-made_as g (DiscardPage others l) s = (discard_applied others l).law s
 made_as g (Run others requests words answers) s = (run_applied others requests words answers).law s

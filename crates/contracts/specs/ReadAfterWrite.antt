@@ -18,7 +18,7 @@ use Rattle.scope.specs.Calls.{buffer_sizes, run_sizes, read_of, write_of, part, 
 use Rattle.scope.specs.Boundary.{Words, from_words, word_sizes, counts_words, put_counts, words_of_counts, tf_check, tf_read, tf_write, tf_run, requests_of}
 use Rattle.scope.specs.Contracts.{Gives}
 use Rattle.flash.specs.Moments.{total, cost}
-use Rattle.promises.specs.Call.{Call, Check, ReadPage, WritePage, Run, Answer}
+use Rattle.promises.specs.Call.{Call, Format, Check, ReadPage, WritePage, Run, Answer}
 use Rattle.promises.specs.Grounds.{Right, Refusal}
 use Rattle.promises.specs.EachRecord.{before_record}
 use Rattle.promises.specs.Remembered.{Held, Holding, Nothing, held, Tells}
@@ -27,7 +27,6 @@ use Rattle.promises.specs.GroundsDecided.{read_below, page_below}
 use Rattle.contracts.specs.Made.{Lent, AsWords, counts_at_entry, counts_at_exit, Made, ByContract}
 use Rattle.contracts.specs.Ensured.{by_number, by_page, by_run, tf_check_made, tf_read_made, tf_write_made, tf_run_made, run_word_sizes}
 use Rattle.contracts.specs.Demands.{Node, DemandsAfter, did}
-use Rattle.contracts.specs.Traces.{IsFormat}
 use Rattle.contracts.specs.Theorems.{calls_meet}
 
 -- What tells of words that were written is DONE, with those words.
@@ -60,6 +59,13 @@ module _ (counts counts' : List ℕ) (c : Counts) (three : length counts ≡ cou
   sum_three : sum counts' ≡ total c
   sum_three = ap sum put_three ∙ omega arith
 
+abbrev IsCheck : Call → Type 0
+IsCheck (Format others) = ⊥
+IsCheck (Check others) = Unit {0}
+IsCheck (ReadPage others l buffer) = ⊥
+IsCheck (WritePage others l buffer) = ⊥
+IsCheck (Run others requests words answers) = ⊥
+
 abbrev made_in_words : Call → Answer → Words → Words → Made
 made_in_words c a w w' = record { call = c; answer = a; lent = AsWords w w' }
 
@@ -69,7 +75,7 @@ module _ {g : Geometry} where
   pub checked_is_sound : (w w' : Words) → Gives (tf_check g w) DONE w' → Node g (from_words w)
   checked_is_sound w w' gave =
       (calls_meet g).checked (made_in_words (Check (word_sizes w)) (by_number DONE) w w') (tf_check_made g w gave)
-      (λ others e. subst IsFormat (sym e) tt) (λ h. omega arith)
+      (λ others e. subst IsCheck e tt) (λ h. omega arith)
 
   -- ---- one call
 

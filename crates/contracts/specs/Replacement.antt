@@ -8,7 +8,7 @@ use Rattle.scope.specs.Operations.{Outcome}
 use Rattle.scope.specs.Replies.{Size}
 use Rattle.scope.specs.Requests.{Replied, read_steps}
 use Rattle.scope.specs.Calls.{serve}
-use Rattle.promises.specs.Call.{Call, ReadPage, make}
+use Rattle.promises.specs.Call.{Call, Format, Check, ReadPage, WritePage, Run, make}
 use Rattle.promises.specs.Grounds.{Refusal, AllPassed, grounds}
 use Rattle.promises.specs.Refusals.{read_by_grounds}
 use Rattle.promises.specs.Standing.{right_lengths}
@@ -17,7 +17,14 @@ use Rattle.contracts.specs.Made.{entry, exit, Made, ByContract, Whole}
 use Rattle.contracts.specs.Demands.{Node}
 use Rattle.contracts.specs.Outcomes.{says}
 use Rattle.contracts.specs.Demand1.{demand_1}
-use Rattle.contracts.specs.Traces.{IsFormat, checked}
+use Rattle.contracts.specs.Traces.{checked}
+
+abbrev IsRead : Call → Type 0
+IsRead (Format others) = ⊥
+IsRead (Check others) = ⊥
+IsRead (ReadPage others l buffer) = Unit {0}
+IsRead (WritePage others l buffer) = ⊥
+IsRead (Run others requests words answers) = ⊥
 
 pub read_leaves_order : {g : Geometry} (m : Made) → ByContract g m → (others : List Size) (l : ℕ) (buffer : List ℕ)
     → m.call ≡ ReadPage others l buffer → Whole m.lent → ¬ (Refusal m.answer.reply)
@@ -31,7 +38,7 @@ read_leaves_order {g} m contract others l buffer is_read whole served =
     s = entry m.lent
 
     node : Node g s
-    node = checked m contract (λ sizes e. subst IsFormat (sym e ∙ is_read) tt) served
+    node = checked m contract (λ sizes e. subst IsRead (sym is_read ∙ e) tt) served
 
     passed : AllPassed (grounds g (ReadPage others l buffer) s)
     passed = subst (λ (c : Call). AllPassed (grounds g c s)) is_read ((demand_1 g m contract).passes served)

@@ -8,16 +8,16 @@ use Rattle.scope.specs.Replies.{DONE, Size}
 use Rattle.scope.specs.Requests.{format_steps}
 use Rattle.scope.specs.Calls.{state_sizes, buffer_sizes, run_sizes, part, no_request}
 use Rattle.flash.specs.Clearing.{allowed_clears_each}
-use Rattle.promises.specs.Call.{Call, Format, Check, ReadPage, WritePage, DiscardPage, Run, Answer, make}
+use Rattle.promises.specs.Call.{Call, Format, Check, ReadPage, WritePage, Run, Answer, make}
 use Rattle.promises.specs.Grounds.{Right, Refusal, AllPassed, grounds}
 use Rattle.promises.specs.GroundsDecided.{right_before}
 use Rattle.promises.specs.EachRecord.{before_record, record_outcome}
-use Rattle.promises.specs.Remembered.{Store, Nothing, noted, noted_records, held, Tells, Takes}
+use Rattle.promises.specs.Remembered.{Store, Nothing, noted, noted_records, held, Tells}
 use Rattle.promises.specs.Bounds.{BelowLimit, ServesWell}
 use Rattle.promises.specs.OneForEach.{one_for_each}
 use Rattle.promises.specs.Formatted.{format_counts}
 use Rattle.promises.specs.Standing.{Standing, format_stands, right_lengths, lengths_right}
-use Rattle.promises.specs.FromSound.{call_leaves, read_call_tells, discard_call_takes, read_well, write_well, discard_well, check_well, record_tells, record_takes, record_well, run_well, formats}
+use Rattle.promises.specs.FromSound.{call_leaves, read_call_tells, read_well, write_well, check_well, record_tells, record_well, run_well, formats}
 use Rattle.contracts.specs.Made.{entry, exit, Made, ByContract, Whole, Goes, Trace, remembered}
 use Rattle.contracts.specs.Demands.{Demand2, Demand3, did, Node, DemandsAfter, Formatted}
 use Rattle.contracts.specs.Outcomes.{says}
@@ -31,11 +31,10 @@ refusal_not_noted g (Format others) a store h = rw (ne_eqb a.reply DONE (omega a
 refusal_not_noted g (Check others) a store h = refl
 refusal_not_noted g (ReadPage others l buffer) a store h = refl
 refusal_not_noted g (WritePage others l buffer) a store h = rw (ne_eqb a.reply DONE (omega arith)) refl
-refusal_not_noted g (DiscardPage others l) a store h = rw (ne_eqb a.reply DONE (omega arith)) refl
 refusal_not_noted g (Run others requests words answers) a store h = rw (ne_eqb a.reply DONE (omega arith)) refl
 
 module _ {g : Geometry} (ok : Accepted g) where
-  pub goes_stands : {s s' : State} {store : Store} (m : Made) → ByContract g m → Goes s m s' → Standing g s store
+  goes_stands : {s s' : State} {store : Store} (m : Made) → ByContract g m → Goes s m s' → Standing g s store
       → Standing g s' (noted g m.call m.answer store)
   goes_stands {s} {s'} {store} m contract (inl (here, whole, left)) stands =
       let told = says g m.call m.answer m.lent contract in
@@ -70,14 +69,6 @@ module _ {g : Geometry} (ok : Accepted g) where
               → Tells (noted_records g requests words a.answers i store (get_or requests i no_request).page) (get_or a.answers i none)
               (part g i a.words)) e
               (λ n. record_tells ok stands others requests words answers (answered g m contract (λ a. a.reply ≡ DONE) e done) i h n kind);
-          discard_takes = λ others l e.
-              known g m contract (λ a. ¬ (Refusal a.reply) → Takes (store l) a.reply) e (discard_call_takes ok stands others l);
-          record_takes = λ others requests words answers i e done h kind.
-              known g m contract
-              (λ a.
-              ¬ (Refusal (get_or a.answers i none))
-              → Takes (noted_records g requests words a.answers i store (get_or requests i no_request).page) (get_or a.answers i none)) e
-              (λ n. record_takes ok stands others requests words answers (answered g m contract (λ a. a.reply ≡ DONE) e done) i h n kind);
         }
 
     -- A request's answer and its operations, as those of the call that it is known to be.
@@ -92,7 +83,6 @@ module _ {g : Geometry} (ok : Accepted g) where
         record {
           reads_well = λ others l buffer e right below. well e (read_well ok stands others l buffer right below);
           writes_well = λ others l buffer e right below. well e (write_well ok stands others l buffer right below);
-          discards_well = λ others l e right below. well e (discard_well ok stands others l right below);
           checks_well = λ others e right. known g m contract (λ a. a.reply ≡ DONE) e (check_well ok stands others right);
           runs_well = λ others requests words answers e right few.
               known g m contract (λ a. a.reply ≡ DONE) e (run_well ok stands others requests words answers right few);
@@ -150,23 +140,12 @@ node_of g (WritePage others l buffer) s other passed =
       lengths = right_before (state_sizes g s) (buffer_sizes g buffer ++ others) passed.1.0;
       sound = passed.1.1.0;
     }
-node_of g (DiscardPage others l) s other passed =
-    record { accepted = passed.0; lengths = right_before (state_sizes g s) others passed.1.0; sound = passed.1.1.0 }
 node_of g (Run others requests words answers) s other passed =
     record {
       accepted = passed.0;
       lengths = right_before (state_sizes g s) (run_sizes g requests words answers ++ others) passed.1.0.0;
       sound = passed.1.1.0;
     }
-
--- For a call that is known to be no format.
-abbrev pub IsFormat : Call → Type 0
-IsFormat (Format others) = Unit {0}
-IsFormat (Check others) = ⊥
-IsFormat (ReadPage others l buffer) = ⊥
-IsFormat (WritePage others l buffer) = ⊥
-IsFormat (DiscardPage others l) = ⊥
-IsFormat (Run others requests words answers) = ⊥
 
 pub checked : {g : Geometry} (m : Made) → ByContract g m → ((others : List Size) → m.call ≢ Format others)
     → ¬ (Refusal m.answer.reply) → Node g (entry m.lent)

@@ -1,4 +1,4 @@
--- Read, write and discard for Rattle are held to the contracts of which the demands speak (crate contracts): the code of each meets a contract that asks
+-- Read and write for Rattle are held to the contracts of which the demands speak (crate contracts): the code of each meets a contract that asks
 -- nothing of its caller, and what it tells is that the call was made as the demands have it. An `ensures` that says less, or a `requires`,
 -- is refused here.
 use mathlib.Core.Path.{refl}
@@ -16,12 +16,12 @@ use Rattle.scope.specs.SmallRecord.{record_words}
 use Rattle.scope.specs.Lent.{State}
 use Rattle.scope.specs.Replies.{Size}
 use Rattle.scope.specs.Requests.{replied}
-use Rattle.scope.specs.Calls.{read, write, discard}
+use Rattle.scope.specs.Calls.{read, write}
 use Rattle.scope.specs.Boundary.{call_sizes}
 use Rattle.scope.specs.Contracts.{Answers}
-use Rattle.promises.specs.Call.{ReadPage, WritePage, DiscardPage}
+use Rattle.promises.specs.Call.{ReadPage, WritePage}
 use Rattle.contracts.specs.Made.{Numbers as AsNumbers, ContractAllows}
-use Rattle.contracts.specs.Ensured.{by_number, by_page, read_made, write_made, discard_made}
+use Rattle.contracts.specs.Ensured.{by_page, read_made, write_made}
 use Rattle.held.specs.Held.{code_of, HeldTo}
 use Rattle.facepage.specs.contracts.read as read'
 use Rattle.facepage.proofs.read.Symbol as read_symbol
@@ -29,9 +29,6 @@ use Rattle.facepage.proofs.read.Met as read_met
 use Rattle.facepage.specs.contracts.write as write'
 use Rattle.facepage.proofs.write.Symbol as write_symbol
 use Rattle.facepage.proofs.write.Met as write_met
-use Rattle.facepage.specs.contracts.discard as discard'
-use Rattle.facepage.proofs.discard.Symbol as discard_symbol
-use Rattle.facepage.proofs.discard.Met as discard_met
 
 -- Each contract, at a model of the prover's logic.
 abbrev read_contract : (m : World) → Clauses m.𝓤 read'.ended
@@ -40,11 +37,8 @@ read_contract m = read'.clauses m.𝓛 m.𝓜.mem m.𝓡.run
 abbrev write_contract : (m : World) → Clauses m.𝓤 write'.ended
 write_contract m = write'.clauses m.𝓛 m.𝓜.mem m.𝓡.run
 
-abbrev discard_contract : (m : World) → Clauses m.𝓤 discard'.ended
-discard_contract m = discard'.clauses m.𝓛 m.𝓜.mem m.𝓡.run
-
 module _ (g : Numbers) (rec rec' : Bor Record) (chip spare directory cache counts chip' spare' directory' cache' counts' : Bor (List ℕ))
-    (r page : ℕ) where
+    (r page : ℕ) (buffer buffer' : Bor (List ℕ)) where
   -- A record of numbers has all its words.
   abbrev sizes : List Size
   sizes = call_sizes record_words (length counts.now)
@@ -55,26 +49,12 @@ module _ (g : Numbers) (rec rec' : Bor Record) (chip spare directory cache count
   abbrev left : State
   left = state chip'.now spare'.now directory'.now cache'.now rec'.now
 
-  pub discard_held : (κs : Lfts 6) →
-      HeldTo discard'.ended (code_of discard_symbol.routine) discard_contract κs
-      (rec, (g, (page, (chip, (spare, (directory, (cache, (counts, tt)))))))) r
-      (rec', (g, (page, (chip', (spare', (directory', (cache', (counts', tt))))))))
-      (ContractAllows (geometry g) (DiscardPage sizes page) (by_number r) (AsNumbers lent counts.now left counts'.now))
-  discard_held κs =
-      record {
-        meets = λ m. discard_met.met m.𝓤 m.𝓛 m.𝓜 m.𝓡;
-        asks_nothing = λ m x. refl;
-        Told = Answers (discard (geometry g) sizes page lent) counts.now r left counts'.now;
-        tells_it = λ m x. refl;
-        gives = discard_made (geometry g) sizes lent page;
-      }
-
-  pub read_held : (buffer buffer' : Bor (List ℕ)) (κs : Lfts 7) →
+  pub read_held : (κs : Lfts 7) →
       HeldTo read'.ended (code_of read_symbol.routine) read_contract κs
       (rec, (g, (page, (chip, (spare, (directory, (cache, (buffer, (counts, tt))))))))) r
       (rec', (g, (page, (chip', (spare', (directory', (cache', (buffer', (counts', tt)))))))))
       (ContractAllows (geometry g) (ReadPage sizes page buffer.now) (by_page (replied buffer'.now r)) (AsNumbers lent counts.now left counts'.now))
-  read_held buffer buffer' κs =
+  read_held κs =
       record {
         meets = λ m. read_met.met m.𝓤 m.𝓛 m.𝓜 m.𝓡;
         asks_nothing = λ m x. refl;
@@ -84,12 +64,12 @@ module _ (g : Numbers) (rec rec' : Bor Record) (chip spare directory cache count
       }
 
   -- The page buffer is not lent to be changed.
-  pub write_held : (buffer buffer' : Bor (List ℕ)) (κs : Lfts 7) →
+  pub write_held : (κs : Lfts 7) →
       HeldTo write'.ended (code_of write_symbol.routine) write_contract κs
       (rec, (g, (page, (chip, (spare, (directory, (cache, (buffer, (counts, tt))))))))) r
       (rec', (g, (page, (chip', (spare', (directory', (cache', (buffer', (counts', tt)))))))))
       (ContractAllows (geometry g) (WritePage sizes page buffer.now) (by_page (replied buffer.now r)) (AsNumbers lent counts.now left counts'.now))
-  write_held buffer buffer' κs =
+  write_held κs =
       record {
         meets = λ m. write_met.met m.𝓤 m.𝓛 m.𝓜 m.𝓡;
         asks_nothing = λ m x. refl;

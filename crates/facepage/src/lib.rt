@@ -1,9 +1,9 @@
-// Read, write and discard for Rattle, over a small record that is lent and changed in place; read and write lend a page buffer too. They have no `requires`, and the contracts
+// Read and write for Rattle, over a small record that is lent and changed in place, and a page buffer. They have no `requires`, and the contracts
 // cite the calls' definitions, as in crate face; all that is tested and done is in crate calls.
 ghost use Rattle.std.specs.Prelude.{length};
 ghost use Rattle.lent.specs.Model.{geometry, state};
 ghost use Rattle.scope.specs.Requests.{replied};
-ghost use Rattle.scope.specs.Calls.{read, write, discard};
+ghost use Rattle.scope.specs.Calls.{read, write};
 ghost use Rattle.scope.specs.SmallRecord.{record_words};
 ghost use Rattle.scope.specs.Boundary.{call_sizes};
 ghost use Rattle.scope.specs.Contracts.{Answers};
@@ -76,40 +76,6 @@ pub fn write(
         directory,
         cache,
         buffer,
-        counts,
-    );
-    *rec = out.rec;
-    out.answer
-}
-
-// Lends no page buffer.
-pub fn discard(
-    rec: &mut Record,
-    g: Geometry,
-    page: u32,
-    chip: &mut [u32],
-    spare: &mut [u32],
-    directory: &mut [u32],
-    cache: &mut [u32],
-    counts: &mut [u32],
-) -> u32
-    ensures { Answers
-        (discard (geometry g) (call_sizes record_words (length counts.old)) page
-        (state chip.old spare.old directory.old cache.old rec.old))
-        counts.old result
-        (state chip.new spare.new directory.new cache.new rec.new)
-        counts.new }
-{
-    let r = *rec;
-    let out = calls::discard(
-        r,
-        RECORD_WORDS,
-        g,
-        page,
-        chip,
-        spare,
-        directory,
-        cache,
         counts,
     );
     *rec = out.rec;

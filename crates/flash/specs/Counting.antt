@@ -1,6 +1,6 @@
 -- Laws of scope's tests and counts over the numbers below a bound: `all` is "each", `some` is "there is one", `count` counts.
 -- Searching.antt has those of its searches.
-use Rattle.std.specs.Prelude.{ℕ, zero, suc, ◌+◌, ◌*◌, ◌-◌, ◌≤◌, ◌<◌, ◌≡◌, refl, ◌≢◌, Bool, true, false, not, cond, ◌&&◌, eqb}
+use Rattle.std.specs.Prelude.{ℕ, zero, suc, ◌+◌, ◌*◌, ◌-◌, ◌≤◌, ◌<◌, ◌≡◌, refl, Bool, true, false, not, cond, ◌&&◌, eqb}
 use Rattle.std.proofs.Common.{sym, ap, subst, ◌∙◌, add-zero, add-suc, zero-mul, suc-mul, arith, eqb-true}
 use Rattle.std.proofs.lemmas.Bool.{eqb-false, not-true}
 use Rattle.scope.specs.Counting.{all, some, count}
@@ -124,20 +124,6 @@ count_less n f h sub i k p q =
 pub count_tight : (n : ℕ) (f h : ℕ → Bool) → ((i : ℕ) → i < n → f i ≡ true → h i ≡ true) → count n h ≡ count n f
     → (i : ℕ) → i < n → h i ≡ true → f i ≡ true
 count_tight n f h sub same i k q = is_true (f i) (λ p. omega (arith, count_less n f h sub i k p q))
-
--- One passes no more, and the others pass as before: one fewer.
-pub count_fewer : (n : ℕ) (f h : ℕ → Bool) (i : ℕ) → i < n → f i ≡ true → h i ≡ false → ((j : ℕ) → j < n → j ≢ i → h j ≡ f j)
-    → suc (count n h) ≡ count n f
-count_fewer zero f h i k p q same = absurd (omega arith)
-count_fewer (suc n) f h i k p q same =
-    last i n k
-    (λ l.
-    rw (same n (omega arith) (omega arith))
-    (omega (arith, count_fewer n f h i l p q (λ j b d. same j (omega arith) d))))
-    (λ e.
-    let was : f n ≡ true = rw (← e) p in
-    let is : h n ≡ false = rw (← e) q in
-    rw (was, is, count_same n h f (λ j b. same j (omega arith) (omega arith))) (omega arith))
 
 -- The numbers below m + n: those below m, and those from m on.
 pub count_add : (m n : ℕ) (f : ℕ → Bool) → count (m + n) f ≡ count m f + count n (λ i. f (m + i))

@@ -16,4 +16,3 @@ pub mod Owners
 pub mod SamePages
 pub mod Listed
 pub mod Clearing
-pub mod Resting

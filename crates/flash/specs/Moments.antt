@@ -1,10 +1,10 @@
 -- What demand 3 asks of a list of operations: what it costs, and what is said of each at its moment, "in their order": that only erased pages
--- are programmed, and that "a change other than an erase only clears bits". And what 02's P6 has of a discarded page: that it rests.
+-- are programmed, and that "a change other than an erase only clears bits".
 use Rattle.std.specs.Prelude.{ℕ, ◌+◌, ◌<◌, ◌≡◌, ◌≢◌, List, [], ◌∷◌, length}
 use Rattle.std.specs.Int.Bits.{bit_and}
 use Rattle.scope.specs.Geometry.{Geometry, pages}
 use Rattle.scope.specs.Regions.{page_in}
-use Rattle.scope.specs.Lent.{none, erased, valid, State, word_of, state_of, owner_of}
+use Rattle.scope.specs.Lent.{none, erased, State, word_of, state_of, owner_of}
 use Rattle.scope.specs.Operations.{Operation, Read, Program, Mark, Erase, apply, Counts, counted}
 
 -- The reads, the programs and the erases: what demand 3 bounds.
@@ -20,12 +20,12 @@ pub record PageErased (g : Geometry) (p : ℕ) (chip spare : List ℕ) : Type 0 
   pub owner : owner_of p spare ≡ none
   pub words : (i : ℕ) → i < g.W → word_of g p i chip ≡ erased
 
--- A program is of a page of the chip that is erased as a whole, and stores a page's words, W of them, so that it stays within that page; a
--- read and a mark are of a page of the chip that is valid; an erase asks for nothing.
+-- A program is of a page of the chip that is erased as a whole, and stores a page's words, W of them, so that it stays within that page;
+-- the other operations ask for nothing.
 abbrev pub Allows : Geometry → Operation → List ℕ → List ℕ → Type 0
-Allows g (Read p) chip spare = (p < pages g) × (state_of p spare ≡ valid)
+Allows g (Read p) chip spare = Unit {0}
 Allows g (Program p owner words) chip spare = (p < pages g) × PageErased g p chip spare × (length words ≡ g.W)
-Allows g (Mark p) chip spare = (p < pages g) × (state_of p spare ≡ valid)
+Allows g (Mark p) chip spare = Unit {0}
 Allows g (Erase b) chip spare = Unit {0}
 
 -- Each operation is allowed by chip and spare as the ones before it left them.
@@ -56,19 +56,3 @@ Clears g o s =
 abbrev pub ClearsEach : Geometry → List Operation → State → Type 0
 ClearsEach g [] s = Unit {0}
 ClearsEach g (o ∷ os) s = Clears g o s × ClearsEach g os (apply g o s)
-
--- Page p rests: until its block is erased no operation of the list reads it, so that it isn't copied either, or programs it.
-abbrev pub Rests : Geometry → ℕ → List Operation → Type 0
-Rests g p [] = Unit {0}
-Rests g p (Read q ∷ os) = (q ≢ p) × Rests g p os
-Rests g p (Program q owner words ∷ os) = (q ≢ p) × Rests g p os
-Rests g p (Mark q ∷ os) = Rests g p os
-Rests g p (Erase b ∷ os) = Outside g b p → Rests g p os
-
--- Each page that an operation of the list marks rests from there on.
-abbrev pub MarkedRest : Geometry → List Operation → Type 0
-MarkedRest g [] = Unit {0}
-MarkedRest g (Read q ∷ os) = MarkedRest g os
-MarkedRest g (Program q owner words ∷ os) = MarkedRest g os
-MarkedRest g (Mark q ∷ os) = Rests g q os × MarkedRest g os
-MarkedRest g (Erase b ∷ os) = MarkedRest g os

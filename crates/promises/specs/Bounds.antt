@@ -1,4 +1,4 @@
--- What demand 3 is said with: one valid page for each written one, "below the limit", and the bounds of a read, of a write and of a discard.
+-- What demand 3 is said with: one valid page for each written one, "below the limit", and the bounds of a read and of a write.
 use Rattle.std.specs.Prelude.{ℕ, ◌+◌, ◌*◌, ◌≤◌, ◌<◌, ◌≡◌, ◌⊎◌, not, List, eqb}
 use Rattle.scope.specs.Counting.{count}
 use Rattle.scope.specs.Geometry.{Geometry}
@@ -10,12 +10,7 @@ use Rattle.scope.specs.Operations.{Operation}
 use Rattle.scope.specs.Replies.{DONE, UNWRITTEN}
 use Rattle.flash.specs.Moments.{cost}
 
--- How many data pages are valid.
-abbrev pub valid_data : Geometry → State → ℕ
-valid_data g s = count (region_pages g Data) (λ p. is_valid p s.spare)
-
--- "The valid data pages are one for each written logical page", where 02's P6 reads "written and not discarded since": a page is written when its
--- current place is a page, and a discard takes that.
+-- "The valid data pages are one for each written logical page."
 pub record OneForEach (g : Geometry) (s : State) : Type 0 where
   pub page_of : (l : ℕ) → l < g.L → Written g s l
       → (p : ℕ) × HasPage g Data p × (state_of p s.spare ≡ valid) × (owner_of p s.spare ≡ l)
@@ -23,7 +18,7 @@ pub record OneForEach (g : Geometry) (s : State) : Type 0 where
       → owner_of p s.spare ≡ owner_of q s.spare → p ≡ q
   pub written : (p : ℕ) → HasPage g Data p → state_of p s.spare ≡ valid
       → (owner_of p s.spare < g.L) × Written g s (owner_of p s.spare)
-  pub as_many : valid_data g s ≡ count g.L (λ l. not (eqb (current g s l) none))
+  pub as_many : count (region_pages g Data) (λ p. is_valid p s.spare) ≡ count g.L (λ l. not (eqb (current g s l) none))
 
 abbrev pub read_bound : Geometry → ℕ
 read_bound g = 2 * g.P + 3
@@ -31,27 +26,19 @@ read_bound g = 2 * g.P + 3
 abbrev pub write_bound : Geometry → ℕ
 write_bound g = (2 * g.P + 1) * (g.P + 1)
 
--- 02, P6: "A discard finishes within 2P+2 counted operations."
-abbrev pub discard_bound : Geometry → ℕ
-discard_bound g = 2 * g.P + 2
-
 -- "Below the limit": what is asked of a request beside right geometry and lengths, with the small record as it is then. It is said in demand
 -- 3's own words, and not by demand 1's table of grounds: else a refusal more would narrow it without a word of it being changed.
 abbrev pub BelowLimit : Geometry → SmallRecord → Request → Type 0
 BelowLimit g small q = q.page < g.L
 
--- A read, a write and a discard by its answer and its operations.
+-- A read, and a write, by its answer and its operations.
 abbrev pub ReadsWell : Geometry → ℕ → List Operation → Type 0
 ReadsWell g reply did = ((reply ≡ DONE) ⊎ (reply ≡ UNWRITTEN)) × (cost did ≤ read_bound g)
 
 abbrev pub WritesWell : Geometry → ℕ → List Operation → Type 0
 WritesWell g reply did = (reply ≡ DONE) × (cost did ≤ write_bound g)
 
-abbrev pub DiscardsWell : Geometry → ℕ → List Operation → Type 0
-DiscardsWell g reply did = ((reply ≡ DONE) ⊎ (reply ≡ UNWRITTEN)) × (cost did ≤ discard_bound g)
-
 -- A request by its kind, be it a single call's or a record's.
 pub record ServesWell (g : Geometry) (q : Request) (reply : ℕ) (did : List Operation) : Type 0 where
   pub as_read : q.kind ≡ 0 → ReadsWell g reply did
   pub as_write : q.kind ≡ 1 → WritesWell g reply did
-  pub as_discard : q.kind ≡ 2 → DiscardsWell g reply did

@@ -4,7 +4,7 @@ use Rattle.scope.specs.Geometry.{Geometry}
 use Rattle.scope.specs.Lent.{Request}
 use Rattle.scope.specs.Operations.{Outcome, Step}
 use Rattle.scope.specs.Replies.{Size}
-use Rattle.scope.specs.Calls.{format, check, read, write, discard, run}
+use Rattle.scope.specs.Calls.{format, check, read, write, run}
 
 -- A call, with the sizes that it tests beside those of the state and of its own buffers.
 pub data Call : Type 0 where
@@ -12,7 +12,6 @@ pub data Call : Type 0 where
   Check : List Size → Call
   ReadPage : List Size → ℕ → List ℕ → Call
   WritePage : List Size → ℕ → List ℕ → Call
-  DiscardPage : List Size → ℕ → Call
   Run : List Size → List Request → List ℕ → List ℕ → Call
 
 -- What a call hands back beside the state and the counts: its number, the words of its page buffer or of a run's data buffer, and a run's
@@ -33,7 +32,6 @@ make g (ReadPage others l buffer) s =
     answer (read g others l buffer s) (λ r. record { reply = r.reply; words = r.buffer; answers = [] })
 make g (WritePage others l buffer) s =
     answer (write g others l buffer s) (λ r. record { reply = r.reply; words = r.buffer; answers = [] })
-make g (DiscardPage others l) s = answer (discard g others l s) (λ n. record { reply = n; words = []; answers = [] })
 make g (Run others requests words answers) s =
     answer (run g others requests words answers s) (λ r. record { reply = r.reply; words = r.words; answers = r.answers })
 
@@ -43,5 +41,4 @@ as_lent (Format others) n = record { reply = n; words = []; answers = [] }
 as_lent (Check others) n = record { reply = n; words = []; answers = [] }
 as_lent (ReadPage others l buffer) n = record { reply = n; words = buffer; answers = [] }
 as_lent (WritePage others l buffer) n = record { reply = n; words = buffer; answers = [] }
-as_lent (DiscardPage others l) n = record { reply = n; words = []; answers = [] }
 as_lent (Run others requests words answers) n = record { reply = n; words = words; answers = answers }

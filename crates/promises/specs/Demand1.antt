@@ -1,9 +1,8 @@
 -- Demand 1 of any call from any state: each call's law (Refusals.antt), and what a run makes of its records' (Records.antt).
 use Prim.Native.Nat.{ℕ, zero, suc, ◌*◌, ◌<◌}
-use Rattle.std.specs.Prelude.{◌≡◌, ◌≢◌, ◌⊎◌, length, get_or}
+use Rattle.std.specs.Prelude.{◌≡◌, ◌≢◌, length, get_or}
 use Rattle.std.proofs.Math.Path.{refl, ap, ap₂}
-use Rattle.std.proofs.Common.{◌∙◌}
-use Rattle.std.proofs.Math.Logic.{inl, inr}
+use Rattle.std.proofs.Common.{◌∙◌, inl, inr}
 use mathlib.Core.List.{List, [], ◌++◌, append-nil}
 use native.Mathlib.Omega.{arith}
 use Rattle.scope.specs.Geometry.{Geometry}
@@ -13,13 +12,13 @@ use Rattle.scope.specs.Replies.{DONE, UNWRITTEN, Size}
 use Rattle.scope.specs.Requests.{Replied, replied, format_steps}
 use Rattle.scope.specs.Calls.{read_of, write_of, RunReplied, no_request, part, serve, serve_records, check, read, write, run, state_sizes, run_sizes}
 use Rattle.flash.specs.Cases.{below?}
-use Rattle.promises.specs.Call.{Call, Format, Check, ReadPage, WritePage, DiscardPage, Run, answer, make, as_lent}
+use Rattle.promises.specs.Call.{Call, Format, Check, ReadPage, WritePage, Run, answer, make, as_lent}
 use Rattle.promises.specs.Grounds.{Ground, Refuses, Refusal, AllPassed, request_grounds, grounds}
 use Rattle.promises.specs.EachRecord.{Unchanged, before_record, record_outcome, records_did, Ran}
 use Rattle.promises.specs.Serve.{serve_hands_back}
 use Rattle.promises.specs.Tests.{ByGrounds}
 use Rattle.promises.specs.GroundsDecided.{right_behind}
-use Rattle.promises.specs.Refusals.{run_reply, record_by_grounds, format_by_grounds, check_by_grounds, read_by_grounds, write_by_grounds, discard_by_grounds, run_by_grounds}
+use Rattle.promises.specs.Refusals.{run_reply, record_by_grounds, format_by_grounds, check_by_grounds, read_by_grounds, write_by_grounds, run_by_grounds}
 use Rattle.promises.specs.Records.{so_far, answer_of, record_stores, final_answer, kept_words, length_words, length_answers, answer_is_outcome}
 
 module _ {A : Type 0} {rows : List Ground} {reply : A → ℕ} {refused : ℕ → A} {steps : Step A} {s : State} {o : Outcome A}
@@ -159,13 +158,6 @@ module _ (g : Geometry) (s : State) where
         refuses = λ h. ap (λ (o : Outcome Replied). answer o (λ r. record { reply = r.reply; words = r.buffer; answers = [] })) (t.refuses h);
         passes = passed t;
       }
-  tested (DiscardPage others l) =
-      let t = discard_by_grounds g others l s in
-      record {
-        answers = t.answers;
-        refuses = λ h. ap (λ (o : Outcome ℕ). answer o (λ n. record { reply = n; words = []; answers = [] })) (t.refuses h);
-        passes = passed t;
-      }
   tested (Run others requests words answers) =
       let t = run_by_grounds g others requests words answers s in
       record {
@@ -175,22 +167,20 @@ module _ (g : Geometry) (s : State) where
         passes = passed t;
       }
 
-  -- UNWRITTEN is the answer of a read or a discard: the others are DONE where they aren't refused.
-  pub unwritten_by : (c : Call) → (make g c s).value.reply ≡ UNWRITTEN
-      → ((others : List Size) × (l : ℕ) × (buffer : List ℕ) × (c ≡ ReadPage others l buffer))
-      ⊎ ((others : List Size) × (l : ℕ) × (c ≡ DiscardPage others l))
+  -- UNWRITTEN is a read's answer: the others are DONE where they aren't refused.
+  pub unwritten_by_read : (c : Call) → (make g c s).value.reply ≡ UNWRITTEN
+      → (others : List Size) × (l : ℕ) × (buffer : List ℕ) × (c ≡ ReadPage others l buffer)
   unfolding format_steps give ◌>>=◌
-  unwritten_by (Format others) e = absurd (omega (arith, replies (format_by_grounds g others s) DONE refl (λ h. omega arith)))
-  unwritten_by (Check others) e = absurd (omega (arith, replies (check_by_grounds g others s) DONE refl (λ h. omega arith)))
-  unwritten_by (ReadPage others l buffer) e = inl (others, l, buffer, refl)
-  unwritten_by (DiscardPage others l) e = inr (others, l, refl)
-  unwritten_by (WritePage others l buffer) e =
+  unwritten_by_read (Format others) e = absurd (omega (arith, replies (format_by_grounds g others s) DONE refl (λ h. omega arith)))
+  unwritten_by_read (Check others) e = absurd (omega (arith, replies (check_by_grounds g others s) DONE refl (λ h. omega arith)))
+  unwritten_by_read (ReadPage others l buffer) e = (others, l, buffer, refl)
+  unwritten_by_read (WritePage others l buffer) e =
       absurd (omega (
         arith,
         replies (write_by_grounds g others l buffer s) DONE
             ((serve_hands_back g (write_of l) buffer s).write_done refl) (λ h. omega arith),
       ))
-  unwritten_by (Run others requests words answers) e =
+  unwritten_by_read (Run others requests words answers) e =
       absurd (omega (
         arith,
         replies (run_by_grounds g others requests words answers s) DONE

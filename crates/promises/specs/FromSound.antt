@@ -9,18 +9,18 @@ use Rattle.scope.specs.Lent.{none, State, Request, most_requests}
 use Rattle.scope.specs.Operations.{Outcome, give}
 use Rattle.scope.specs.Replies.{DONE, UNWRITTEN, Size}
 use Rattle.scope.specs.Requests.{Replied, format_steps}
-use Rattle.scope.specs.Calls.{state_sizes, buffer_sizes, run_sizes, read_of, write_of, discard_of, RunReplied, part, no_request, format, check, read, write, discard, run}
+use Rattle.scope.specs.Calls.{state_sizes, buffer_sizes, run_sizes, read_of, write_of, RunReplied, part, no_request, format, check, read, write, run}
 use Rattle.flash.specs.Cases.{below?}
 use Rattle.promises.specs.Grounds.{Right, Refusal, AllPassed, request_grounds, single_grounds}
-use Rattle.promises.specs.Call.{Call, Format, Check, ReadPage, WritePage, DiscardPage, Run, make}
+use Rattle.promises.specs.Call.{Call, Format, Check, ReadPage, WritePage, Run, make}
 use Rattle.promises.specs.EachRecord.{before_record, record_outcome}
-use Rattle.promises.specs.Remembered.{noted, noted_records, Holding, Store, Tells, Takes}
+use Rattle.promises.specs.Remembered.{noted, noted_records, Holding, Store, Tells}
 use Rattle.promises.specs.Bounds.{BelowLimit, ServesWell}
 use Rattle.promises.specs.GroundsDecided.{right_both, below_passes, page_passed, single_passes, buffer_passed, own_passed}
-use Rattle.promises.specs.Refusals.{format_by_grounds, check_by_grounds, record_by_grounds, read_by_grounds, write_by_grounds, discard_by_grounds, run_by_grounds, run_reply}
+use Rattle.promises.specs.Refusals.{format_by_grounds, check_by_grounds, record_by_grounds, read_by_grounds, write_by_grounds, run_by_grounds, run_reply}
 use Rattle.promises.specs.Records.{so_far, answer_of, record_stores, final_words, part_here, length_words, state_so_far, answer_is_outcome}
 use Rattle.promises.specs.Demand1.{run_is_records, run_fits, record_answer}
-use Rattle.promises.specs.Standing.{Standing, Leaves, lengths_right, serves, serve_tells, format_leaves, check_leaves, read_leaves, write_leaves, discard_leaves, discard_steps_take, discard_steps_well}
+use Rattle.promises.specs.Standing.{Standing, Leaves, lengths_right, serves, serve_tells, format_leaves, check_leaves, read_leaves, write_leaves}
 use Rattle.promises.specs.HeldWords.{held_long}
 use Rattle.promises.specs.RunStands.{RecordStands, records_leave, answers_at, run_leaves}
 
@@ -34,7 +34,6 @@ module _ {g : Geometry} (ok : Accepted g) where
       let a = read_leaves ok stands others l buffer in record { stands = a.stands; done = a.done }
   call_leaves stands (WritePage others l buffer) =
       let a = write_leaves ok stands others l buffer in record { stands = a.stands; done = a.done }
-  call_leaves stands (DiscardPage others l) = let a = discard_leaves ok stands others l in record { stands = a.stands; done = a.done }
   call_leaves stands (Run others requests words answers) =
       let a = run_leaves ok others requests words answers stands in record { stands = a.stands; done = a.done }
 
@@ -50,31 +49,15 @@ module _ {g : Geometry} (ok : Accepted g) where
         (λ h.
         let passed = (t.served h).0 in
         rw (t.served h).1
-        (serve_tells ok (read_of l) buffer stands (own_passed g (buffer_sizes g buffer ++ others) (read_of l) s passed)
-        (buffer_passed g others (read_of l) buffer s passed) refl))
-
-    pub discard_call_takes : (others : List Size) (l : ℕ) →
-        let n = (discard g others l s).value in ¬ (Refusal n) → Takes (store l) n
-    discard_call_takes others l n =
-        let t = discard_by_grounds g others l s in
-        below? UNWRITTEN (discard g others l s).value
-        (λ h. absurd (n h))
-        (λ h. rw (t.served h).1 (discard_steps_take ok stands l (own_passed g others (discard_of l) s (t.served h).0)))
-
-    single_admits : (beside : List Size) → Right beside → (q : Request) → AllPassed (request_grounds g s.small q)
-        → AllPassed (single_grounds g beside q s)
-    single_admits beside right q passed =
-        single_passes g beside q s ok (right_both (state_sizes g s) beside (lengths_right g s stands.lengths) right) stands.sound passed
-
-    pub discard_well : (others : List Size) (l : ℕ) → Right others → BelowLimit g s.small (discard_of l) →
-        let o = discard g others l s in ServesWell g (discard_of l) o.value o.did
-    discard_well others l right below =
-        let passed = below_passes g s.small (discard_of l) (omega arith) below in
-        rw ((discard_by_grounds g others l s).serves (single_admits others right (discard_of l) passed)) (discard_steps_well ok stands l passed)
+        (serve_tells ok (read_of l) buffer stands (own_passed g others (read_of l) buffer s passed) (buffer_passed g others (read_of l) buffer s passed)
+        refl))
 
     module _ (others : List Size) (l : ℕ) (buffer : List ℕ) (right : Right (buffer_sizes g buffer ++ others)) where
-      admits : (q : Request) → AllPassed (request_grounds g s.small q) → AllPassed (single_grounds g (buffer_sizes g buffer ++ others) q s)
-      admits = single_admits (buffer_sizes g buffer ++ others) right
+      admits : (q : Request) → AllPassed (request_grounds g s.small q) → AllPassed (single_grounds g others q buffer s)
+      admits q passed =
+          single_passes g others q buffer s ok
+          (right_both (state_sizes g s) (buffer_sizes g buffer ++ others) (lengths_right g s stands.lengths) right)
+          stands.sound passed
 
       pub read_well : BelowLimit g s.small (read_of l) →
           let o = read g others l buffer s in ServesWell g (read_of l) o.value.reply o.did
@@ -123,11 +106,6 @@ module _ {g : Geometry} (ok : Accepted g) where
           (records_leave ok requests words answers stands words_fit replies i (omega arith)
           (λ j k. record_answer g others requests words answers s done j (omega arith))).stands
 
-      -- The same of the state before the record.
-      pub stands_before : Standing g (before_record g requests words s i) (noted_records g requests words replies i store)
-      stands_before =
-          subst (λ (t : State). Standing g t (noted_records g requests words replies i store)) (state_so_far g requests words answers s i) stands_here
-
       reply_is : get_or replies i none ≡ a.value.reply
       reply_is = record_answer g others requests words answers s done i h
 
@@ -167,10 +145,6 @@ module _ {g : Geometry} (ok : Accepted g) where
           inl (reply_is ∙ d.0, d.1 ∙ ap Holding (sym (part_is long))))
           (λ d. inr (reply_is ∙ d.0, d.1))
           (answers_here.tells passed kind)
-
-      pub record_takes : ¬ (Refusal (get_or replies i none)) → q.kind ≡ 2
-          → Takes (noted_records g requests words replies i store q.page) (get_or replies i none)
-      record_takes n kind = rw reply_is (answers_here.takes (not_refused n) kind)
 
       pub record_well : BelowLimit g (before_record g requests words s i).small q
           → ServesWell g q (get_or replies i none) (record_outcome g requests words s i).did

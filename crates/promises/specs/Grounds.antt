@@ -6,8 +6,8 @@ use Rattle.scope.specs.SmallRecord.{SmallRecord}
 use Rattle.scope.specs.Lent.{State, Request, most_requests}
 use Rattle.scope.specs.Sound.{Sound}
 use Rattle.scope.specs.Replies.{GEOMETRY, LENGTH, DAMAGED, KIND, PAGE, Size}
-use Rattle.scope.specs.Calls.{state_sizes, buffer_sizes, run_sizes, kinds, read_of, write_of, discard_of}
-use Rattle.promises.specs.Call.{Call, Format, Check, ReadPage, WritePage, DiscardPage, Run}
+use Rattle.scope.specs.Calls.{state_sizes, buffer_sizes, run_sizes, kinds, read_of, write_of}
+use Rattle.promises.specs.Call.{Call, Format, Check, ReadPage, WritePage, Run}
 
 -- A number that refuses: neither DONE nor UNWRITTEN.
 abbrev pub Refusal : ℕ → Type 0
@@ -66,19 +66,18 @@ request_grounds g small q =
 
 -- ---- the table of each call
 
--- A read, a write or a discard, as the request that it is.
-abbrev pub single_grounds : Geometry → List Size → Request → State → List Ground
-single_grounds g beside q s =
-    let sizes = state_sizes g s ++ beside in
+-- A read or a write, as the request that it is.
+abbrev pub single_grounds : Geometry → List Size → Request → List ℕ → State → List Ground
+single_grounds g others q buffer s =
+    let sizes = state_sizes g s ++ buffer_sizes g buffer ++ others in
     state_grounds g s (Right sizes) (Wrong sizes) ++ request_grounds g s.small q
 
 -- "LENGTH: some slice differs from the sizes above, or a run has over 1,024 records."
 abbrev pub grounds : Geometry → Call → State → List Ground
 grounds g (Format others) s = size_grounds g (Right (state_sizes g s ++ others)) (Wrong (state_sizes g s ++ others))
 grounds g (Check others) s = state_grounds g s (Right (state_sizes g s ++ others)) (Wrong (state_sizes g s ++ others))
-grounds g (ReadPage others l buffer) s = single_grounds g (buffer_sizes g buffer ++ others) (read_of l) s
-grounds g (WritePage others l buffer) s = single_grounds g (buffer_sizes g buffer ++ others) (write_of l) s
-grounds g (DiscardPage others l) s = single_grounds g others (discard_of l) s
+grounds g (ReadPage others l buffer) s = single_grounds g others (read_of l) buffer s
+grounds g (WritePage others l buffer) s = single_grounds g others (write_of l) buffer s
 grounds g (Run others requests words answers) s =
     let sizes = state_sizes g s ++ run_sizes g requests words answers ++ others in
     state_grounds g s (Right sizes × (length requests ≤ most_requests)) (Wrong sizes ⊎ (most_requests < length requests))

@@ -104,9 +104,10 @@ abbrev pub check_decided : (g : Geometry) (others : List Size) (s : State) → A
 check_decided g others s =
     let sizes = state_sizes g s ++ others in state_decided g s (right_sizes sizes) (right_decided sizes) (wrong_decided sizes)
 
-abbrev pub single_decided : (g : Geometry) (beside : List Size) (q : Request) (s : State) → AllDecided (single_grounds g beside q s)
-single_decided g beside q s =
-    let sizes = state_sizes g s ++ beside in
+abbrev pub single_decided : (g : Geometry) (others : List Size) (q : Request) (buffer : List ℕ) (s : State)
+    → AllDecided (single_grounds g others q buffer s)
+single_decided g others q buffer s =
+    let sizes = state_sizes g s ++ buffer_sizes g buffer ++ others in
     decided_then (state_grounds g s (Right sizes) (Wrong sizes)) (request_grounds g s.small q)
     (state_decided g s (right_sizes sizes) (right_decided sizes) (wrong_decided sizes))
     (request_decided g s.small q)
@@ -144,15 +145,14 @@ module _ (g : Geometry) (small : SmallRecord) (q : Request) where
   pub page_passed : AllPassed (request_grounds g small q) → q.page < g.L
   page_passed h = h.1.0
 
-module _ (g : Geometry) (beside : List Size) (q : Request) (s : State) where
-  pub single_passes : Accepted g → Right (state_sizes g s ++ beside) → Sound g s
-      → AllPassed (request_grounds g s.small q) → AllPassed (single_grounds g beside q s)
+module _ (g : Geometry) (others : List Size) (q : Request) (buffer : List ℕ) (s : State) where
+  pub single_passes : Accepted g → Right (state_sizes g s ++ buffer_sizes g buffer ++ others) → Sound g s
+      → AllPassed (request_grounds g s.small q) → AllPassed (single_grounds g others q buffer s)
   single_passes ok right holds h = (ok, (right, (holds, h)))
 
-  pub own_passed : AllPassed (single_grounds g beside q s) → AllPassed (request_grounds g s.small q)
-  own_passed h = h.1.1.1
+  module _ (h : AllPassed (single_grounds g others q buffer s)) where
+    pub buffer_passed : length buffer ≡ g.W
+    buffer_passed = (right_behind (state_sizes g s) (buffer_sizes g buffer ++ others) h.1.0).0
 
--- The buffer that a read or a write lends, with others behind it.
-pub buffer_passed : (g : Geometry) (others : List Size) (q : Request) (buffer : List ℕ) (s : State)
-    → AllPassed (single_grounds g (buffer_sizes g buffer ++ others) q s) → length buffer ≡ g.W
-buffer_passed g others q buffer s h = (right_behind (state_sizes g s) (buffer_sizes g buffer ++ others) h.1.0).0
+    pub own_passed : AllPassed (request_grounds g s.small q)
+    own_passed = h.1.1.1

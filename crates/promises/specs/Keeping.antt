@@ -4,7 +4,7 @@ use Rattle.std.proofs.Common.{◌∙◌, ap, arith}
 use Rattle.scope.specs.Geometry.{Geometry}
 use Rattle.scope.specs.Lent.{Entry, Place, Nowhere, decode, State}
 use Rattle.scope.specs.Regions.{Data, Translation}
-use Rattle.scope.specs.Operations.{Operation, Outcome}
+use Rattle.scope.specs.Operations.{Operation, Outcome, apply, apply_all}
 use Rattle.scope.specs.Laws.Applied.{SameFlash, flash_as}
 use Rattle.scope.specs.Sound.{current, Sound}
 use Rattle.flash.specs.Moments.{cost}
@@ -15,7 +15,7 @@ use Rattle.flash.specs.SamePages.{SamePages, same_refl, same_trans}
 use Rattle.flash.specs.Listed.{cost_++, cost_none}
 use Rattle.region.specs.Holds.{RegionHolds, contents}
 use Rattle.region.specs.Carried.{holds_same, contents_same}
-use Rattle.region.specs.Done.{Done, Readable, done_none, done_read, done_then}
+use Rattle.region.specs.Done.{Done, done_none, done_then}
 use Rattle.cache.specs.Holds.{Found}
 use Rattle.cache.specs.Steps.{CacheStep}
 use Rattle.cache.specs.Fetch.{page_read}
@@ -112,15 +112,16 @@ module _ {A : Type 0} {g : Geometry} {s : State} {o : Outcome A} {ops : List Ope
   pub step_index : IndexFits g s → IndexFits g o.after
   step_index = index_same step.flash step.directory (step.heads Translation)
 
-reads_done : (g : Geometry) (s s' : State) (e : Entry) → Readable g s e → SameFlash s' s → Done g s (page_read e) s'
-reads_done g s s' (Place p) readable flash = done_read g p flash readable
-reads_done g s s' Nowhere readable flash = done_none g flash
+reads_done : (g : Geometry) (s s' : State) (e : Entry) → SameFlash s' s → Done g s (page_read e) s'
+unfolding apply apply_all
+reads_done g s s' (Place p) flash = record { flash = flash; allowed = (tt, tt) }
+reads_done g s s' Nowhere flash = record { flash = flash; allowed = tt }
 
 -- One that keeps current places, with the read of a page or none.
 pub cache_kept : {A : Type 0} {g : Geometry} {s : State} {o : Outcome A} {used bound : ℕ} {m : ℕ → Found} (e : Entry)
-    → Readable g s e → Sound g s → Lengths g s → CacheStep g s o (page_read e) used m → PlacesKept g s o.after
-    → cost (page_read e) ≤ bound → Kept g bound s o
-cache_kept {g = g} {s} {o} e readable sound len step places few =
+    → Sound g s → Lengths g s → CacheStep g s o (page_read e) used m → PlacesKept g s o.after → cost (page_read e) ≤ bound
+    → Kept g bound s o
+cache_kept {g = g} {s} {o} e sound len step places few =
     record {
       sound = kept_sound sound (step_index step (index_of sound))
           (record { entries = step.holds.entries; border = step.border sound.rule_5_protected; agree = places.agree })
@@ -128,6 +129,6 @@ cache_kept {g = g} {s} {o} e readable sound len step places few =
       lengths = step_lengths step len;
       places = places.places;
       pages = step_pages step;
-      done = rw step.did (reads_done g s o.after e readable step.flash);
+      done = rw step.did (reads_done g s o.after e step.flash);
       costs = rw step.did few;
     }

@@ -18,8 +18,6 @@ pub mod Replacement
 pub mod HeldWords
 pub mod Read
 pub mod Write
-pub mod Discard
-pub mod Discarded
 pub mod Serve
 pub mod Formatted
 -- Demand 1.

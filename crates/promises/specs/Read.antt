@@ -3,17 +3,16 @@ use Rattle.std.specs.Prelude.{ℕ, ◌+◌, ◌*◌, ◌<◌, ◌≡◌, refl, L
 use Rattle.std.proofs.Common.{sym, ◌∙◌, inl, inr, arith}
 use Rattle.std.proofs.Math.Path.{ap, subst}
 use Rattle.scope.specs.Geometry.{Geometry, Accepted}
-use Rattle.scope.specs.Regions.{Data}
 use Rattle.scope.specs.Lent.{Entry, Place, Nowhere, decode, State, physical_at}
 use Rattle.scope.specs.Operations.{Outcome, give, look, perform, apply, counted, ◌>>=◌}
 use Rattle.scope.specs.Room.{read_page}
 use Rattle.scope.specs.Steps.{translate}
 use Rattle.scope.specs.Requests.{Replied, read_place, read_steps}
-use Rattle.scope.specs.Sound.{Names, current, Sound}
+use Rattle.scope.specs.Sound.{current, Sound}
 use Rattle.scope.specs.Laws.Applied.{flash_as}
 use Rattle.flash.specs.Lengths.{Lengths}
 use Rattle.flash.specs.SamePages.{same_refl}
-use Rattle.region.specs.Done.{Readable, names_readable, done_none, done_read}
+use Rattle.region.specs.Done.{done_none, done_read}
 use Rattle.cache.specs.Ranks.{HasRank}
 use Rattle.cache.specs.Current.{stored_in, place_or, current_is}
 use Rattle.promises.specs.Remembered.{words_at, held, Tells}
@@ -30,31 +29,26 @@ entry_place {g} s len sound l i r =
     sym (current_is g s (cached g s) holds l
     ∙ ap (place_or (stored_in g s l)) (ap (cached g s) (sym r.is_l) ∙ holds.hits i r.in_use))
 
-pub entry_named : {g : Geometry} (s : State) → Lengths g s → Sound g s → (l i : ℕ) → HasRank s.cache s.small.used l i → l < g.L
-    → Names g Data s.spare l (decode (physical_at i s.cache))
-entry_named {g} s len sound l i r below =
-    subst (λ (x : ℕ). Names g Data s.spare l (decode x)) (sym (entry_place s len sound l i r)) (sound.rule_6.current_place l below)
-
 record PlaceRead (g : Geometry) (e : Entry) (s : State) (o : Outcome Replied) : Type 0 where
   kept : Kept g 1 s o
   tells : Tells (words_at g s.chip e) o.value.reply o.value.buffer
 
-place_law : (g : Geometry) (buffer : List ℕ) (e : Entry) (s : State) → Readable g s e → Lengths g s → Sound g s
+place_law : (g : Geometry) (buffer : List ℕ) (e : Entry) (s : State) → Lengths g s → Sound g s
     → PlaceRead g e s (read_place g buffer e s)
 unfolding read_place read_page perform look give apply counted ◌>>=◌
-place_law g buffer (Place p) s readable len sound =
+place_law g buffer (Place p) s len sound =
     record {
       kept = record {
         sound = sound;
         lengths = len;
         places = λ l h. refl;
         pages = same_refl;
-        done = done_read g p (flash_as refl) readable;
+        done = done_read g p;
         costs = omega arith;
       };
       tells = inl (refl, refl);
     }
-place_law g buffer Nowhere s readable len sound =
+place_law g buffer Nowhere s len sound =
     record {
       kept = record {
         sound = sound;
@@ -86,8 +80,7 @@ module _ {g : Geometry} (ok : Accepted g) where
           let kept = done.kept in
           let e = entry_place s₁ kept.lengths kept.sound l t.value done.rank in
           let entry = decode (physical_at t.value s₁.cache) in
-          let readable = names_readable g s₁ Data l entry (entry_named s₁ kept.lengths kept.sound l t.value done.rank below) in
-          let read = place_law g buffer entry s₁ readable kept.lengths kept.sound in
+          let read = place_law g buffer entry s₁ kept.lengths kept.sound in
           let o = read_place g buffer entry s₁ in
           let same : words_at g s₁.chip entry ≡ held g s l =
           ap (λ (x : ℕ). words_at g s₁.chip (decode x)) e

@@ -1,16 +1,16 @@
--- Demand 1 of the six calls and of a record of a run: the one law of Tests.antt at the grounds of each. A read and a write are, where they
--- pass, the steps of their requests; a discard's steps are those of its record, which has words beside them.
-use Rattle.std.specs.Prelude.{ℕ, zero, suc, ◌≡◌, refl, List, ◌++◌, length}
+-- Demand 1 of the five calls and of a record of a run: the one law of Tests.antt at the grounds of each. A read and a write are, where they
+-- pass, the steps of their requests.
+use Rattle.std.specs.Prelude.{ℕ, zero, suc, ◌≡◌, refl, List, length}
 use Rattle.std.proofs.Common.{arith}
 use Rattle.scope.specs.Geometry.{Geometry}
 use Rattle.scope.specs.Lent.{State, Request}
 use Rattle.scope.specs.Operations.{give, look, ◌>>=◌}
 use Rattle.scope.specs.Replies.{DONE, Size}
-use Rattle.scope.specs.Requests.{replied, discard_steps, format_steps}
-use Rattle.scope.specs.Calls.{buffer_sizes, read_of, write_of, discard_of, run_replied, serve, answer_record, serve_record, serve_records, format, check, read, write, discard, run}
+use Rattle.scope.specs.Requests.{replied, format_steps}
+use Rattle.scope.specs.Calls.{read_of, write_of, run_replied, serve, answer_record, serve_record, serve_records, format, check, read, write, run}
 use Rattle.promises.specs.Call.{Format, Check, Run}
 use Rattle.promises.specs.Grounds.{request_grounds, single_grounds, grounds}
-use Rattle.promises.specs.Serve.{discard_within, serve_hands_back}
+use Rattle.promises.specs.Serve.{serve_hands_back}
 use Rattle.promises.specs.Tests.{ByGrounds, by_grounds}
 use Rattle.promises.specs.GroundsDecided.{request_decided, format_decided, check_decided, single_decided, run_decided}
 
@@ -47,28 +47,19 @@ check_by_grounds g others s =
     (λ n. refl) (omega arith)
 
 module _ (g : Geometry) (others : List Size) (l : ℕ) (buffer : List ℕ) (s : State) where
-  pub read_by_grounds : ByGrounds (single_grounds g (buffer_sizes g buffer ++ others) (read_of l) s) (λ r. r.reply) (replied buffer)
+  pub read_by_grounds : ByGrounds (single_grounds g others (read_of l) buffer s) (λ r. r.reply) (replied buffer)
       (serve g (read_of l) buffer) s (read g others l buffer s)
   unfolding read serve look ◌>>=◌
   read_by_grounds =
-      by_grounds (single_grounds g (buffer_sizes g buffer ++ others) (read_of l) s)
-      (single_decided g (buffer_sizes g buffer ++ others) (read_of l) s) (omega arith)
+      by_grounds (single_grounds g others (read_of l) buffer s) (single_decided g others (read_of l) buffer s) (omega arith)
       (λ r. r.reply) (replied buffer) (serve g (read_of l) buffer) s (λ n. refl) (serve_hands_back g (read_of l) buffer s).within
 
-  pub write_by_grounds : ByGrounds (single_grounds g (buffer_sizes g buffer ++ others) (write_of l) s) (λ r. r.reply) (replied buffer)
+  pub write_by_grounds : ByGrounds (single_grounds g others (write_of l) buffer s) (λ r. r.reply) (replied buffer)
       (serve g (write_of l) buffer) s (write g others l buffer s)
   unfolding write serve look ◌>>=◌
   write_by_grounds =
-      by_grounds (single_grounds g (buffer_sizes g buffer ++ others) (write_of l) s)
-      (single_decided g (buffer_sizes g buffer ++ others) (write_of l) s) (omega arith)
+      by_grounds (single_grounds g others (write_of l) buffer s) (single_decided g others (write_of l) buffer s) (omega arith)
       (λ r. r.reply) (replied buffer) (serve g (write_of l) buffer) s (λ n. refl) (serve_hands_back g (write_of l) buffer s).within
-
-pub discard_by_grounds : (g : Geometry) (others : List Size) (l : ℕ) (s : State)
-    → ByGrounds (single_grounds g others (discard_of l) s) (λ n. n) (λ n. n) (discard_steps g l) s (discard g others l s)
-unfolding discard look ◌>>=◌
-discard_by_grounds g others l s =
-    by_grounds (single_grounds g others (discard_of l) s) (single_decided g others (discard_of l) s) (omega arith)
-    (λ n. n) (λ n. n) (discard_steps g l) s (λ n. refl) (discard_within g l s)
 
 pub run_by_grounds : (g : Geometry) (others : List Size) (requests : List Request) (words answers : List ℕ) (s : State)
     → ByGrounds (grounds g (Run others requests words answers) s) (λ r. r.reply) (run_replied words answers)

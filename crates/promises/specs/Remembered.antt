@@ -1,11 +1,11 @@
 -- The store: what a program may remember of the calls that it made and their answers. Demand 2 says that reads tell it.
-use Rattle.std.specs.Prelude.{ℕ, zero, suc, ◌≡◌, ◌⊎◌, cond, List, eqb, length, get_or}
+use Rattle.std.specs.Prelude.{ℕ, zero, suc, ◌≡◌, ◌⊎◌, cond, ◌&&◌, List, eqb, length, get_or}
 use Rattle.scope.specs.Geometry.{Geometry}
 use Rattle.scope.specs.Lent.{none, Entry, Place, Nowhere, decode, State, Request, words_of}
 use Rattle.scope.specs.Sound.{current}
 use Rattle.scope.specs.Replies.{DONE, UNWRITTEN}
 use Rattle.scope.specs.Calls.{part, no_request}
-use Rattle.promises.specs.Call.{Call, Format, Check, ReadPage, WritePage, DiscardPage, Run, Answer}
+use Rattle.promises.specs.Call.{Call, Format, Check, ReadPage, WritePage, Run, Answer}
 
 -- The store: to each logical page its words, or nothing.
 pub data Held : Type 0 where
@@ -15,17 +15,12 @@ pub data Held : Type 0 where
 abbrev pub Store : Type 0
 Store = ℕ → Held
 
-abbrev pub with_page : ℕ → Held → Store → Store
-with_page l content store k = cond (eqb k l) content (store k)
+abbrev pub with_words : ℕ → List ℕ → Store → Store
+with_words l words store k = cond (eqb k l) (Holding words) (store k)
 
--- What a request does to the store where it answered DONE: a write's page holds its words, a discard's nothing; a read leaves it.
-abbrev pub with_request : Request → List ℕ → Store → Store
-with_request q words store =
-    cond (eqb q.kind 1) (with_page q.page (Holding words) store) (cond (eqb q.kind 2) (with_page q.page Nothing store) store)
-
--- A run's records in order, each by its own answer.
+-- A run's records in order, each by its own answer: a write counts where it answered DONE.
 abbrev pub noted_record : Request → List ℕ → ℕ → Store → Store
-noted_record q words reply store = cond (eqb reply DONE) (with_request q words store) store
+noted_record q words reply store = cond (eqb q.kind 1 && eqb reply DONE) (with_words q.page words store) store
 
 abbrev pub noted_records : Geometry → List Request → List ℕ → List ℕ → ℕ → Store → Store
 noted_records g requests words answers zero store = store
@@ -38,8 +33,7 @@ abbrev pub noted : Geometry → Call → Answer → Store → Store
 noted g (Format others) a store = cond (eqb a.reply DONE) (λ l. Nothing) store
 noted g (Check others) a store = store
 noted g (ReadPage others l buffer) a store = store
-noted g (WritePage others l buffer) a store = cond (eqb a.reply DONE) (with_page l (Holding buffer) store) store
-noted g (DiscardPage others l) a store = cond (eqb a.reply DONE) (with_page l Nothing store) store
+noted g (WritePage others l buffer) a store = cond (eqb a.reply DONE) (with_words l buffer store) store
 noted g (Run others requests words answers) a store =
     cond (eqb a.reply DONE) (noted_records g requests words a.answers (length requests) store) store
 
@@ -54,7 +48,3 @@ held g s l = words_at g s.chip (decode (current g s l))
 -- An answer, not a refusal, to a read of a page with this content.
 abbrev pub Tells : Held → ℕ → List ℕ → Type 0
 Tells content reply buffer = ((reply ≡ DONE) × (content ≡ Holding buffer)) ⊎ ((reply ≡ UNWRITTEN) × (content ≡ Nothing))
-
--- One to a discard of such a page: DONE or UNWRITTEN, whichever a read would have answered.
-abbrev pub Takes : Held → ℕ → Type 0
-Takes content reply = (words : List ℕ) × Tells content reply words

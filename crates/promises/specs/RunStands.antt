@@ -1,6 +1,6 @@
 -- A run keeps the store: its records one after the other, each by its own answer.
-use Rattle.std.specs.Prelude.{ℕ, zero, suc, ◌*◌, ◌≤◌, ◌<◌, ◌≡◌, cond, List, eqb, length}
-use Rattle.std.proofs.Common.{sym, ◌∙◌, subst, append-nil, mul-le-mul_right, length-take, length-drop, eq-eqb}
+use Rattle.std.specs.Prelude.{ℕ, zero, suc, ◌*◌, ◌≤◌, ◌<◌, ◌≡◌, ◌≢◌, cond, List, eqb, length}
+use Rattle.std.proofs.Common.{sym, ◌∙◌, subst, append-nil, mul-le-mul_right, length-take, length-drop, eq-eqb, ne_eqb}
 use Rattle.std.proofs.Math.Path.{ap}
 use native.Mathlib.Omega.{arith}
 use Rattle.std.proofs.Math.ListN.{get_or}
@@ -12,18 +12,18 @@ use Rattle.scope.specs.Requests.{Replied}
 use Rattle.scope.specs.Calls.{kinds, RunReplied, run_replied, part, no_request, serve, answer_record, serve_records, run}
 use Rattle.scope.specs.Laws.Applied.{flash_refl}
 use Rattle.flash.specs.Moments.{cost}
-use Rattle.flash.specs.Cases.{below?}
+use Rattle.flash.specs.Cases.{on, below?}
 use Rattle.flash.specs.Listed.{cost_none}
 use Rattle.region.specs.Done.{done_none, done_then}
 use Rattle.promises.specs.Grounds.{AllPassed, request_grounds}
-use Rattle.promises.specs.Remembered.{Store, noted_record, noted_records, Tells, Takes}
+use Rattle.promises.specs.Remembered.{Store, noted_record, noted_records, Tells}
 use Rattle.promises.specs.Bounds.{BelowLimit, ServesWell, write_bound}
-use Rattle.promises.specs.Serve.{serve_hands_back, no_kind_well, refusal_not_noted}
+use Rattle.promises.specs.Serve.{serve_hands_back, no_kind_well}
 use Rattle.promises.specs.GroundsDecided.{below_passes}
 use Rattle.promises.specs.Refusals.{run_reply, record_by_grounds, run_by_grounds}
 use Rattle.promises.specs.Demand1.{run_is_records, run_fits, record_answer}
 use Rattle.promises.specs.Records.{so_far, answer_of, record_stores, words_before, length_words}
-use Rattle.promises.specs.Standing.{Standing, Leaves, refusal_leaves, serves, serve_leaves, serve_tells, serve_takes}
+use Rattle.promises.specs.Standing.{Standing, Leaves, refusal_leaves, serves, serve_leaves, serve_tells}
 
 -- What is said of a record's answer, whether it was refused or served.
 pub record RecordStands (g : Geometry) (q : Request) (buffer : List ℕ) (s : State) (store : Store) : Type 0 where
@@ -34,10 +34,14 @@ pub record RecordStands (g : Geometry) (q : Request) (buffer : List ℕ) (s : St
   pub tells : AllPassed (request_grounds g s.small q) → q.kind ≡ 0 →
       let o = answer_record g q buffer s in
       Tells (store q.page) o.value.reply o.value.buffer
-  pub takes : AllPassed (request_grounds g s.small q) → q.kind ≡ 2 → Takes (store q.page) (answer_record g q buffer s).value.reply
   pub well : BelowLimit g s.small q →
       let o = answer_record g q buffer s in
       ServesWell g q o.value.reply o.did
+
+-- A refusal is not noted.
+refusal_not_noted : (q : Request) (words : List ℕ) (reply : ℕ) (store : Store) → reply ≢ DONE
+    → noted_record q words reply store ≡ store
+refusal_not_noted q words reply store e = on (eqb q.kind 1) (λ k. rw (k, ne_eqb reply DONE e)) (λ k. rw k)
 
 module _ {g : Geometry} (ok : Accepted g) where
   -- ---- one record
@@ -56,7 +60,6 @@ module _ {g : Geometry} (ok : Accepted g) where
               (record { stands = stands; done = done_none g flash_refl });
           costs = rw (t.refuses h) (omega (arith, cost_none));
           tells = λ passed _. absurd (admitted passed);
-          takes = λ passed _. absurd (admitted passed);
           well = λ below. below? q.kind kinds
               (λ kind. absurd (admitted (below_passes g s.small q kind below)))
               (no_kind_well g q o.value.reply o.did);
@@ -77,7 +80,6 @@ module _ {g : Geometry} (ok : Accepted g) where
           leaves = rw e (serve_leaves ok q buffer stands passed long);
           costs = rw e (serves ok q buffer stands passed long).costs;
           tells = λ _ kind. rw e (serve_tells ok q buffer stands passed long kind);
-          takes = λ _ kind. rw e (serve_takes ok q buffer stands passed long kind);
           well = λ _. rw e (serves ok q buffer stands passed long).well;
         }
 

@@ -1,9 +1,7 @@
 -- A request's steps, whatever its kind: what they hand back from any state, and what they promise from a sound one. The demands go by these
 -- two laws alone, for a record of a run and for the request that a single call is, so that a kind more is a case of them and of nothing else.
-use Rattle.std.specs.Prelude.{ℕ, zero, suc, ◌+◌, ◌*◌, ◌≤◌, ◌<◌, ◌≡◌, refl, ◌≢◌, ◌⊎◌, eqb, length}
-use Rattle.std.proofs.Math.Logic.{inl, inr}
-use Rattle.std.proofs.Common.{⊎_elim, arith, length-take}
-use mathlib.Core.List.{List, append-nil}
+use Rattle.std.specs.Prelude.{ℕ, zero, suc, ◌+◌, ◌*◌, ◌≤◌, ◌<◌, ◌≡◌, refl, ◌≢◌, ◌⊎◌, List, eqb, length}
+use Rattle.std.proofs.Common.{inl, inr, ⊎_elim, arith, length-take}
 use borrow.Author.Tests.{eqb-true, eqb-false, eq-eqb, ne_eqb}
 use Rattle.scope.specs.Geometry.{Geometry, Accepted}
 use Rattle.scope.specs.Lent.{Entry, Place, Nowhere, decode, State, Request, physical_at}
@@ -12,23 +10,22 @@ use Rattle.scope.specs.Operations.{Operation, Outcome, give, look, ◌>>=◌}
 use Rattle.scope.specs.Room.{read_page}
 use Rattle.scope.specs.Steps.{translate}
 use Rattle.scope.specs.Replies.{DONE, UNWRITTEN}
-use Rattle.scope.specs.Requests.{Replied, read_place, read_steps, write_steps, discard_place, discard_steps}
-use Rattle.scope.specs.Calls.{kinds, discard_record, serve}
+use Rattle.scope.specs.Requests.{Replied, read_place, read_steps, write_steps}
+use Rattle.scope.specs.Calls.{kinds, serve}
 use Rattle.flash.specs.Cases.{on, same?}
 use Rattle.flash.specs.Lengths.{Lengths}
 use Rattle.flash.specs.Moments.{cost}
 use Rattle.region.specs.Done.{Done}
-use Rattle.promises.specs.Remembered.{Store, Holding, Nothing, with_page, noted_record, held, Tells, Takes}
+use Rattle.promises.specs.Remembered.{Store, with_words, noted_record, held, Tells}
 use Rattle.promises.specs.Bounds.{write_bound, ServesWell}
 use Rattle.promises.specs.Keeping.{Kept, kept_contents}
 use Rattle.promises.specs.HeldWords.{held_same}
 use Rattle.promises.specs.Read.{read_law}
 use Rattle.promises.specs.Write.{write_law}
-use Rattle.promises.specs.Discard.{discard_law, unwritten_keeps}
 
 -- ---- from any state
 
--- "The words of an UNWRITTEN or refused read stay", and so do a write's and a discard's.
+-- "The words of an UNWRITTEN or refused read stay", and so do a write's.
 pub record HandsBack (g : Geometry) (q : Request) (buffer : List ℕ) (r : Replied) : Type 0 where
   pub within : r.reply ≤ UNWRITTEN
   pub at_most : length buffer ≤ g.W → length r.buffer ≤ g.W
@@ -61,36 +58,17 @@ unfolding write_steps give ◌>>=◌
 write_hands_back g q buffer s =
     record { within = omega arith; at_most = λ h. h; keeps = λ _. refl; write_done = λ _. refl }
 
-discard_place_within : (g : Geometry) (i : ℕ) (e : Entry) (s : State) → (discard_place g i e s).value ≤ UNWRITTEN
-unfolding discard_place give ◌>>=◌
-discard_place_within g i (Place p) s = omega arith
-discard_place_within g i Nowhere s = omega arith
-
-pub discard_within : (g : Geometry) (l : ℕ) (s : State) → (discard_steps g l s).value ≤ UNWRITTEN
-unfolding discard_steps look ◌>>=◌
-discard_within g l s =
-    let t = translate g l s in
-    discard_place_within g t.value (decode (physical_at t.value t.after.cache)) t.after
-
-discard_hands_back : (g : Geometry) (q : Request) (buffer : List ℕ) (s : State) → q.kind ≢ 1
-    → HandsBack g q buffer (discard_record g q.page buffer s).value
-unfolding discard_record give ◌>>=◌
-discard_hands_back g q buffer s kind =
-    record { within = discard_within g q.page s; at_most = λ h. h; keeps = λ _. refl; write_done = λ k. absurd (kind k) }
-
 pub serve_hands_back : (g : Geometry) (q : Request) (buffer : List ℕ) (s : State) → HandsBack g q buffer (serve g q buffer s).value
 unfolding serve
 serve_hands_back g q buffer s =
     on (eqb q.kind 0)
     (λ e. rw e (read_hands_back g q buffer s (eqb-true q.kind 0 e)))
-    (λ e. rw e (on (eqb q.kind 1)
-    (λ w. rw w (write_hands_back g q buffer s))
-    (λ w. rw w (discard_hands_back g q buffer s (eqb-false q.kind 1 w)))))
+    (λ e. rw e (write_hands_back g q buffer s))
 
 -- ---- from a sound state
 
 -- The state stays sound, each operation is allowed at its moment, there are at most as many as a write may make, a read tells what its page
--- holds, a discard whether it holds any, and each page then holds what is noted of the answer.
+-- holds, and each page then holds what is noted of the answer.
 pub record Serves (g : Geometry) (q : Request) (buffer : List ℕ) (s : State) (o : Outcome Replied) : Type 0 where
   pub sound : Sound g o.after
   pub lengths : Lengths g o.after
@@ -98,33 +76,21 @@ pub record Serves (g : Geometry) (q : Request) (buffer : List ℕ) (s : State) (
   pub costs : cost o.did ≤ write_bound g
   pub well : ServesWell g q o.value.reply o.did
   pub tells : q.kind ≡ 0 → Tells (held g s q.page) o.value.reply o.value.buffer
-  pub takes : q.kind ≡ 2 → Takes (held g s q.page) o.value.reply
   pub holds : (l : ℕ) → l < g.L → held g o.after l ≡ noted_record q buffer o.value.reply (held g s) l
 
 -- Of a kind that is none demand 3 asks nothing.
 pub no_kind_well : (g : Geometry) (q : Request) (reply : ℕ) (did : List Operation) → kinds ≤ q.kind → ServesWell g q reply did
-no_kind_well g q reply did h =
-    record { as_read = λ k. absurd (omega arith); as_write = λ k. absurd (omega arith); as_discard = λ k. absurd (omega arith) }
+no_kind_well g q reply did h = record { as_read = λ k. absurd (omega arith); as_write = λ k. absurd (omega arith) }
 
--- What an answer does to the store: nothing, but for a write and a discard that answered DONE.
-pub refusal_not_noted : (q : Request) (words : List ℕ) (reply : ℕ) (store : Store) → reply ≢ DONE
-    → noted_record q words reply store ≡ store
-refusal_not_noted q words reply store e = rw (ne_eqb reply DONE e)
+-- What an answer does to the store: nothing, but for a write that answered DONE.
+not_noted : (q : Request) (words : List ℕ) (reply : ℕ) (store : Store) → q.kind ≢ 1 → noted_record q words reply store ≡ store
+not_noted q words reply store k = rw (ne_eqb q.kind 1 k)
 
-pub read_not_noted : (q : Request) (words : List ℕ) (reply : ℕ) (store : Store) → q.kind ≡ 0 → noted_record q words reply store ≡ store
-read_not_noted q words reply store k =
-    on (eqb reply DONE) (λ e. rw (e, ne_eqb q.kind 1 (omega arith), ne_eqb q.kind 2 (omega arith))) (λ e. rw e)
+is_noted : (q : Request) (words : List ℕ) (reply : ℕ) (store : Store) → q.kind ≡ 1 → reply ≡ DONE
+    → noted_record q words reply store ≡ with_words q.page words store
+is_noted q words reply store k e = rw (eq-eqb q.kind 1 k, eq-eqb reply DONE e)
 
-write_noted : (q : Request) (words : List ℕ) (reply : ℕ) (store : Store) → q.kind ≡ 1 → reply ≡ DONE
-    → noted_record q words reply store ≡ with_page q.page (Holding words) store
-write_noted q words reply store k e = rw (eq-eqb reply DONE e, eq-eqb q.kind 1 k)
-
-discard_noted : (q : Request) (words : List ℕ) (reply : ℕ) (store : Store) → q.kind ≡ 2 → reply ≡ DONE
-    → noted_record q words reply store ≡ with_page q.page Nothing store
-discard_noted q words reply store k e =
-    rw (eq-eqb reply DONE e, ne_eqb q.kind 1 (omega arith), eq-eqb q.kind 2 k)
-
--- A read costs at most what a write does, and a discard less.
+-- A read costs at most what a write does.
 read_within_write : (P : ℕ) → 1 ≤ P → 2 * P + 3 ≤ (2 * P + 1) * (P + 1)
 read_within_write zero h = absurd (omega arith)
 read_within_write (suc p) h = omega arith
@@ -148,11 +114,9 @@ module _ {g : Geometry} (ok : Accepted g) (q : Request) (buffer : List ℕ) (s :
         well = record {
           as_read = λ _. (⊎_elim (λ d. inl d.0) (λ d. inr d.0) law.tells, kept.costs);
           as_write = λ k. absurd (omega arith);
-          as_discard = λ k. absurd (omega arith);
         };
         tells = λ _. law.tells;
-        takes = λ k. absurd (omega arith);
-        holds = λ l h. rw (read_not_noted q buffer o.value.reply (held g s) kind) (kept_held kept l h);
+        holds = λ l h. rw (not_noted q buffer o.value.reply (held g s) (omega arith)) (kept_held kept l h);
       }
 
   write_serves : q.kind ≡ 1 → length buffer ≡ g.W → Serves g q buffer s (write_steps g q.page buffer s)
@@ -165,38 +129,12 @@ module _ {g : Geometry} (ok : Accepted g) (q : Request) (buffer : List ℕ) (s :
         lengths = law.lengths;
         done = law.done;
         costs = law.costs;
-        well = record { as_read = λ k. absurd (omega arith); as_write = λ _. (is_done, law.costs); as_discard = λ k. absurd (omega arith) };
+        well = record { as_read = λ k. absurd (omega arith); as_write = λ _. (is_done, law.costs) };
         tells = λ k. absurd (omega arith);
-        takes = λ k. absurd (omega arith);
-        holds = λ l h. rw (write_noted q buffer o.value.reply (held g s) kind is_done)
+        holds = λ l h. rw (is_noted q buffer o.value.reply (held g s) kind is_done)
             (same? l q.page
             (λ e. rw (eq-eqb l q.page e, e) law.written)
             (λ e. rw (ne_eqb l q.page e) (law.keeps l h e)));
-      }
-
-  discard_serves : q.kind ≡ 2 → Serves g q buffer s (discard_record g q.page buffer s)
-  unfolding discard_record give ◌>>=◌
-  discard_serves kind =
-      let o = discard_steps g q.page s in
-      let law = discard_law ok q.page s len sound below in
-      record {
-        sound = law.sound;
-        lengths = law.lengths;
-        done = rw append-nil law.done;
-        costs = rw append-nil (omega (arith, law.costs, read_within_write g.P ok.P_from));
-        well = record {
-          as_read = λ k. absurd (omega arith);
-          as_write = λ k. absurd (omega arith);
-          as_discard = λ _. (⊎_elim (λ d. inl d.0) (λ d. inr d.0) law.takes.1, rw append-nil law.costs);
-        };
-        tells = λ k. absurd (omega arith);
-        takes = λ _. law.takes;
-        holds = λ l h. same? o.value DONE
-            (λ e. rw (discard_noted q buffer o.value (held g s) kind e)
-            (same? l q.page
-            (λ p. rw (eq-eqb l q.page p, p) law.nothing_left)
-            (λ p. rw (ne_eqb l q.page p) (law.keeps l h p))))
-            (λ e. rw (refusal_not_noted q buffer o.value (held g s) e) (unwritten_keeps ok q.page s len sound below e l h));
       }
 
   pub serve_law : q.kind < kinds → length buffer ≡ g.W → Serves g q buffer s (serve g q buffer s)
@@ -204,6 +142,4 @@ module _ {g : Geometry} (ok : Accepted g) (q : Request) (buffer : List ℕ) (s :
   serve_law kind long =
       on (eqb q.kind 0)
       (λ e. rw e (read_serves (eqb-true q.kind 0 e)))
-      (λ e. rw e (on (eqb q.kind 1)
-      (λ w. rw w (write_serves (eqb-true q.kind 1 w) long))
-      (λ w. rw w (discard_serves (omega (arith, eqb-false q.kind 0 e, eqb-false q.kind 1 w))))))
+      (λ e. rw e (write_serves (omega (arith, eqb-false q.kind 0 e)) long))

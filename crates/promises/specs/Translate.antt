@@ -4,7 +4,6 @@ use Rattle.std.specs.Prelude.{ℕ, suc, ◌+◌, ◌*◌, ◌≤◌, ◌<◌, �
 use Rattle.std.proofs.Common.{sym, ◌∙◌, ap, subst, arith, lt-ltb, le-ltb}
 use Rattle.scope.specs.Geometry.{Geometry, Accepted}
 use Rattle.scope.specs.Lent.{Mapping, Entry, Place, Nowhere, State, named, logical_at, translation_page}
-use Rattle.scope.specs.Regions.{Translation}
 use Rattle.scope.specs.Operations.{Outcome, give, look, nothing, counted, ◌>>=◌}
 use Rattle.scope.specs.Cache.{touch, forget, dropped, is_changed, changed_of, become_unchanged}
 use Rattle.scope.specs.Steps.{write_back, drop_entry, drop_if_full, fetch, translate, update}
@@ -13,7 +12,6 @@ use Rattle.flash.specs.Moments.{cost}
 use Rattle.flash.specs.Cases.{on, same?, below?}
 use Rattle.flash.specs.Lengths.{Lengths}
 use Rattle.flash.specs.Listed.{cost_none}
-use Rattle.region.specs.Done.{names_readable}
 use Rattle.cache.specs.Ranks.{HasRank, rank_found, rank_missing}
 use Rattle.cache.specs.Holds.{Miss, updated, updated_here, updated_elsewhere, holds_found}
 use Rattle.cache.specs.Neighbours.{changed_of_waits, page_unchanged, unchanged_misses}
@@ -132,7 +130,7 @@ module _ {g : Geometry} (s : State) (len : Lengths g s) (sound : Sound g s) (i :
 
       settled : Kept g 0 o.after (become_unchanged g t o.after)
       settled =
-          cache_kept Nowhere tt updated.sound u.lengths marked.step
+          cache_kept Nowhere updated.sound u.lengths marked.step
           (become_unchanged_keeps_places g t s o.after (cached g s) holds sound.rule_7 stores) (omega (arith, cost_none))
 
   -- "If it is changed, first write it back."
@@ -163,7 +161,7 @@ module _ {g : Geometry} (s : State) (len : Lengths g s) (sound : Sound g s) (i :
       let f = forget i s₁ in
       let d = drop_law g s₁ m (cache_holds g s₁ go.kept.lengths (cache_of go.kept.sound)) go.kept.sound.rule_7 i
       (last ∙ sym go.used) (omega (arith, go.protected)) go.unchanged in
-      let gone : Kept g 0 s₁ f = cache_kept Nowhere tt go.kept.sound go.kept.lengths d.step d.places (omega (arith, cost_none)) in
+      let gone : Kept g 0 s₁ f = cache_kept Nowhere go.kept.sound go.kept.lengths d.step d.places (omega (arith, cost_none)) in
       let l = logical_at i s₁.cache in
       record {
         kept = within (update_bound g) (omega arith) (kept_then o f go.kept gone);
@@ -218,8 +216,7 @@ module _ {g : Geometry} (ok : Accepted g) where
       let handed = fetch_law g s₁ m holds ok.W_from l free.kept.sound.rule_5_protected.at_most_used free.room (free.missing l miss) below in
       let places = enter_keeps_places g s₁ m holds free.kept.sound.rule_7 l (stored_in g s₁ l)
       handed.step (free.missing l miss) refl in
-      let entered : Kept g 1 s₁ (fetch g l s₁) = cache_kept page (names_readable g s₁ Translation (translation_page g l) page (free.kept.sound.rule_4 (translation_page g l) (page_below ok l below)))
-      free.kept.sound free.kept.lengths handed.step places
+      let entered : Kept g 1 s₁ (fetch g l s₁) = cache_kept page free.kept.sound free.kept.lengths handed.step places
       (page_read_cost page) in
       record { kept = within (translate_bound g) (omega arith) (kept_then o (fetch g l s₁) free.kept entered); rank = handed.rank }
 
@@ -239,4 +236,4 @@ module _ {g : Geometry} (ok : Accepted g) where
           let holds = cache_holds g s len (cache_of sound) in
           let handed = touch_law g s (cached g s) holds l i r in
           let places = touch_keeps_places g s (cached g s) holds sound.rule_7 handed.step in
-          record { kept = cache_kept Nowhere tt sound len handed.step places (omega (arith, cost_none)); rank = handed.rank }
+          record { kept = cache_kept Nowhere sound len handed.step places (omega (arith, cost_none)); rank = handed.rank }

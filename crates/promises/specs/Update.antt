@@ -10,7 +10,7 @@ use Rattle.scope.specs.Lent.{none, Entry, Place, Nowhere, State, Mapping, named,
 use Rattle.scope.specs.Regions.{Region, owners, Translation}
 use Rattle.scope.specs.SmallRecord.{open_block, next_offset}
 use Rattle.scope.specs.Sound.{Names}
-use Rattle.scope.specs.Operations.{Outcome, Step, apply, give, look, perform, set_directory, counted, ◌>>=◌}
+use Rattle.scope.specs.Operations.{Read, Outcome, Step, apply, give, look, perform, set_directory, counted, ◌>>=◌}
 use Rattle.scope.specs.Room.{read_page, program_next, make_room}
 use Rattle.scope.specs.Steps.{directory_names_it, directory_follows, begun, set_words, mark_old, update}
 use Rattle.flash.specs.Moments.{cost}
@@ -23,7 +23,7 @@ use Rattle.flash.specs.Heads.{rest_same, rest_trans}
 use Rattle.flash.specs.SamePages.{same_refl, same_trans}
 use Rattle.flash.specs.Listed.{cost_++, cost_none}
 use Rattle.region.specs.Holds.{Holds, Besides, Renames, contents}
-use Rattle.region.specs.Done.{Done, names_readable, done_none, done_read, done_then}
+use Rattle.region.specs.Done.{Done, done_none, done_one, done_then}
 use Rattle.region.specs.NextPage.{next_page, PageWritten, page_written}
 use Rattle.region.specs.DirectoryFollows.{in_directory, TranslationOnly, TranslationRoom, translation_room_law}
 use Rattle.cache.specs.Current.{stored_in}
@@ -74,7 +74,7 @@ begun_law g t (Place p) s len names =
       long = length_words_of g p s.chip (page_on_chip g Translation p names.0) len.chip_fits;
       word = λ i h. refl;
       same = refl;
-      done = done_read g p (flash_as refl) (names_readable g s Translation t (Place p) names);
+      done = done_one g (Read p) tt;
       costs = omega arith;
     }
 begun_law g t Nowhere s len names =

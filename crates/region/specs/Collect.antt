@@ -1,4 +1,4 @@
--- Collect, whatever rule picks the block: its valid pages move to the one erased block, what waited is settled, and it is erased, so that there is an
+-- Collect: the victim's valid pages move to the one erased block, what waited is settled, and the victim is erased, so that there is an
 -- erased block besides the open one again, and room in the open one.
 use Rattle.std.specs.Prelude.{ℕ, ◌+◌, ◌*◌, ◌-◌, ◌≤◌, ◌<◌, ◌≡◌, refl, ◌≢◌, List, [], ◌∷◌, ◌++◌, length}
 use Rattle.std.proofs.Common.{sym, ap, subst, subst₂, ◌∙◌, arith, mul-le-mul_left}
@@ -7,7 +7,7 @@ use Rattle.scope.specs.Regions.{Region, page_in, HasBlock}
 use Rattle.scope.specs.SmallRecord.{open_block, next_offset, opened}
 use Rattle.scope.specs.Lent.{valid, decode, State, Mapping, state_of}
 use Rattle.scope.specs.Operations.{Erase, Outcome, apply, look, perform, set_small, ◌>>=◌}
-use Rattle.scope.specs.Room.{Following, erased_blocks, victim, move_pages, open_lowest, collect_block, collect}
+use Rattle.scope.specs.Room.{Following, erased_blocks, victim, move_pages, open_lowest, collect}
 use Rattle.scope.specs.Laws.Applied.{SameFlash, flash_as}
 use Rattle.flash.specs.Moments.{cost}
 use Rattle.flash.specs.Bounded.{RegionBounded}
@@ -20,27 +20,21 @@ use Rattle.flash.specs.SamePages.{erase_elsewhere}
 use Rattle.flash.specs.Listed.{cost_first, cost_++, cost_none}
 use Rattle.region.specs.Holds.{RegionFits, Besides, Holds, contents}
 use Rattle.region.specs.Carried.{region_fits_same, maps_same, maps_viewed, contents_same}
-use Rattle.region.specs.Room.{VictimLaw}
 use Rattle.region.specs.Blocks.{erase_law}
 use Rattle.region.specs.Done.{done_none, done_one, done_then}
 use Rattle.region.specs.Follower.{View, Invariant, AfterSettled, Follower, RoomMade}
 use Rattle.region.specs.Moving.{Copying, Keeps}
 use Rattle.region.specs.Copied.{Copied, few_moved}
-use Rattle.region.specs.Starts.{Starts, opened_lowest, within_region, copied_since, block_starts, victim_fits}
+use Rattle.region.specs.Starts.{Starts, opened_lowest, within_region, copied_since, collection_starts}
 
 -- What collect does: its parts one after the other.
 abbrev collects : (g : Geometry) (v : ℕ) → Outcome (List Mapping) → Outcome (Unit {0}) → Outcome (Unit {0})
 collects g v o o' = record { value = tt; after = apply g (Erase v) o'.after; did = o.did ++ (o'.did ++ Erase v ∷ []) }
 
-collect_block_is : (g : Geometry) (r : Region) (follow : Following) (v : ℕ) (s : State)
-    → let o = move_pages g r follow v g.P (opened_lowest g r s) in
-    collect_block g r follow v s ≡ collects g v o (follow.settled o.value o.after)
-unfolding open_lowest ◌>>=◌ look perform set_small
-collect_block_is g r follow v s = refl
-
 collect_is : (g : Geometry) (r : Region) (follow : Following) (s : State)
-    → collect g r follow s ≡ collect_block g r follow (victim g r s) s
-unfolding collect ◌>>=◌ look
+    → let o = move_pages g r follow (victim g r s) g.P (opened_lowest g r s) in
+    collect g r follow s ≡ collects g (victim g r s) o (follow.settled o.value o.after)
+unfolding collect open_lowest ◌>>=◌ look perform set_small
 collect_is g r follow s = refl
 
 module _ {g : Geometry} {r : Region} {follow : Following} {settling : ℕ} {view : View} {Inv : Invariant}
@@ -135,17 +129,18 @@ module _ {g : Geometry} {r : Region} {follow : Following} {settling : ℕ} {view
         costs = made.costs;
       }
 
-  -- Any full block with an invalid page, where one block alone is erased.
-  pub collect_block_law : (s : State) → RegionBounded g r → Lengths g s → Holds g r s (view [] s) → Inv [] s
-      → g.P ≤ next_offset r s.small → erased_blocks g r s < 2 → (v : ℕ) → VictimLaw g r s.spare v
-      → RoomMade g r settling view Inv s (collect_block g r follow v s)
-  collect_block_law s bounds lengths holds inv full few v law = rw collect_block_is made
+  pub collect_law : (s : State) → RegionBounded g r → Lengths g s → Holds g r s (view [] s) → Inv [] s
+      → g.P ≤ next_offset r s.small → erased_blocks g r s < 2 → RoomMade g r settling view Inv s (collect g r follow s)
+  collect_law s bounds lengths holds inv full few = rw collect_is made
     where
+      v : ℕ
+      v = victim g r s
+
       s₁ : State
       s₁ = opened_lowest g r s
 
       start : Starts g r view Inv v s₁ × Keeps g r view [] s [] s₁
-      start = block_starts F.mover s bounds lengths holds inv full few v law
+      start = collection_starts F.mover s bounds lengths holds inv full few
 
       o : Outcome (List Mapping)
       o = move_pages g r follow v g.P s₁
@@ -156,10 +151,3 @@ module _ {g : Geometry} {r : Region} {follow : Following} {settling : ℕ} {view
       made : RoomMade g r settling view Inv s (collects g v o (follow.settled o.value o.after))
       made = room_made_after s s₁ _ (flash_as refl) start.1
           (collected v s₁ o _ start.0 copied (F.settled o.value o.after copied.copying.lengths copied.copying.inv))
-
-  -- 01's victim.
-  pub collect_law : (s : State) → RegionBounded g r → Lengths g s → Holds g r s (view [] s) → Inv [] s
-      → g.P ≤ next_offset r s.small → erased_blocks g r s < 2 → RoomMade g r settling view Inv s (collect g r follow s)
-  collect_law s bounds lengths holds inv full few =
-      rw collect_is
-      (collect_block_law s bounds lengths holds inv full few (victim g r s) (victim_fits g r s (view [] s) bounds holds full few))

@@ -1,13 +1,10 @@
 -- Operations that led from one state to another, each allowed at its moment: what a law says of the operations of a step.
-use Rattle.std.specs.Prelude.{ℕ, ◌<◌, ◌≡◌, List, [], ◌∷◌, ◌++◌}
-use Rattle.scope.specs.Geometry.{Geometry, pages}
-use Rattle.scope.specs.Lent.{valid, Entry, Place, Nowhere, State, state_of}
-use Rattle.scope.specs.Regions.{Region}
-use Rattle.scope.specs.Sound.{Names}
+use Rattle.std.specs.Prelude.{ℕ, List, [], ◌∷◌, ◌++◌}
+use Rattle.scope.specs.Geometry.{Geometry}
+use Rattle.scope.specs.Lent.{State}
 use Rattle.scope.specs.Operations.{Operation, Read, apply, apply_all}
 use Rattle.scope.specs.Laws.Applied.{SameFlash, flash_refl, flash_trans, apply_all_same, apply_all_append}
 use Rattle.flash.specs.Moments.{Allows, Allowed}
-use Rattle.flash.specs.Places.{page_on_chip}
 use Rattle.flash.specs.Listed.{allowed_++, allowed_same}
 
 pub record Done (g : Geometry) (s : State) (ops : List Operation) (s' : State) : Type 0 where
@@ -24,18 +21,9 @@ pub done_one : (g : Geometry) {s : State} (o : Operation) → Allows g o s.chip 
 unfolding apply_all
 done_one g o h = record { flash = flash_refl; allowed = (h, tt) }
 
--- An entry's page may be read, if it has one: one that names what is valid does.
-abbrev pub Readable : Geometry → State → Entry → Type 0
-Readable g s (Place p) = (p < pages g) × (state_of p s.spare ≡ valid)
-Readable g s Nowhere = Unit {0}
-
-pub names_readable : (g : Geometry) (s : State) (r : Region) (k : ℕ) (e : Entry) → Names g r s.spare k e → Readable g s e
-names_readable g s r k (Place p) names = (page_on_chip g r p names.0, names.1)
-names_readable g s r k Nowhere names = tt
-
-pub done_read : (g : Geometry) {s s' : State} (p : ℕ) → SameFlash s' s → Readable g s (Place p) → Done g s (Read p ∷ []) s'
+pub done_read : (g : Geometry) {s : State} (p : ℕ) → Done g s (Read p ∷ []) s
 unfolding apply apply_all
-done_read g p same readable = record { flash = same; allowed = (readable, tt) }
+done_read g p = record { flash = flash_refl; allowed = (tt, tt) }
 
 -- One after the other.
 pub done_then : {g : Geometry} {s s' s'' : State} {a b : List Operation} → Done g s a s' → Done g s' b s'' → Done g s (a ++ b) s''

@@ -3,7 +3,6 @@ pub mod Holds
 pub mod Carried
 pub mod Room
 pub mod Replace
-pub mod Freed
 pub mod Blocks
 pub mod Done
 pub mod Elsewhere
@@ -13,7 +12,6 @@ pub mod NextPage
 pub mod Moving
 pub mod Copied
 pub mod Starts
-pub mod Victim
 pub mod Collect
 pub mod MakeRoom
 pub mod Stored

@@ -83,9 +83,8 @@ module _ {g : Geometry} {r : Region} {follow : Following} {view : View} {Inv : I
       → decode (view w s k) ≡ Place p → PageWritten g r k (words_of g p s.chip) (view w s) s o o'
       → AfterMoved g r view Inv w k (next_page g r s) o'.after m
       → ((j : ℕ) → j < owners g r → view w o'.after j ≡ view w s j)
-      → HasPage g r p → state_of p s.spare ≡ valid
       → PageMoved g r view Inv p w s 1 (moves p o o' m)
-  moved_so p k w s o o' m is_place wrote moved sees here is_valid =
+  moved_so p k w s o o' m is_place wrote moved sees =
       record {
         copying = record {
           fits = region_fits_same (flash_pages moved.flash)
@@ -105,7 +104,7 @@ module _ {g : Geometry} {r : Region} {follow : Following} {view : View} {Inv : I
         others = λ x not_p not_q. ap (state_of x) moved.flash.spare
             ∙ (wrote.replacement.pages.rest x not_q (λ e. not_p (cc))).state;
         waiting = moved.at_most_one;
-        done = done_then (done_read g p flash_refl (page_on_chip g r p here, is_valid)) (done_then wrote.programmed (done_then wrote.marked
+        done = done_then (done_read g p) (done_then wrote.programmed (done_then wrote.marked
             (rw moved.no_operation (done_none g moved.flash))));
         costs = omega (
           arith,
@@ -137,7 +136,7 @@ module _ {g : Geometry} {r : Region} {follow : Following} {view : View} {Inv : I
       → HasPage g r p → state_of p s.spare ≡ valid → PageMoved g r view Inv p w s 1 (move_page g r follow p s)
   move_page_law p w s copying room here is_valid =
       rw move_page_is (moved_so p k w s o o' (follow.moved k o.value o'.after) is_place wrote after_moved
-      (F.seen w s o'.after copying.lengths wrote.lengths beside copying.inv) here is_valid)
+      (F.seen w s o'.after copying.lengths wrote.lengths beside copying.inv))
     where
       k : ℕ
       k = owner_of p s.spare

@@ -151,7 +151,7 @@ module _ (g : Geometry) (r : Region) (k : ℕ) (words : List ℕ) (view : ℕ �
         rest = advanced_rest r s.small;
         lengths = apply_keeps_lengths g (Mark p) s₁ lengths₁;
         programmed = programs;
-        marked = done_one g (Mark p) (page_on_chip g r p names.0, (programmed.others p apart).state ∙ names.1);
+        marked = done_one g (Mark p) tt;
         costs_program = refl;
         costs_mark = refl;
       }

@@ -19,7 +19,7 @@ use Rattle.flash.specs.Searching.{lowest_found, fewest_found}
 use Rattle.region.specs.Holds.{RegionFits, Besides}
 
 -- What holds of each of a region's blocks by its number there holds of each.
-pub by_number : (g : Geometry) (r : Region) (X : ℕ → Type 0) → ((i : ℕ) → i < region_blocks g r → X (first_block g r + i))
+by_number : (g : Geometry) (r : Region) (X : ℕ → Type 0) → ((i : ℕ) → i < region_blocks g r → X (first_block g r + i))
     → (b : ℕ) → HasBlock g r b → X b
 by_number g r X each b h = subst X (omega (arith, h.0)) (each (b - first_block g r) (omega (arith, h.0, h.1)))
 

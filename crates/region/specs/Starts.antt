@@ -1,6 +1,5 @@
--- What a collection starts with, once for a region and for whatever follows a moved page: the block that it collects, whatever rule picked
--- it, is full and has an invalid page, and the lowest erased block is open, with all of its pages to come. So the law of the copies holds
--- from there on.
+-- What a collection starts with, once for a region and for whatever follows a moved page: its victim is a full block with an invalid
+-- page, and the lowest erased block is open, with all of its pages to come. So the law of the copies holds from there on.
 use Rattle.std.specs.Prelude.{ℕ, ◌≤◌, ◌<◌, ◌≡◌, refl, ◌≢◌, List, []}
 use Rattle.std.proofs.Common.{sym, ap, subst, subst₂, ◌∙◌}
 use Rattle.scope.specs.Geometry.{Geometry}
@@ -72,12 +71,11 @@ copied_since {v = v} {s} F bounds starts n h =
     move_pages_law F bounds v s starts.in_region starts.closed starts.some_invalid n h starts.copying starts.empty
 
 -- It does where the open block is full and fewer than two are erased, and each owner's words are as they were.
-pub block_starts : {g : Geometry} {r : Region} {follow : Following} {view : View} {Inv : Invariant}
+pub collection_starts : {g : Geometry} {r : Region} {follow : Following} {view : View} {Inv : Invariant}
     → Mover g r follow view Inv → (s : State) → RegionBounded g r → Lengths g s → Holds g r s (view [] s) → Inv [] s
     → g.P ≤ next_offset r s.small → erased_blocks g r s < 2
-    → (v : ℕ) → VictimLaw g r s.spare v
-    → Starts g r view Inv v (opened_lowest g r s) × Keeps g r view [] s [] (opened_lowest g r s)
-block_starts {g} {r} {view = view} {Inv} F s bounds lengths holds inv full few v law = (
+    → Starts g r view Inv (victim g r s) (opened_lowest g r s) × Keeps g r view [] s [] (opened_lowest g r s)
+collection_starts {g} {r} {view = view} {Inv} F s bounds lengths holds inv full few = (
   record {
     in_region = law.in_region;
     closed = λ e. law.full 0 bounds.bounded.P_from
@@ -93,19 +91,9 @@ block_starts {g} {r} {view = view} {Inv} F s bounds lengths holds inv full few v
     crowded : Crowded g r s.spare (lowest_erased g r s)
     crowded = is_crowded g r s _ _ holds.fits holds.besides full few
 
+    law : VictimLaw g r s.spare (victim g r s)
+    law = victim_of_crowded g r s _ _ _ bounds holds.fits crowded
+
     opened_so : Copying g r view Inv [] (opened_lowest g r s) × Keeps g r view [] s [] (opened_lowest g r s)
     opened_so = open_lowest_keeps F s (record { fits = holds.fits; maps = holds.maps; inv = inv; lengths = lengths }) full
         crowded.in_region crowded.wholly_erased
-
--- 01's victim is such a block.
-pub victim_fits : (g : Geometry) (r : Region) (s : State) (view : ℕ → ℕ) → RegionBounded g r → Holds g r s view
-    → g.P ≤ next_offset r s.small → erased_blocks g r s < 2 → VictimLaw g r s.spare (victim g r s)
-victim_fits g r s view bounds holds full few =
-    victim_of_crowded g r s _ _ _ bounds holds.fits (is_crowded g r s _ _ holds.fits holds.besides full few)
-
-pub collection_starts : {g : Geometry} {r : Region} {follow : Following} {view : View} {Inv : Invariant}
-    → Mover g r follow view Inv → (s : State) → RegionBounded g r → Lengths g s → Holds g r s (view [] s) → Inv [] s
-    → g.P ≤ next_offset r s.small → erased_blocks g r s < 2
-    → Starts g r view Inv (victim g r s) (opened_lowest g r s) × Keeps g r view [] s [] (opened_lowest g r s)
-collection_starts {g} {r} {view = view} F s bounds lengths holds inv full few =
-    block_starts F s bounds lengths holds inv full few (victim g r s) (victim_fits g r s (view [] s) bounds holds full few)

@@ -9,11 +9,9 @@ pub const KIND_READ: u32 = 0;
 
 pub const KIND_WRITE: u32 = 1;
 
-pub const KIND_DISCARD: u32 = 2;
+pub const KINDS: u32 = 2;
 
-pub const KINDS: u32 = 3;
-
-// A request: kind 0 reads, kind 1 writes and kind 2 discards a logical page.
+// A request: kind 0 reads and kind 1 writes a logical page.
 #[derive(Drop)]
 pub struct Request {
     pub kind: u32,

@@ -1,29 +1,28 @@
--- Read, write and discard: what their parts ask for, from the laws of translate and of make room, and the parts put together.
+-- Read and write: what their parts ask for, from the laws of translate and of make room, and the parts put together.
 use Rattle.std.specs.Prelude.{ℕ, ◌+◌, ◌*◌, ◌≤◌, ◌<◌, ◌≡◌, List, length}
 use Rattle.std.proofs.Common.{sym, subst, subst₂, ◌∙◌, arith}
 use Rattle.scope.specs.Geometry.{Geometry, Accepted, pages}
 use Rattle.scope.specs.Regions.{Data}
-use Rattle.scope.specs.Lent.{none, invalid, Entry, Place, Nowhere, decode, State, with_flash, with_cache, with_state, physical_at}
+use Rattle.scope.specs.Lent.{Entry, Place, Nowhere, decode, State, with_flash, with_cache, physical_at}
 use Rattle.scope.specs.Sound.{Names, Sound}
 use Rattle.scope.specs.Operations.{Counts, Step}
 use Rattle.scope.specs.Room.{read_page, program_next, make_room}
 use Rattle.scope.specs.Cache.{set_entry}
 use Rattle.scope.specs.Steps.{cache_follows, translate}
 use Rattle.scope.specs.Replies.{DONE, UNWRITTEN}
-use Rattle.scope.specs.Requests.{Replied, replied, read_place, read_steps, write_steps, discard_place, discard_steps}
-use Rattle.scope.specs.Calls.{discard_record}
+use Rattle.scope.specs.Requests.{Replied, replied, read_place, read_steps, write_steps}
 use Rattle.flash.specs.Bounded.{accepted_bounded, accepted_region}
 use Rattle.flash.specs.Places.{page_on_chip}
 use Rattle.flash.specs.Lengths.{Lengths}
 use Rattle.cache.specs.Ranks.{HasRank}
 use Rattle.region.specs.Follower.{RoomMade}
 use Rattle.region.specs.MakeRoom.{make_room_law}
-use Rattle.promises.specs.Bounds.{read_bound, write_bound, discard_bound}
+use Rattle.promises.specs.Bounds.{read_bound, write_bound}
 use Rattle.promises.specs.Parts.{index_of, data_of, cache_of, sound_from}
 use Rattle.promises.specs.Update.{update_bound}
 use Rattle.promises.specs.Follow.{place_while, Follows, none_waits, cache_follower}
 use Rattle.promises.specs.Translate.{translate_bound, Translated, translate_law}
-use Rattle.promises.specs.Read.{entry_named}
+use Rattle.promises.specs.Read.{entry_place}
 use Rattle.promises.specs.Write.{placing, write_costs}
 use Rattle.lent.specs.declared.Counts.{Counts as Counted}
 use Rattle.lent.specs.declared.Work.{Work}
@@ -31,7 +30,7 @@ use Rattle.lent.specs.Model.{small, Lists, together, with_rec, counts}
 use Rattle.lent.specs.Does.{Does}
 use Rattle.lent.specs.DoesLaws.{does_give, does_look_at, does_bind}
 use Rattle.lent.specs.Shapes.{DoesFlash, DoesByChip, DoesCache, RoomToCount, less_room}
-use Rattle.steps.specs.Chip.{marked, mark_does, mark_old_does}
+use Rattle.steps.specs.Chip.{marked, mark_old_does}
 use Rattle.steps.specs.Lies.{ChipLent, SpareLent, HasNext}
 use Rattle.lent.specs.Ready.{DoesAll, ReadyFor, ready_less, countable_after}
 use Rattle.requests.specs.Collecting.{room_bound, RoomReady}
@@ -53,12 +52,6 @@ pub record WritingReady (g : Geometry) (i : ℕ) (chip spare cache buffer : List
   pub long : length buffer ≡ g.W
   pub countable : RoomToCount 1 w.counts
 
--- The entry at rank i may be discarded, with the page that it names.
-pub record DiscardReady (g : Geometry) (i : ℕ) (place : Entry) (spare cache : List ℕ) : Type 0 where
-  pub spare_lent : SpareLent g spare
-  pub lies : i * 3 + 3 ≤ length cache
-  pub on_chip : (p : ℕ) → place ≡ Place p → p < pages g
-
 -- ---- page l's entry, at its rank
 
 record AtRank (g : Geometry) (l i : ℕ) (s : State) : Type 0 where
@@ -73,8 +66,9 @@ module _ {g : Geometry} {l i : ℕ} {s : State} (at : AtRank g l i s) where
   -- The page that it names lies on the chip.
   entry_on_chip : l < g.L → (p : ℕ) → decode (physical_at i s.cache) ≡ Place p → p < pages g
   entry_on_chip below p e =
-      page_on_chip g Data p
-      (subst (Names g Data s.spare l) e (entry_named s at.lengths at.sound l i at.rank below)).0
+      let named = subst (λ (x : ℕ). Names g Data s.spare l (decode x)) (sym (entry_place s at.lengths at.sound l i at.rank))
+      (at.sound.rule_6.current_place l below) in
+      page_on_chip g Data p (subst (Names g Data s.spare l) e named).0
 
 -- ---- after translate
 
@@ -212,51 +206,3 @@ pub write_does : (g : Geometry) (l : ℕ) (buffer : List ℕ) {s s₁ s₂ s₃ 
     → Does (placing g l x buffer) s₂ c₂ r s₃ c₃ → Does (write_steps g l buffer) s c r s₃ c₃
 unfolding write_steps placing
 write_does g l buffer translates makes places = does_bind _ translates (does_bind _ makes places)
-
--- ---- discard
-
-pub discard_begins : {l : ℕ} {g : Geometry} {s : State} {c : Counted} → ReadyFor l g s (discard_bound g) c
-    → ReadyFor l g s (translate_bound g) c
-discard_begins a = ready_less (omega arith) a
-
-pub discard_ready : {l : ℕ} {g : Geometry} {s : State} {c : Counted} {left : Lists} {w : Work} {x : ℕ} {place : Entry}
-    → ReadyFor l g s (discard_bound g) c
-    → Does (translate g l) s (counts c) x (together left w.rec) (counts w.counts)
-    → place ≡ decode (physical_at x left.cache) → DiscardReady g x place left.spare left.cache
-discard_ready a translates e =
-    let at = translated a translates in
-    record {
-      spare_lent = record { bounded = accepted_bounded a.ready.accepted; spare_fits = at.lengths.spare_fits };
-      lies = entry_lies at;
-      on_chip = λ p q. entry_on_chip at a.below p (sym e ∙ q);
-    }
-
-module _ (g : Geometry) (i : ℕ) {place : Entry} {spare cache : List ℕ} {w : Work} (chip : List ℕ) where
-  pub discard_place_does : {spare' cache' : List ℕ} (p : ℕ) → place ≡ Place p → spare' ≡ with_state p invalid spare
-      → DoesCache (set_entry i none) cache w tt cache' w
-      → DoesPlacing (discard_place g i place) chip spare cache w DONE chip spare' cache' w
-  unfolding discard_place
-  discard_place_does {spare'} p e is_marked sets s =
-      rw e (does_bind _ (mark_does g p is_marked) (does_bind _ (sets (with_flash chip spare' s)) (does_give _)))
-
-  pub discard_nowhere_does : place ≡ Nowhere → DoesPlacing (discard_place g i place) chip spare cache w UNWRITTEN chip spare cache w
-  unfolding discard_place
-  discard_nowhere_does e s = rw e (does_give _)
-
-pub discard_does : (g : Geometry) (l : ℕ) {s s₁ s₂ : State} {c c₁ c₂ : Counts} {x : ℕ} {place : Entry} {n : ℕ}
-    → Does (translate g l) s c x s₁ c₁ → decode (physical_at x s₁.cache) ≡ place
-    → Does (discard_place g x place) s₁ c₁ n s₂ c₂ → Does (discard_steps g l) s c n s₂ c₂
-unfolding discard_steps
-discard_does g l translates e discards = does_bind _ translates (does_bind _ (does_look_at _ e) discards)
-
--- The work that is handed back is the one that was left.
-pub same_work : {A : Type 0} {m : Step A} {s : State} {c : Counts} {x : A} {left : Lists} {w w' : Work} → w' ≡ w
-    → Does m s c x (together left w.rec) (counts w.counts) → Does m s c x (together left w'.rec) (counts w'.counts)
-same_work {m = m} {s} {c} {x} {left} e does =
-    subst (λ (v : Work). Does m s c x (together left v.rec) (counts v.counts)) (sym e) does
-
--- In a run the words stay beside it.
-pub discard_record_does : (g : Geometry) (l : ℕ) (buffer : List ℕ) {s s' : State} {c c' : Counts} {n : ℕ}
-    → Does (discard_steps g l) s c n s' c' → Does (discard_record g l buffer) s c (replied buffer n) s' c'
-unfolding discard_record
-discard_record_does g l buffer discards = does_bind _ discards (does_give _)

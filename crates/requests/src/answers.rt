@@ -1,23 +1,21 @@
-// Read, write and discard: what a call does once its tests have passed. The reply's number is handed back.
+// Read and write: what a call does once its tests have passed. The reply's number is handed back.
 ghost use Rattle.std.specs.Prelude.{◌≡◌, List, ℕ, length};
-ghost use Rattle.scope.specs.Requests.{replied, read_place, read_steps, write_steps, discard_place, discard_steps};
-ghost use Rattle.lent.specs.declared.Work.{Work};
+ghost use Rattle.scope.specs.Requests.{replied, read_place, read_steps, write_steps};
 ghost use Rattle.lent.specs.Model.{geometry, entry};
 ghost use Rattle.lent.specs.Shapes.{DoesByChip};
-ghost use Rattle.promises.specs.Bounds.{read_bound, write_bound, discard_bound};
+ghost use Rattle.promises.specs.Bounds.{read_bound, write_bound};
 ghost use Rattle.promises.specs.Write.{placing};
 ghost use Rattle.words.specs.Census.{Census};
 ghost use Rattle.words.specs.Filter.{Filter};
 ghost use Rattle.words.specs.Noted.{Noted};
 ghost use Rattle.lent.specs.Ready.{lent, DoesAll, ReadyFor};
-ghost use Rattle.requests.specs.Answering.{PlaceReady, WritingReady, DiscardReady, DoesPlacing};
-ghost use Rattle.requests.specs.Filtered.{KeepsFilters};
+ghost use Rattle.requests.specs.Answering.{PlaceReady, WritingReady, DoesPlacing};
 
 use crate::room::make_room;
 use crate::translation::translate;
 use entries::{physical, set_entry};
-use lent::{Counts, Entry, FILTER_WORDS, Geometry, Handed, NONE, Region, Work, as_it_is, decode};
-use steps::chip::{mark, mark_old, program_next, read_page};
+use lent::{Entry, FILTER_WORDS, Geometry, Handed, Region, Work, decode};
+use steps::chip::{mark_old, program_next, read_page};
 
 const DONE: u32 = 0;
 
@@ -131,76 +129,5 @@ pub fn write(
     Handed {
         value: DONE,
         work: written,
-    }
-}
-
-// The page at a place is marked, and the entry at rank i set to none; nowhere, nothing.
-fn discard_place(
-    g: Geometry,
-    i: usize,
-    place: Entry,
-    spare: &mut [u32],
-    census: &mut [u32],
-    cache: &mut [u32],
-) -> u32
-    requires discard_ready { DiscardReady (geometry g) i (entry place) spare.old cache.old }
-    requires census { Census (geometry g) spare.old census.old }
-    ensures does_placing { (w : Work) (chip : List ℕ) → DoesPlacing (discard_place (geometry g) i (entry place))
-        chip spare.old cache.old w result chip spare.new cache.new w }
-    ensures census_2 { Census (geometry g) spare.new census.new }
-    ensures keeps_filters { (w : Work) → KeepsFilters cache.old w.rec.used cache.new w.rec.used }
-{
-    let Entry::Place(p) = place else {
-        return UNWRITTEN;
-    };
-    mark(g, p, spare, census);
-    set_entry(i, NONE, cache);
-    DONE
-}
-
-// The work as it is, made field by field, as lent::as_it_is makes the record, and for the same reason: what translate handed back lies in
-// memory, in words narrower than those of a copy of the whole.
-fn by_fields(work: Work) -> Work
-    ensures { result ≡ work }
-{
-    let rec = work.rec;
-    let counts = work.counts;
-    Work {
-        rec: as_it_is(rec),
-        counts: Counts {
-            reads: counts.reads,
-            programs: counts.programs,
-            erases: counts.erases,
-        },
-    }
-}
-
-// Discard logical page l.
-pub fn discard(
-    work: Work,
-    g: Geometry,
-    l: u32,
-    chip: &mut [u32],
-    spare: &mut [u32],
-    census: &mut [u32],
-    directory: &mut [u32],
-    cache: &mut [u32],
-    filter: &mut [u64; FILTER_WORDS],
-) -> Handed
-    requires ready_for { ReadyFor l (geometry g) (lent chip spare directory cache work) (discard_bound (geometry g)) work.counts }
-    requires noted { Noted (geometry g) (lent chip spare directory cache work) census.old filter.old }
-    ensures does_all { DoesAll (discard_steps (geometry g) l)
-        (lent chip.entry spare.entry directory.entry cache.entry work) work result.value
-        (lent chip.exit spare.exit directory.exit cache.exit result.work) result.work }
-    ensures noted_2 { Noted (geometry g) (lent chip.exit spare.exit directory.exit cache.exit result.work)
-        census.new filter.new }
-{
-    let at = translate(work, g, l, chip, spare, census, directory, cache, filter);
-    let i = at.value as usize;
-    let place = decode(physical(i, cache));
-    let reply = discard_place(g, i, place, spare, census, cache);
-    Handed {
-        value: reply,
-        work: by_fields(at.work),
     }
 }

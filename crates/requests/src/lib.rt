@@ -1,4 +1,4 @@
-// Translate, room in the data region, read, write and discard in code: each does its definition.
+// Translate, room in the data region, read and write in code: each does its definition.
 pub mod answers;
 pub mod following;
 pub mod room;

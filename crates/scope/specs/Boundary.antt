@@ -9,7 +9,7 @@ use Rattle.scope.specs.Lent.{State, Request}
 use Rattle.scope.specs.Operations.{Step, Outcome, Counts, counted}
 use Rattle.scope.specs.Replies.{Size}
 use Rattle.scope.specs.Requests.{Replied}
-use Rattle.scope.specs.Calls.{RunReplied, format, check, read, write, discard, run}
+use Rattle.scope.specs.Calls.{RunReplied, format, check, read, write, run}
 
 -- "A request two": kind, page. A last word alone is no request.
 unfoldable pub requests_of : List ℕ → List Request
@@ -80,9 +80,6 @@ tf_read g l w buffer = in_words w (read g (word_sizes w) l buffer)
 
 unfoldable pub tf_write : Geometry → ℕ → Words → List ℕ → InWords Replied
 tf_write g l w buffer = in_words w (write g (word_sizes w) l buffer)
-
-unfoldable pub tf_discard : Geometry → ℕ → Words → InWords ℕ
-tf_discard g l w = in_words w (discard g (word_sizes w) l)
 
 -- "A request two", so an odd number of words is LENGTH.
 unfoldable pub tf_run : Geometry → Words → List ℕ → List ℕ → List ℕ → InWords RunReplied

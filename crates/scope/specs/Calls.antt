@@ -1,4 +1,4 @@
--- The six public calls on a node as total functions: for any geometry numbers, page number and lists, the reply, the operations, whose
+-- The five public calls as total functions: for any geometry numbers, page number and lists, the reply, the operations, whose
 -- counts are the answer's, and every lent list after. `others` are the sizes of what a call lends beside the state and its buffers, which
 -- LENGTH tests with theirs: the small record's and the counts' (Boundary.antt).
 use Rattle.std.specs.Prelude.{ℕ, zero, suc, ◌*◌, Bool, not, cond, ◌&&◌, List, [], ◌∷◌, ◌++◌, eqb, leb, length, get_or, take, drop, set}
@@ -9,7 +9,7 @@ use Rattle.scope.specs.Lent.{none, State, Request, most_requests, chip_size, spa
 use Rattle.scope.specs.Decisions.{sound}
 use Rattle.scope.specs.Operations.{Step, give, look, ◌>>=◌, ◌>>◌}
 use Rattle.scope.specs.Replies.{DONE, GEOMETRY, LENGTH, DAMAGED, KIND, PAGE, Test, Size, admit, right_sizes}
-use Rattle.scope.specs.Requests.{Replied, replied, read_steps, write_steps, discard_steps, format_steps}
+use Rattle.scope.specs.Requests.{Replied, replied, read_steps, write_steps, format_steps}
 
 -- The sizes that every call tests: those of the state's four lists.
 abbrev pub state_sizes : Geometry → State → List Size
@@ -39,9 +39,9 @@ size_tests g sizes = record { number = GEOMETRY; applies = not (accepted g) } �
 abbrev pub state_tests : Geometry → Bool → State → List Test
 state_tests g sizes s = size_tests g sizes ++ record { number = DAMAGED; applies = not (sound g s) } ∷ []
 
--- "Kind 0 read or 1 write"; 02, P6: "Kind 2 and a call of its own"; "KIND now begins at 3."
+-- "Kind 0 read or 1 write."
 abbrev pub kinds : ℕ
-kinds = 3
+kinds = 2
 
 -- What is tested of a request, be it a single call's or a record's, with the small record as it is then. "PAGE: the logical page is L or
 -- more."
@@ -49,19 +49,17 @@ abbrev pub request_tests : Geometry → SmallRecord → Request → List Test
 request_tests g small q =
     record { number = KIND; applies = leb kinds q.kind } ∷ record { number = PAGE; applies = leb g.L q.page } ∷ []
 
--- The request that a read, a write and a discard of page l is.
+-- The request that a read, and a write, of page l is.
 abbrev pub read_of : ℕ → Request
 read_of l = record { kind = 0; page = l }
 
 abbrev pub write_of : ℕ → Request
 write_of l = record { kind = 1; page = l }
 
-abbrev pub discard_of : ℕ → Request
-discard_of l = record { kind = 2; page = l }
-
--- Those of a single request: the state's, with the sizes of all that is lent beside it, and then its own.
-abbrev pub single_tests : Geometry → List Size → Request → State → List Test
-single_tests g sizes q s = state_tests g (right_sizes (state_sizes g s ++ sizes)) s ++ request_tests g s.small q
+-- Those of a single request: the state's, and then its own.
+abbrev pub single_tests : Geometry → List Size → Request → List ℕ → State → List Test
+single_tests g others q buffer s =
+    state_tests g (right_sizes (state_sizes g s ++ buffer_sizes g buffer ++ others)) s ++ request_tests g s.small q
 
 unfoldable pub format : Geometry → List Size → Step ℕ
 format g others = do
@@ -76,19 +74,13 @@ check g others = do
 
 unfoldable pub read : Geometry → List Size → ℕ → List ℕ → Step Replied
 read g others l buffer = do
-  tests ← look (λ s. single_tests g (buffer_sizes g buffer ++ others) (read_of l) s)
+  tests ← look (λ s. single_tests g others (read_of l) buffer s)
   admit tests (replied buffer) (read_steps g l buffer)
 
 unfoldable pub write : Geometry → List Size → ℕ → List ℕ → Step Replied
 write g others l buffer = do
-  tests ← look (λ s. single_tests g (buffer_sizes g buffer ++ others) (write_of l) s)
+  tests ← look (λ s. single_tests g others (write_of l) buffer s)
   admit tests (replied buffer) (write_steps g l buffer)
-
--- 02, P6: a discard lends no page buffer.
-unfoldable pub discard : Geometry → List Size → ℕ → Step ℕ
-discard g others l = do
-  tests ← look (λ s. single_tests g others (discard_of l) s)
-  admit tests (λ n. n) (discard_steps g l)
 
 -- What a run has lent beside the state: its data buffer and its answers.
 pub record RunReplied : Type 0 where
@@ -103,17 +95,9 @@ run_replied words answers n = record { reply = n; words = words; answers = answe
 abbrev pub part : Geometry → ℕ → List ℕ → List ℕ
 part g i words = take g.W (drop (i * g.W) words)
 
--- A record's discard: it "has its W data words like any record .. and they stay".
-unfoldable pub discard_record : Geometry → ℕ → List ℕ → Step Replied
-discard_record g l buffer = do
-  n ← discard_steps g l
-  give (replied buffer n)
-
--- A request that has passed its tests: kind 0 reads, kind 1 writes, kind 2 discards.
+-- A request that has passed its tests: kind 0 reads, kind 1 writes.
 unfoldable pub serve : Geometry → Request → List ℕ → Step Replied
-serve g q buffer =
-    cond (eqb q.kind 0) (read_steps g q.page buffer)
-    (cond (eqb q.kind 1) (write_steps g q.page buffer) (discard_record g q.page buffer))
+serve g q buffer = cond (eqb q.kind 0) (read_steps g q.page buffer) (write_steps g q.page buffer)
 
 -- A record with its own tests.
 unfoldable pub answer_record : Geometry → Request → List ℕ → Step Replied

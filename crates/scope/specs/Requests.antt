@@ -1,10 +1,10 @@
--- 01, "The steps": read and write, with their answer, and format, and the discard of 02's P6: what a call makes once its tests have passed.
+-- 01, "The steps": read and write, with their answer, and format: what a call makes once its tests have passed.
 use Rattle.std.specs.Prelude.{ℕ, List, replicate}
 use Rattle.scope.specs.Geometry.{Geometry, blocks}
 use Rattle.scope.specs.SmallRecord.{fresh}
 use Rattle.scope.specs.Lent.{none, Entry, Place, Nowhere, decode, directory_size, cache_size, physical_at}
 use Rattle.scope.specs.Regions.{Data}
-use Rattle.scope.specs.Operations.{Step, Mark, Erase, give, look, perform, set_directory, set_cache, set_small, for, ◌>>=◌, ◌>>◌}
+use Rattle.scope.specs.Operations.{Step, Erase, give, look, perform, set_directory, set_cache, set_small, for, ◌>>=◌, ◌>>◌}
 use Rattle.scope.specs.Room.{read_page, program_next, make_room}
 use Rattle.scope.specs.Cache.{set_entry}
 use Rattle.scope.specs.Steps.{mark_old, cache_follows, translate}
@@ -42,21 +42,6 @@ write_steps g l buffer = do
   mark_old g old
   set_entry i q
   give (replied buffer DONE)
-
--- Discard l. 02, P6: "Translate; if a page is named, mark it invalid and set the entry to *none*, changed; answer DONE. If none is named,
--- answer UNWRITTEN." The entry is the one at rank i.
-unfoldable pub discard_place : Geometry → ℕ → Entry → Step ℕ
-discard_place g i (Place p) = do
-  perform g (Mark p)
-  set_entry i none
-  give DONE
-discard_place g i Nowhere = give UNWRITTEN
-
-unfoldable pub discard_steps : Geometry → ℕ → Step ℕ
-discard_steps g l = do
-  i ← translate g l
-  place ← look (λ s. decode (physical_at i s.cache))
-  discard_place g i place
 
 -- Format. "All pages erased, directory and cache *none*, open blocks 0 and D, offsets and used entries 0. Counts 0, 0, D+T."
 unfoldable pub format_steps : Geometry → Step ℕ

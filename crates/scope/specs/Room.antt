@@ -71,20 +71,15 @@ open_lowest g r = do
   b ← look (lowest_erased g r)
   set_small (opened r b)
 
--- Collect a block, whatever rule picked it. "The one erased block becomes the open one. In page order each valid page is read, programmed with
--- the same owner, and the old one marked invalid .. and after the last copy .. Last, erase the victim."
-abbrev pub collect_block : Geometry → Region → Following → ℕ → Step (Unit {0})
-collect_block g r follow v = do
+-- Collect. "The one erased block becomes the open one. In page order each valid page is read, programmed with the same owner, and
+-- the old one marked invalid .. and after the last copy .. Last, erase the victim."
+unfoldable pub collect : Geometry → Region → Following → Step (Unit {0})
+collect g r follow = do
+  v ← look (victim g r)
   open_lowest g r
   waiting ← move_pages g r follow v g.P
   follow.settled waiting
   perform g (Erase v)
-
--- Collect: the victim.
-unfoldable pub collect : Geometry → Region → Following → Step (Unit {0})
-collect g r follow = do
-  v ← look (victim g r)
-  collect_block g r follow v
 
 -- Make room in a region. "If the open block's offset is below P, nothing. Else, if two or more blocks are wholly erased, open the
 -- lowest. Else collect."

@@ -5,4 +5,3 @@ pub mod Session
 pub mod Instances
 pub mod Replacement
 pub mod Cases
-pub mod Discards

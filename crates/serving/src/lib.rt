@@ -18,8 +18,8 @@ use admission::state_answer;
 use lent::{CENSUS_WORDS, FILTER_WORDS, Geometry, Handed, Record, Work};
 use replies::counting::{NO_COUNTS, put_counts};
 use replies::tests::{DONE, request_answer, run_lengths_right};
-use replies::{KIND_READ, KIND_WRITE, Out, Request};
-use requests::answers::{discard, read, write};
+use replies::{KIND_READ, Out, Request};
+use requests::answers::{read, write};
 use running::Running;
 
 // The tests of a run of n requests, with the lengths of all that it lends. `record_words` is as in crate calls; `odd_words` are the request words
@@ -83,13 +83,8 @@ fn serve_request(
             work, g, q.page, chip, spare, census, directory, cache, filter, buffer,
         );
     }
-    if q.kind == KIND_WRITE {
-        return write(
-            work, g, q.page, chip, spare, census, directory, cache, filter, buffer,
-        );
-    }
-    discard(
-        work, g, q.page, chip, spare, census, directory, cache, filter,
+    write(
+        work, g, q.page, chip, spare, census, directory, cache, filter, buffer,
     )
 }
 

@@ -12,11 +12,11 @@ use Rattle.lent.specs.Model.{words}
 use Rattle.scope.specs.Geometry.{Geometry}
 use Rattle.scope.specs.Requests.{replied}
 use Rattle.scope.specs.Calls.{run_replied}
-use Rattle.scope.specs.Boundary.{Words, word_sizes, requests_of, tf_format, tf_check, tf_read, tf_write, tf_discard, tf_run}
+use Rattle.scope.specs.Boundary.{Words, word_sizes, requests_of, tf_format, tf_check, tf_read, tf_write, tf_run}
 use Rattle.scope.specs.Contracts.{Gives}
-use Rattle.promises.specs.Call.{Format, Check, ReadPage, WritePage, DiscardPage, Run}
+use Rattle.promises.specs.Call.{Format, Check, ReadPage, WritePage, Run}
 use Rattle.contracts.specs.Made.{AsWords, ContractAllows}
-use Rattle.contracts.specs.Ensured.{by_number, by_page, by_run, run_word_sizes, tf_format_made, tf_check_made, tf_read_made, tf_write_made, tf_discard_made, tf_run_made}
+use Rattle.contracts.specs.Ensured.{by_number, by_page, by_run, run_word_sizes, tf_format_made, tf_check_made, tf_read_made, tf_write_made, tf_run_made}
 use Rattle.held.specs.Held.{code_of, HeldTo}
 use Rattle.trianglefire.specs.Numbers.{geometry_of}
 use Rattle.settings.specs.Kept.{ReadMade, WriteMade}
@@ -32,9 +32,6 @@ use Rattle.trianglefire.proofs.tf_read.Met as read_met
 use Rattle.trianglefire.specs.contracts.tf_write
 use Rattle.trianglefire.proofs.tf_write.Symbol as write_symbol
 use Rattle.trianglefire.proofs.tf_write.Met as write_met
-use Rattle.trianglefire.specs.contracts.tf_discard
-use Rattle.trianglefire.proofs.tf_discard.Symbol as discard_symbol
-use Rattle.trianglefire.proofs.tf_discard.Met as discard_met
 use Rattle.trianglefire.specs.contracts.tf_run
 use Rattle.trianglefire.proofs.tf_run.Symbol as run_symbol
 use Rattle.trianglefire.proofs.tf_run.Met as run_met
@@ -57,9 +54,6 @@ read_contract m = tf_read.clauses m.𝓛 m.𝓜.mem m.𝓡.run
 
 abbrev write_contract : (m : World) → Clauses m.𝓤 tf_write.ended
 write_contract m = tf_write.clauses m.𝓛 m.𝓜.mem m.𝓡.run
-
-abbrev discard_contract : (m : World) → Clauses m.𝓤 tf_discard.ended
-discard_contract m = tf_discard.clauses m.𝓛 m.𝓜.mem m.𝓡.run
 
 abbrev run_contract : (m : World) → Clauses m.𝓤 tf_run.ended
 run_contract m = tf_run.clauses m.𝓛 m.𝓜.mem m.𝓡.run
@@ -112,20 +106,6 @@ module _ (p w d t l c : ℕ) (chip spare directory cache small counts chip' spar
         Told = Gives (tf_check g lent) r left_counted;
         tells_it = λ m x. refl;
         gives = tf_check_made g lent;
-      }
-
-  pub tf_discard_held : (page : ℕ) (κs : Lfts 6) →
-      HeldTo tf_discard.ended (code_of discard_symbol.routine) discard_contract κs
-      (p, (w, (d, (t, (l, (c, (page, (chip, (spare, (directory, (cache, (small, (counts, tt))))))))))))) r
-      (p, (w, (d, (t, (l, (c, (page, (chip', (spare', (directory', (cache', (small', (counts', tt)))))))))))))
-      (ContractAllows g (DiscardPage (word_sizes lent) page) (by_number r) (AsWords lent left))
-  tf_discard_held page κs =
-      record {
-        meets = λ m. discard_met.met m.𝓤 m.𝓛 m.𝓜 m.𝓡;
-        asks_nothing = λ m x. refl;
-        Told = Gives (tf_discard g page lent) r left;
-        tells_it = λ m x. refl;
-        gives = tf_discard_made g lent page;
       }
 
   module _ (page : ℕ) (buffer buffer' : Bor (List ℕ)) where

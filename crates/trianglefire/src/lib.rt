@@ -3,7 +3,7 @@
 // words. All that an export does is to hand on: the numbers of the geometry as one, and every slice as it is.
 ghost use Rattle.scope.specs.Requests.{replied};
 ghost use Rattle.scope.specs.Calls.{run_replied};
-ghost use Rattle.scope.specs.Boundary.{tf_format, tf_check, tf_read, tf_write, tf_discard, tf_run};
+ghost use Rattle.scope.specs.Boundary.{tf_format, tf_check, tf_read, tf_write, tf_run};
 ghost use Rattle.scope.specs.Contracts.{Gives};
 ghost use Rattle.settings.specs.Kept.{ReadMade, WriteMade};
 ghost use Rattle.lent.specs.Model.{words};
@@ -154,40 +154,6 @@ pub extern "C" fn tf_write(
         cache,
         record,
         buffer,
-        counts,
-    )
-}
-
-#[unsafe(no_mangle)]
-pub extern "C" fn tf_discard(
-    p: u32,
-    w: u32,
-    d: u32,
-    t: u32,
-    l: u32,
-    c: u32,
-    page: u32,
-    chip: &mut [u32],
-    spare: &mut [u32],
-    directory: &mut [u32],
-    cache: &mut [u32],
-    record: &mut [u32],
-    counts: &mut [u32],
-) -> u32
-    ensures { Gives
-        (tf_discard (geometry_of p w d t l c) page (words chip.old spare.old directory.old
-        cache.old «record».old counts.old)) result
-        (words chip.new spare.new directory.new
-        cache.new «record».new counts.new) }
-{
-    wordpage::discard(
-        Geometry { p, w, d, t, l, c },
-        page,
-        chip,
-        spare,
-        directory,
-        cache,
-        record,
         counts,
     )
 }

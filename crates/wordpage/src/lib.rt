@@ -1,7 +1,7 @@
-// Read, write and discard in words, as format and check are in crate wordcalls: load the small record, make the call by value, store the record.
+// Read and write in words, as format and check are in crate wordcalls: load the small record, make the call by value, store the record.
 ghost use Rattle.lent.specs.Model.{geometry, words};
 ghost use Rattle.scope.specs.Requests.{replied};
-ghost use Rattle.scope.specs.Boundary.{tf_read, tf_write, tf_discard};
+ghost use Rattle.scope.specs.Boundary.{tf_read, tf_write};
 ghost use Rattle.scope.specs.Contracts.{Gives};
 
 use lent::Geometry;
@@ -79,38 +79,4 @@ pub fn write(
     );
     store(record, written.rec);
     written.answer
-}
-
-// Lends no page buffer.
-pub fn discard(
-    g: Geometry,
-    page: u32,
-    chip: &mut [u32],
-    spare: &mut [u32],
-    directory: &mut [u32],
-    cache: &mut [u32],
-    record: &mut [u32],
-    counts: &mut [u32],
-) -> u32
-    ensures { Gives
-        (tf_discard (geometry g) page (words chip.old spare.old directory.old
-        cache.old «record».old counts.old)) result
-        (words chip.new spare.new directory.new
-        cache.new «record».new counts.new) }
-{
-    let record_words = record.len();
-    let rec = load(record);
-    let discarded = calls::discard(
-        rec,
-        record_words,
-        g,
-        page,
-        chip,
-        spare,
-        directory,
-        cache,
-        counts,
-    );
-    store(record, discarded.rec);
-    discarded.answer
 }

@@ -5,14 +5,14 @@ use mathlib.Core.List.{List, [], ◌∷◌}
 use Rattle.std.specs.Prelude.{ltb, eqb, leb}
 use Rattle.scope.specs.Geometry.{Geometry}
 use Rattle.scope.specs.Regions.{Region, Data, Translation}
-use Rattle.scope.specs.Lent.{none, Entry, Place, Nowhere, Mapping, Request}
+use Rattle.scope.specs.Lent.{Entry, Place, Nowhere, Mapping, Request}
 use Rattle.scope.specs.Operations.{Read, Program, Mark, Erase, Step}
 use Rattle.scope.specs.Room.{Following, read_page, program_next, move_page, move_if_valid, move_pages, open_lowest, collect, open_or_collect, make_room}
 use Rattle.scope.specs.Cache.{touch, enter, forget, become_unchanged, set_entry}
 use Rattle.scope.specs.Steps.{directory_names_it, directory_follows, begun, mark_old, update, of_page, update_touched, cache_or_wait, update_all, cache_follows, write_back, drop_entry, drop_if_full, word_for, fetch, translate}
 use Rattle.scope.specs.Replies.{DONE, Test, Size, first_applying, admit}
-use Rattle.scope.specs.Requests.{read_place, read_steps, write_steps, discard_place, discard_steps, format_steps}
-use Rattle.scope.specs.Calls.{RunReplied, format, check, read, write, discard, discard_record, serve, answer_record, serve_record, serve_records, run}
+use Rattle.scope.specs.Requests.{read_place, read_steps, write_steps, format_steps}
+use Rattle.scope.specs.Calls.{RunReplied, format, check, read, write, serve, answer_record, serve_record, serve_records, run}
 use Rattle.scope.specs.Laws.Applied.{Applied, AppliedFollowing, applied_bind, applied_give, applied_look, applied_perform, applied_set_directory, applied_set_cache, applied_set_small, applied_cond, applied_for}
 
 module _ {g : Geometry} where
@@ -191,17 +191,6 @@ module _ {g : Geometry} where
       applied_bind (mark_old_applied old) (λ _.
       applied_bind (set_entry_applied i q) (λ _. applied_give _))))))
 
-  discard_place_applied : (i : ℕ) (e : Entry) → Applied g (discard_place g i e)
-  unfolding discard_place
-  discard_place_applied i (Place p) =
-      applied_bind (applied_perform (Mark p)) (λ _. applied_bind (set_entry_applied i none) (λ _. applied_give _))
-  discard_place_applied i Nowhere = applied_give _
-
-  pub discard_steps_applied : (l : ℕ) → Applied g (discard_steps g l)
-  unfolding discard_steps
-  discard_steps_applied l =
-      applied_bind (translate_applied l) (λ i. applied_bind (applied_look _) (λ place. discard_place_applied i place))
-
   pub format_steps_applied : Applied g (format_steps g)
   unfolding format_steps
   format_steps_applied =
@@ -231,16 +220,9 @@ module _ {g : Geometry} where
   unfolding write
   write_applied others l buffer = applied_bind (applied_look _) (λ tests. admit_applied _ _ (write_steps_applied l buffer))
 
-  pub discard_applied : (others : List Size) (l : ℕ) → Applied g (discard g others l)
-  unfolding discard
-  discard_applied others l = applied_bind (applied_look _) (λ tests. admit_applied _ _ (discard_steps_applied l))
-
   serve_applied : (q : Request) (buffer : List ℕ) → Applied g (serve g q buffer)
-  unfolding serve discard_record
-  serve_applied q buffer =
-      applied_cond (eqb q.kind 0) (read_steps_applied _ buffer)
-      (applied_cond (eqb q.kind 1) (write_steps_applied _ buffer)
-      (applied_bind (discard_steps_applied _) (λ n. applied_give _)))
+  unfolding serve
+  serve_applied q buffer = applied_cond (eqb q.kind 0) (read_steps_applied _ buffer) (write_steps_applied _ buffer)
 
   answer_record_applied : (q : Request) (buffer : List ℕ) → Applied g (answer_record g q buffer)
   unfolding answer_record

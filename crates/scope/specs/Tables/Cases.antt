@@ -119,7 +119,7 @@ in_C counts =
 
 -- A write, a read of it, a kind that is none, a page past L, and a page never written.
 abbrev pub requests : List ℕ
-requests = 1 ∷ 0 ∷ 0 ∷ 0 ∷ 3 ∷ 1 ∷ 0 ∷ 3 ∷ 0 ∷ 2 ∷ []
+requests = 1 ∷ 0 ∷ 0 ∷ 0 ∷ 2 ∷ 1 ∷ 0 ∷ 3 ∷ 0 ∷ 2 ∷ []
 
 pub record RunsAndWords : Type 0 where
   pub records_answer_alone :

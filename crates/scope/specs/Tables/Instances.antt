@@ -5,29 +5,10 @@ use Rattle.scope.specs.Geometry.{Geometry}
 use Rattle.scope.specs.SmallRecord.{record_of}
 use Rattle.scope.specs.Lent.{none, erased, valid, invalid, is_erased, words_of, State}
 use Rattle.scope.specs.Decisions.{sound}
-use Rattle.scope.specs.Operations.{Operation, Read, Program, Mark, Erase, Outcome, apply, counted, give, ◌>>=◌}
+use Rattle.scope.specs.Operations.{Operation, Read, Program, Mark, Erase, Outcome, apply, counted}
 use Rattle.scope.specs.Replies.{DONE, UNWRITTEN}
-use Rattle.scope.specs.Requests.{Replied, replied}
-use Rattle.scope.specs.Calls.{discard}
-use Rattle.scope.specs.Boundary.{words_of_counts}
+use Rattle.scope.specs.Requests.{Replied}
 use Rattle.scope.specs.Tables.Play.{computed, Line, W, R, formatted, made, printed, play}
-
--- What is asked of a node: by a line of 01's session, or by a discard (02, P6).
-pub data Asked : Type 0 where
-  By : Line → Asked
-  Discard : ℕ → Asked
-
-unfoldable pub lines : List Line → List Asked
-lines [] = []
-lines (l ∷ ls) = By l ∷ lines ls
-
-unfoldable pub answered : Geometry → Asked → State → Outcome Replied
-answered g (By l) = made g l
-answered g (Discard l) = discard g [] l >>= (λ n. give (replied [] n))
-
-unfoldable pub told : Asked → Outcome Replied → List ℕ
-told (By l) o = printed l o
-told (Discard l) o = o.value.reply ∷ words_of_counts (counted o.did)
 
 -- "Only erased pages are programmed": of a list of operations, each at its moment.
 unfoldable pub programs_erased : Geometry → List Operation → State → Bool
@@ -38,48 +19,45 @@ programs_erased g (Program p owner words ∷ os) s =
 programs_erased g (Mark p ∷ os) s = programs_erased g os (apply g (Mark p) s)
 programs_erased g (Erase b ∷ os) s = programs_erased g os (apply g (Erase b) s)
 
--- "(2P+1)(P+1) reads, programs and erases" for a write; "2P+3" for a read; 02, P6: "2P+2" for a discard.
-unfoldable pub bound : Geometry → Asked → ℕ
-bound g (By (W l value)) = (2 * g.P + 1) * (g.P + 1)
-bound g (By (R l)) = 2 * g.P + 3
-bound g (Discard l) = 2 * g.P + 2
+-- "(2P+1)(P+1) reads, programs and erases" for a write; "2P+3" for a read.
+unfoldable pub bound : Geometry → Line → ℕ
+bound g (W l value) = (2 * g.P + 1) * (g.P + 1)
+bound g (R l) = 2 * g.P + 3
 
-unfoldable pub within_bound : Geometry → Asked → Outcome Replied → Bool
-within_bound g asked o =
+unfoldable pub within_bound : Geometry → Line → Outcome Replied → Bool
+within_bound g line o =
     let c = counted o.did in
-    leb (c.reads + c.programs + c.erases) (bound g asked)
+    leb (c.reads + c.programs + c.erases) (bound g line)
 
--- What was last written to each page and not discarded since: its value, *none* where nothing was.
-unfoldable pub noted : Asked → List ℕ → List ℕ
-noted (By (W l value)) last = set last l value
-noted (By (R l)) last = last
-noted (Discard l) last = set last l none
+-- What was last written to each page: its value, *none* where nothing was.
+unfoldable pub noted : Line → List ℕ → List ℕ
+noted (W l value) last = set last l value
+noted (R l) last = last
 
-unfoldable pub as_written : Asked → List ℕ → Replied → Bool
-as_written (By (W l value)) last r = eqb r.reply DONE
-as_written (By (R l)) last r =
+unfoldable pub as_written : Line → List ℕ → Replied → Bool
+as_written (W l value) last r = eqb r.reply DONE
+as_written (R l) last r =
     cond (eqb (get_or last l none) none)
     (eqb r.reply UNWRITTEN)
     (eqb r.reply DONE && eqb (get_or r.buffer 0 none) (get_or last l none))
-as_written (Discard l) last r = eqb r.reply (cond (eqb (get_or last l none) none) UNWRITTEN DONE)
 
--- What is told of each, and which of the four does not hold: 1 not sound, 2 a programmed page programmed, 3 over the bound, 4 another word.
+-- What a line prints, and which of the four does not hold: 1 not sound, 2 a programmed page programmed, 3 over the bound, 4 another word.
 unfoldable pub fault : ℕ → Bool → List ℕ
 fault n holds = cond holds [] (n ∷ [])
 
-unfoldable pub faults : Geometry → Asked → List ℕ → State → Outcome Replied → List ℕ
-faults g asked last s o =
+unfoldable pub faults : Geometry → Line → List ℕ → State → Outcome Replied → List ℕ
+faults g line last s o =
     fault 1 (sound g o.after) ++ fault 2 (programs_erased g o.did s)
-    ++ fault 3 (within_bound g asked o) ++ fault 4 (as_written asked last o.value)
+    ++ fault 3 (within_bound g line o) ++ fault 4 (as_written line last o.value)
 
-unfoldable pub watch : Geometry → List Asked → List ℕ → State → List (List (List ℕ))
+unfoldable pub watch : Geometry → List Line → List ℕ → State → List (List (List ℕ))
 watch g [] last s = []
-watch g (asked ∷ more) last s =
-    let o = answered g asked s in
-    (told asked o ∷ faults g asked last s o ∷ []) ∷ watch g more (noted asked last) o.after
+watch g (line ∷ lines) last s =
+    let o = made g line s in
+    (printed line o ∷ faults g line last s o ∷ []) ∷ watch g lines (noted line last) o.after
 
-unfoldable pub watched : Geometry → List Asked → List (List (List ℕ))
-watched g asked = watch g asked (replicate g.L none) (formatted g)
+unfoldable pub watched : Geometry → List Line → List (List (List ℕ))
+watched g lines = watch g lines (replicate g.L none) (formatted g)
 
 -- A line that prints so, and nothing is wrong.
 abbrev pub good : List ℕ → List (List ℕ)
@@ -92,45 +70,45 @@ pub record Instances : Type 0 where
   -- An unchanged entry is dropped and not written back; a changed one is.
   pub dropped_entries :
       good (1 ∷ 0 ∷ 0 ∷ 0 ∷ []) ∷ good (0 ∷ 0 ∷ 1 ∷ 0 ∷ []) ∷ good (1 ∷ 0 ∷ 1 ∷ 0 ∷ []) ∷ good (0 ∷ 2 ∷ 0 ∷ 0 ∷ 11 ∷ []) ∷ []
-      ≡ watched (geometry 2 1 3 3 3 1) (lines (R 1 ∷ W 0 11 ∷ R 1 ∷ R 0 ∷ []))
+      ≡ watched (geometry 2 1 3 3 3 1) (R 1 ∷ W 0 11 ∷ R 1 ∷ R 0 ∷ [])
   -- D and T of 2: the open block, once full, is the only victim; the update's own page moves when its region makes room.
   pub two_blocks :
       good (0 ∷ 0 ∷ 1 ∷ 0 ∷ []) ∷ good (0 ∷ 0 ∷ 2 ∷ 0 ∷ []) ∷ good (0 ∷ 1 ∷ 2 ∷ 0 ∷ []) ∷ good (0 ∷ 7 ∷ 7 ∷ 2 ∷ [])
       ∷ good (0 ∷ 5 ∷ 3 ∷ 1 ∷ 12 ∷ []) ∷ []
-      ≡ watched (geometry 3 1 2 2 2 1) (lines (W 0 10 ∷ W 1 11 ∷ W 0 12 ∷ W 1 13 ∷ R 0 ∷ []))
+      ≡ watched (geometry 3 1 2 2 2 1) (W 0 10 ∷ W 1 11 ∷ W 0 12 ∷ W 1 13 ∷ R 0 ∷ [])
   -- P of 1: every collection moves nothing.
   pub one_page_blocks :
       good (0 ∷ 0 ∷ 1 ∷ 0 ∷ []) ∷ good (0 ∷ 0 ∷ 1 ∷ 0 ∷ []) ∷ good (0 ∷ 0 ∷ 1 ∷ 1 ∷ []) ∷ good (0 ∷ 0 ∷ 1 ∷ 1 ∷ [])
       ∷ good (0 ∷ 1 ∷ 0 ∷ 0 ∷ 13 ∷ []) ∷ []
-      ≡ watched (geometry 1 1 3 3 1 2) (lines (W 0 10 ∷ W 0 11 ∷ W 0 12 ∷ W 0 13 ∷ R 0 ∷ []))
+      ≡ watched (geometry 1 1 3 3 1 2) (W 0 10 ∷ W 0 11 ∷ W 0 12 ∷ W 0 13 ∷ R 0 ∷ [])
   -- A moved page's entry behind the front takes the new place, is changed, and keeps its rank.
   pub moved_behind_the_front :
       good (0 ∷ 0 ∷ 1 ∷ 0 ∷ []) ∷ good (0 ∷ 0 ∷ 1 ∷ 0 ∷ []) ∷ good (0 ∷ 0 ∷ 1 ∷ 0 ∷ []) ∷ good (0 ∷ 2 ∷ 3 ∷ 1 ∷ [])
       ∷ good (0 ∷ 1 ∷ 0 ∷ 0 ∷ 12 ∷ []) ∷ []
-      ≡ watched (geometry 3 1 2 2 2 2) (lines (W 0 10 ∷ W 1 11 ∷ W 1 12 ∷ W 0 13 ∷ R 1 ∷ []))
+      ≡ watched (geometry 3 1 2 2 2 2) (W 0 10 ∷ W 1 11 ∷ W 1 12 ∷ W 0 13 ∷ R 1 ∷ [])
   -- Of two blocks with as few valid pages the lower is the victim.
   pub lowest_on_a_tie :
       good (0 ∷ 0 ∷ 1 ∷ 0 ∷ []) ∷ good (0 ∷ 0 ∷ 2 ∷ 0 ∷ []) ∷ good (0 ∷ 1 ∷ 2 ∷ 0 ∷ []) ∷ good (0 ∷ 0 ∷ 1 ∷ 0 ∷ [])
       ∷ good (0 ∷ 3 ∷ 3 ∷ 1 ∷ []) ∷ []
-      ≡ watched (geometry 2 1 3 3 3 1) (lines (W 2 10 ∷ W 0 11 ∷ W 2 12 ∷ W 2 13 ∷ W 0 14 ∷ []))
+      ≡ watched (geometry 2 1 3 3 3 1) (W 2 10 ∷ W 0 11 ∷ W 2 12 ∷ W 2 13 ∷ W 0 14 ∷ [])
   -- Moved entries of two translation pages wait: both are updated, the lower first.
   pub two_pages_touched :
       good (0 ∷ 0 ∷ 1 ∷ 0 ∷ []) ∷ good (0 ∷ 0 ∷ 1 ∷ 0 ∷ []) ∷ good (0 ∷ 0 ∷ 2 ∷ 0 ∷ []) ∷ good (0 ∷ 0 ∷ 2 ∷ 0 ∷ [])
       ∷ good (0 ∷ 0 ∷ 1 ∷ 0 ∷ []) ∷ good (0 ∷ 0 ∷ 1 ∷ 0 ∷ []) ∷ good (0 ∷ 4 ∷ 5 ∷ 1 ∷ []) ∷ []
-      ≡ watched (geometry 3 1 3 3 5 2) (lines (W 3 10 ∷ W 1 11 ∷ W 0 12 ∷ W 2 13 ∷ W 0 14 ∷ W 0 15 ∷ W 2 16 ∷ []))
+      ≡ watched (geometry 3 1 3 3 5 2) (W 3 10 ∷ W 1 11 ∷ W 0 12 ∷ W 2 13 ∷ W 0 14 ∷ W 0 15 ∷ W 2 16 ∷ [])
   -- Two moved entries of one translation page wait: it is updated once.
   pub one_page_touched_twice :
       good (0 ∷ 0 ∷ 1 ∷ 0 ∷ []) ∷ good (0 ∷ 0 ∷ 1 ∷ 0 ∷ []) ∷ good (0 ∷ 0 ∷ 1 ∷ 0 ∷ []) ∷ good (0 ∷ 0 ∷ 2 ∷ 0 ∷ [])
       ∷ good (0 ∷ 1 ∷ 2 ∷ 0 ∷ []) ∷ good (0 ∷ 0 ∷ 1 ∷ 0 ∷ []) ∷ good (0 ∷ 4 ∷ 4 ∷ 1 ∷ []) ∷ []
-      ≡ watched (geometry 3 2 3 2 4 2) (lines (W 0 10 ∷ W 0 11 ∷ W 1 12 ∷ W 2 13 ∷ W 3 14 ∷ W 3 15 ∷ W 2 16 ∷ []))
+      ≡ watched (geometry 3 2 3 2 4 2) (W 0 10 ∷ W 0 11 ∷ W 1 12 ∷ W 2 13 ∷ W 3 14 ∷ W 3 15 ∷ W 2 16 ∷ [])
   -- The translation region is collected while the data region is, and the pages of both are found.
   pub collections_in_a_collection :
       good (0 ∷ 0 ∷ 1 ∷ 0 ∷ []) ∷ good (0 ∷ 0 ∷ 2 ∷ 0 ∷ []) ∷ good (0 ∷ 0 ∷ 2 ∷ 0 ∷ []) ∷ good (0 ∷ 1 ∷ 2 ∷ 0 ∷ [])
       ∷ good (0 ∷ 1 ∷ 2 ∷ 0 ∷ []) ∷ good (0 ∷ 1 ∷ 2 ∷ 0 ∷ []) ∷ good (0 ∷ 9 ∷ 10 ∷ 3 ∷ []) ∷ []
-      ≡ watched (geometry 3 1 3 3 5 1) (lines (W 4 10 ∷ W 2 11 ∷ W 0 12 ∷ W 4 13 ∷ W 3 14 ∷ W 4 15 ∷ W 1 16 ∷ []))
+      ≡ watched (geometry 3 1 3 3 5 1) (W 4 10 ∷ W 2 11 ∷ W 0 12 ∷ W 4 13 ∷ W 3 14 ∷ W 4 15 ∷ W 1 16 ∷ [])
 
 pub instances_hold : Instances
-unfolding computed lines answered told programs_erased bound within_bound noted as_written fault faults watch watched
+unfolding computed programs_erased bound within_bound noted as_written fault faults watch watched
 instances_hold =
     record {
       dropped_entries = refl;
@@ -193,19 +171,19 @@ pub record Neighbours : Type 0 where
   -- found where it was set.
   pub written_back :
       good (1 ∷ 0 ∷ 1 ∷ 0 ∷ []) ∷ good (0 ∷ 2 ∷ 0 ∷ 0 ∷ 11 ∷ []) ∷ good (1 ∷ 1 ∷ 0 ∷ 0 ∷ []) ∷ good (0 ∷ 2 ∷ 1 ∷ 0 ∷ 12 ∷ []) ∷ []
-      ≡ watch H (lines (R 4 ∷ R 1 ∷ R 0 ∷ R 2 ∷ [])) (none ∷ 11 ∷ 12 ∷ 13 ∷ none ∷ []) four_cached
+      ≡ watch H (R 4 ∷ R 1 ∷ R 0 ∷ R 2 ∷ []) (none ∷ 11 ∷ 12 ∷ 13 ∷ none ∷ []) four_cached
   -- "Those at *none* too": the word becomes *none*, and the page is unwritten still once its entry is gone.
   pub none_left : (2 ∷ none ∷ 0 ∷ 1 ∷ none ∷ 0 ∷ []) ∷ (0 ∷ none ∷ none ∷ none ∷ []) ∷ [] ≡ left_in 7 N (R 2 ∷ []) one_at_none
   pub none_written_back :
       good (1 ∷ 2 ∷ 1 ∷ 0 ∷ []) ∷ good (0 ∷ 2 ∷ 0 ∷ 0 ∷ 10 ∷ []) ∷ good (1 ∷ 1 ∷ 0 ∷ 0 ∷ []) ∷ good (0 ∷ 0 ∷ 1 ∷ 0 ∷ []) ∷ []
-      ≡ watch N (lines (R 2 ∷ R 0 ∷ R 1 ∷ W 1 12 ∷ [])) (10 ∷ none ∷ none ∷ []) one_at_none
+      ≡ watch N (R 2 ∷ R 0 ∷ R 1 ∷ W 1 12 ∷ []) (10 ∷ none ∷ none ∷ []) one_at_none
   -- Drops only: a collection sets what it moved, and no neighbour.
   pub moved_alone :
       (3 ∷ 8 ∷ 1 ∷ 2 ∷ 5 ∷ 1 ∷ []) ∷ (6 ∷ 7 ∷ none ∷ none ∷ []) ∷ []
       ≡ left_in 10 K (W 0 10 ∷ W 1 11 ∷ W 2 12 ∷ W 3 13 ∷ W 2 14 ∷ W 2 15 ∷ W 3 16 ∷ []) (formatted K)
 
 pub neighbours_hold : Neighbours
-unfolding computed lines answered told programs_erased bound within_bound noted as_written fault faults watch left_in
+unfolding computed programs_erased bound within_bound noted as_written fault faults watch left_in
 neighbours_hold =
     record {
       one_left = refl;

@@ -11,8 +11,8 @@ use Rattle.scope.specs.Room.{read_page, program_next, erased_blocks, lowest_eras
 use Rattle.scope.specs.Cache.{touch, enter, dropped, forget, changed_of, unchanged_of, become_unchanged, set_entry}
 use Rattle.scope.specs.Steps.{directory_names_it, begun, set_words, mark_old, update, of_page, update_touched, cache_or_wait, update_all, write_back, drop_entry, drop_if_full, word_for, fetch, translate}
 use Rattle.scope.specs.Replies.{DONE, first_applying, admit, right_sizes}
-use Rattle.scope.specs.Requests.{Replied, read_place, read_steps, write_steps, discard_place, discard_steps, format_steps}
-use Rattle.scope.specs.Calls.{format, check, read, write, discard, discard_record, serve, answer_record, serve_record, serve_records, run}
+use Rattle.scope.specs.Requests.{Replied, read_place, read_steps, write_steps, format_steps}
+use Rattle.scope.specs.Calls.{format, check, read, write, serve, answer_record, serve_record, serve_records, run}
 
 -- `W page value`, which gives the value to all words of the page, or `R page`.
 pub data Line : Type 0 where
@@ -65,5 +65,5 @@ play g (l ∷ ls) s =
 
 -- x itself, where everything that a call computes with is unfolded.
 unfoldable pub computed : {A : Type 0} → A → A
-unfolding unformatted first_format formatted made first_word printed play format read write discard counted apply give look perform set_directory set_cache set_small for ◌>>=◌ read_page program_next erased_blocks lowest_erased victim move_page move_if_valid move_pages collect open_lowest open_or_collect make_room touch enter dropped forget changed_of unchanged_of become_unchanged set_entry directory_names_it begun set_words mark_old update of_page update_touched cache_or_wait update_all write_back drop_entry drop_if_full word_for fetch translate first_applying admit right_sizes read_place read_steps write_steps discard_place discard_steps discard_record format_steps accepted sound page_fits pages_fit owners_differ blocks_fit directory_names entries_fit protected_fit places_hold unchanged_agree rank_of stored current check run serve answer_record serve_record serve_records
+unfolding unformatted first_format formatted made first_word printed play format read write counted apply give look perform set_directory set_cache set_small for ◌>>=◌ read_page program_next erased_blocks lowest_erased victim move_page move_if_valid move_pages collect open_lowest open_or_collect make_room touch enter dropped forget changed_of unchanged_of become_unchanged set_entry directory_names_it begun set_words mark_old update of_page update_touched cache_or_wait update_all write_back drop_entry drop_if_full word_for fetch translate first_applying admit right_sizes read_place read_steps write_steps format_steps accepted sound page_fits pages_fit owners_differ blocks_fit directory_names entries_fit protected_fit places_hold unchanged_agree rank_of stored current check run serve answer_record serve_record serve_records
 computed x = x

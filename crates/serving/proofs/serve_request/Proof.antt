@@ -1,12 +1,10 @@
 -- `serving::serve_request` meets its contract.
 use borrow.Author.Rules.{rules}
 use borrow.Author.Tests.{eq-eqb, ne_eqb}
-use Rattle.lent.specs.Model.{geometry}
 use Rattle.lent.specs.DoesLaws.{does_cond_true, does_cond_false}
 use Rattle.scope.specs.Calls.{serve}
 use Rattle.lent.specs.Ready.{ready_less}
-use Rattle.admission.specs.Room.{read_few, write_few, discard_few}
-use Rattle.requests.specs.Answering.{discard_record_does}
+use Rattle.admission.specs.Room.{read_few, write_few}
 use Rattle.serving.proofs.serve_request.Statement.{statement}
 use Rattle.serving.proofs.serve_request.Tie as tie
 
@@ -33,12 +31,14 @@ same-length-5 c = search rules
 returns : tie.Need-returns
 unfolding serve
 returns c =
-    let done = c.before.before.before.before.before.before.before.before.before.before in
-    (does_cond_true _ _ _ (eq-eqb _ _ done.before.before.before.before.before.before.before.before.if1.true) done.read.ensures.0, done.read.ensures.1)
+    let done = c.before.before.before.before.before.before.before.before.before.before in (
+      does_cond_true _ _ _ (eq-eqb _ _ done.before.before.before.before.before.before.before.before.if1.true) done.read.ensures.0,
+      done.read.ensures.1,
+    )
 
 write-requires : tie.Need-write-requires
 write-requires c κs =
-    let ((ready, long), noted) = c.before.before.before.before.before.before.before.before.before.before.before.before.before.before.before.before.requires in
+    let ((ready, long), noted) = c.before.before.before.before.before.before.before.before.before.before.before.before.before.before.requires in
     ((ready_less (write_few ready.ready.accepted) ready, long), noted)
 
 same-length-6 : tie.Need-same-length-6
@@ -59,41 +59,9 @@ same-length-10 c = search rules
 returns-2 : tie.Need-returns-2
 unfolding serve
 returns-2 c =
-    let done = c.before.before.before.before.before.before.before.before in
-    let chosen = done.before.before.before.before.before.before.before.before in
-    let kind = chosen.before.before.before.before.before.before.before.before.before.args.q.kind in (
-      does_cond_false _ _ _ (ne_eqb kind 0 chosen.before.before.if1.false)
-          (does_cond_true _ _ _ (eq-eqb kind 1 chosen.if2.true) done.write.ensures.0),
+    let done = c.before.before.before.before.before.before.before.before in (
+      does_cond_false _ _ _ (ne_eqb _ _ done.before.before.before.before.before.before.before.before.if1.false) done.write.ensures.0,
       done.write.ensures.1,
-    )
-
-discard-requires : tie.Need-discard-requires
-discard-requires c κs =
-    let ((ready, long), noted) = c.before.before.before.before.before.before.before.before.before.before.before.before.before.before.before.requires in
-    (ready_less (discard_few ready.ready.accepted) ready, noted)
-
-same-length-11 : tie.Need-same-length-11
-same-length-11 c = search rules
-
-same-length-12 : tie.Need-same-length-12
-same-length-12 c = search rules
-
-same-length-13 : tie.Need-same-length-13
-same-length-13 c = search rules
-
-same-length-14 : tie.Need-same-length-14
-same-length-14 c = search rules
-
-returns-3 : tie.Need-returns-3
-unfolding serve
-returns-3 c =
-    let done = c.before.before.before.before.before.before.before.before in
-    let chosen = done.before.before.before.before.before.before.before in
-    let a = chosen.before.before.before.before.before.before.before.before.before.args in (
-      does_cond_false _ _ _ (ne_eqb a.q.kind 0 chosen.before.before.if1.false)
-          (does_cond_false _ _ _ (ne_eqb a.q.kind 1 chosen.if2.false)
-          (discard_record_does (geometry a.g) a.q.page a.buffer.now done.discard.ensures.0)),
-      done.discard.ensures.1,
     )
 
 pub serve-request-spec : {M : Type 1} → statement M
@@ -113,10 +81,4 @@ serve-request-spec =
     same-length-8
     same-length-9
     same-length-10
-    returns-2
-    discard-requires
-    same-length-11
-    same-length-12
-    same-length-13
-    same-length-14
-    returns-3)
+    returns-2)
