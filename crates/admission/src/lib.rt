@@ -1,6 +1,8 @@
 // The tests of a call that see its state: DAMAGED behind those of crate replies, and a single request's own behind it. On the way the notes
 // are taken that the steps read instead of searching, the census of the blocks and the filter of the cached pages: a state found sound has
 // both. They are no part of the state: a call keeps them on its stack, as long as it lasts.
+#![tactic(auto)]
+
 ghost use Rattle.std.specs.Prelude.{◌≡◌, ◌≤◌, length};
 ghost use Rattle.lent.specs.Model.{geometry, state};
 ghost use Rattle.lent.specs.Notes.{census_words};

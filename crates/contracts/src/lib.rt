@@ -1,1 +1,2 @@
 // The three demands, said of the contracts of the public calls. No code.
+#![tactic(auto)]

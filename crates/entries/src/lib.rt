@@ -1,4 +1,6 @@
 // The cache's entries: found, moved to the front, entered, dropped and set, with the numbers of those in use and of the protected ones.
+#![tactic(auto)]
+
 ghost use Rattle.std.specs.Prelude.{◌≡◌, ◌+◌, ◌*◌, ◌≤◌, ◌<◌, length};
 ghost use Rattle.scope.specs.Sound.{rank_of};
 ghost use Rattle.scope.specs.Cache.{is_changed, protected_after, touch, enter, forget, set_entry};

@@ -2,6 +2,8 @@
 // in crate facepage, the run in crate facerun. No call has a `requires`, and each contract cites the call's definition, so that it settles the
 // reply, the record, every lent list and the counts for every input. A body only copies the record, hands it on by value and stores what
 // comes back: all that is tested and done is in crate calls. The bodies have the shapes of tools/walks, which prints their proofs.
+#![tactic(auto)]
+
 ghost use Rattle.std.specs.Prelude.{length};
 ghost use Rattle.lent.specs.Model.{geometry, state};
 ghost use Rattle.scope.specs.Calls.{format, check};

@@ -1,5 +1,7 @@
 // Read and write for Rattle, over a small record that is lent and changed in place, and a page buffer. They have no `requires`, and the contracts
 // cite the calls' definitions, as in crate face; all that is tested and done is in crate calls.
+#![tactic(auto)]
+
 ghost use Rattle.std.specs.Prelude.{length};
 ghost use Rattle.lent.specs.Model.{geometry, state};
 ghost use Rattle.scope.specs.Requests.{replied};

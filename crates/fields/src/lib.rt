@@ -1,5 +1,7 @@
 // The settings record of document 02's P1, read and written field by field, by the table of its version. What each function means stands in
 // crate settings; what the structs and enums here mean, with 02's numbers for the refusals, in specs/Model.antt.
+#![tactic(auto)]
+
 ghost use Rattle.std.specs.Prelude.{◌≡◌};
 ghost use Rattle.settings.specs.Settings.{version_1};
 ghost use Rattle.fields.specs.Model.{version, IsRowOf};

@@ -1,4 +1,6 @@
 // Format: every lent word becomes the erased word, which is also *none*, whatever stood there.
+#![tactic(auto)]
+
 ghost use Rattle.std.specs.Prelude.{◌≡◌, length, replicate};
 ghost use Rattle.lent.specs.declared.Record.{Record};
 ghost use Rattle.lent.specs.Model.{geometry, state, counts};

@@ -1,5 +1,7 @@
 // Which geometries are accepted, what one derives, and whether the lent slices have its sizes. Any six numbers may come: each factor is
 // bounded before it is multiplied, and sums and products are taken in 64 bits, so that none wraps.
+#![tactic(auto)]
+
 ghost use Rattle.std.specs.Prelude.{◌≡◌, ◌&&◌, ◌+◌, ◌-◌, ◌*◌, ◌/◌, ◌≤◌, ◌<◌, leb};
 ghost use Rattle.scope.specs.Geometry.{Accepted, accepted, within, most_blocks, most_pages_in_block, most_pages, M, pages};
 ghost use Rattle.scope.specs.Replies.{right_sizes};

@@ -1,4 +1,6 @@
 // The index in code: update of a translation page, room in the translation region, what waits settled. Each does its definition.
+#![tactic(auto)]
+
 ghost use Rattle.std.specs.Prelude.{◌≡◌};
 ghost use Rattle.scope.specs.Cache.{changed_of, unchanged_of};
 ghost use Rattle.scope.specs.Steps.{of_page, update, update_all};

@@ -1,5 +1,7 @@
 // The lines of a session, read byte by byte, and the numbers that answer them, printed. What a line means and what a number's digits
 // are stands in specs/; a program over this crate only reads, calls and writes.
+#![tactic(auto)]
+
 ghost use Rattle.std.specs.Prelude.{◌≡◌};
 ghost use Rattle.std.proofs.Math.Option.{some};
 ghost use Rattle.lines.specs.Lines.{reading, writing};

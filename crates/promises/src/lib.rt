@@ -1,1 +1,2 @@
 // The three demands, proved of the definitions. No code.
+#![tactic(auto)]

@@ -2,6 +2,8 @@
 // in place and a lent slice of requests, is run and not only proved. The session is made twice on 01's geometry G, each time on a node that
 // is formatted first and checked at the end: by a call for each request, and as one run. All here has the record by value, which
 // lending.rt lends. It is proved safe and ending; what is printed, a word and the numbers of 01's session, is held to the file stdout.
+#![tactic(auto)]
+
 mod lending;
 mod printing;
 

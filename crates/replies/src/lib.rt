@@ -1,5 +1,7 @@
 // What a call is told and tells by numbers alone: 01's tests of the geometry, of lengths and of a request, the counts handed over, and the
 // two structs of the public calls that are neither a geometry nor a record. Nothing here sees a word of the state.
+#![tactic(auto)]
+
 pub mod counting;
 pub mod tests;
 

@@ -1,4 +1,6 @@
 // Translate, room in the data region, read and write in code: each does its definition.
+#![tactic(auto)]
+
 pub mod answers;
 pub mod following;
 pub mod room;

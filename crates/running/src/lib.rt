@@ -1,5 +1,7 @@
 // A run in its parts: what they hand on, what each does, and that together they are the call of the definitions. Whoever has the requests
 // goes through them between `begin` and `finish`, so the laws stand apart from the code of the parts. No code.
+#![tactic(auto)]
+
 use lent::{Counts, Record};
 
 // The run's answer so far, which is 0 where the run is admitted, the counts of the requests served, and the small record.

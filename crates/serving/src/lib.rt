@@ -1,6 +1,8 @@
 // A run in three parts, so that whoever has the requests can go through them: `begin` tests once, `serve` serves one request, `finish`
 // hands over the counts. What the parts hand on says whether the run was admitted; where it wasn't, nothing is done. Whoever goes through
 // the requests also owns the notes, which `begin` takes and every request keeps, so that a run searches the chip once.
+#![tactic(auto)]
+
 ghost use Rattle.std.specs.Prelude.{◌≡◌, length};
 ghost use Rattle.scope.specs.Requests.{replied};
 ghost use Rattle.lent.specs.Model.{geometry, state};

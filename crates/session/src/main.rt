@@ -3,6 +3,8 @@
 // What a line means is proved in crate `lines`; that the bytes printed for it, and the state after it, are those of 01's definitions is
 // proved in serve.rt. No contract can say what is read and written: the functions here, which feed the input to the one and write what
 // the other gives, are proved safe and ending, and the program is run on 01's session (stdin, stdout) and by tests/session.
+#![tactic(auto)]
+
 mod serve;
 
 use crate::serve::{C, CACHE, CHIP, D, DIRECTORY, L, P, RECORD, SPARE, T, W, serve};

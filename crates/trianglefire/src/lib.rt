@@ -1,6 +1,8 @@
 // The calls for C. Numbers come first, then slices, each a pointer and a count of its elements; the reply number is returned. No call has a
 // `requires`, for nothing checks one from C: each contract gives, for every input, the reply and every lent word by the call's definition in
 // words. All that an export does is to hand on: the numbers of the geometry as one, and every slice as it is.
+#![tactic(auto)]
+
 ghost use Rattle.scope.specs.Requests.{replied};
 ghost use Rattle.scope.specs.Calls.{run_replied};
 ghost use Rattle.scope.specs.Boundary.{tf_format, tf_check, tf_read, tf_write, tf_run};

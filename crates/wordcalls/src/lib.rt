@@ -1,5 +1,7 @@
 // Format and check in words: the small record is loaded from its words, the call is made by value and the record is stored. Each contract
 // gives, for every input, the reply and every lent word by the call's definition in words, which are those of the calls for C.
+#![tactic(auto)]
+
 ghost use Rattle.lent.specs.Model.{geometry, words};
 ghost use Rattle.scope.specs.Boundary.{tf_format, tf_check};
 ghost use Rattle.scope.specs.Contracts.{Gives};

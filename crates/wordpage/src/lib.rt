@@ -1,4 +1,6 @@
 // Read and write in words, as format and check are in crate wordcalls: load the small record, make the call by value, store the record.
+#![tactic(auto)]
+
 ghost use Rattle.lent.specs.Model.{geometry, words};
 ghost use Rattle.scope.specs.Requests.{replied};
 ghost use Rattle.scope.specs.Boundary.{tf_read, tf_write};

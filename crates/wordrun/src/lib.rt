@@ -1,5 +1,7 @@
 // A run in words. An odd number of request words is refused with the other lengths, before any request is taken from them. The small record is
 // loaded from its words before the run, and stored after it.
+#![tactic(auto)]
+
 ghost use Rattle.std.specs.Prelude.{◌/◌, ◌%◌, length};
 ghost use Rattle.lent.specs.Model.{geometry, state, words as lent-words};
 ghost use Rattle.scope.specs.Calls.{run_replied, serve_records, run};
