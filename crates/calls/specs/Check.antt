@@ -10,7 +10,7 @@ use Rattle.scope.specs.Operations.{no_counts, give}
 use Rattle.scope.specs.Replies.{DONE, Size, first_applying, right_sizes}
 use Rattle.scope.specs.Calls.{state_sizes, state_tests, check}
 use Rattle.scope.specs.Boundary.{put_counts}
-use Rattle.scope.specs.Contracts.{Answers}
+use Rattle.scope.specs.Holding.{Answers}
 use Rattle.replies.specs.Answers.{does_answers, refuses, admits}
 use Rattle.replies.specs.Sizes.{with_others}
 use Rattle.admission.specs.Tested.{StateTested}

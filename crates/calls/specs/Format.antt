@@ -10,7 +10,7 @@ use Rattle.scope.specs.Requests.{format_steps}
 use Rattle.scope.specs.Calls.{state_sizes, size_tests, format}
 use Rattle.formatting.specs.Fresh.{SizedState}
 use Rattle.scope.specs.Boundary.{put_counts}
-use Rattle.scope.specs.Contracts.{Answers}
+use Rattle.scope.specs.Holding.{Answers}
 use Rattle.replies.specs.Answers.{does_answers, refuses, admits}
 use Rattle.replies.specs.Sizes.{with_others}
 use Rattle.admission.specs.Tested.{sizes_pass, geometry_passes, lengths_pass}

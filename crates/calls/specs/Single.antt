@@ -11,7 +11,7 @@ use Rattle.scope.specs.Replies.{DONE, Size, first_applying, right_sizes, admit}
 use Rattle.scope.specs.Requests.{Replied, replied}
 use Rattle.scope.specs.Calls.{state_sizes, buffer_sizes, state_tests, request_tests, single_tests}
 use Rattle.scope.specs.Boundary.{put_counts}
-use Rattle.scope.specs.Contracts.{Answers}
+use Rattle.scope.specs.Holding.{Answers}
 use Rattle.words.specs.Noted.{Noted}
 use Rattle.lent.specs.Ready.{ReadyFor}
 use Rattle.replies.specs.Answers.{does_answers, refuses, admits}

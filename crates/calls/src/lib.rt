@@ -8,7 +8,7 @@ ghost use Rattle.lent.specs.Model.{geometry, state};
 ghost use Rattle.scope.specs.Calls.{format, check, read, write};
 ghost use Rattle.scope.specs.Requests.{replied};
 ghost use Rattle.scope.specs.Boundary.{call_sizes};
-ghost use Rattle.scope.specs.Contracts.{Answers};
+ghost use Rattle.scope.specs.Holding.{Answers};
 
 use admission::{check_answer, single_answer};
 use lent::{CENSUS_WORDS, FILTER_WORDS, Geometry, Record, Work};

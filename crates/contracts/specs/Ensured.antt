@@ -9,7 +9,7 @@ use Rattle.scope.specs.Replies.{Size}
 use Rattle.scope.specs.Requests.{Replied, replied}
 use Rattle.scope.specs.Calls.{RunReplied, run_replied, format, check, read, write, run}
 use Rattle.scope.specs.Boundary.{Words, word_sizes, requests_of, in_words, tf_format, tf_check, tf_read, tf_write, tf_run}
-use Rattle.scope.specs.Contracts.{Answers, Gives}
+use Rattle.scope.specs.Holding.{Answers, Gives}
 use Rattle.promises.specs.Call.{Format, Check, ReadPage, WritePage, Run, Answer, answer}
 use Rattle.contracts.specs.Made.{Numbers, AsWords, ContractAllows}
 

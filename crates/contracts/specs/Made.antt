@@ -7,7 +7,7 @@ use Rattle.scope.specs.SmallRecord.{record_words}
 use Rattle.scope.specs.Lent.{State}
 use Rattle.scope.specs.Operations.{no_counts}
 use Rattle.scope.specs.Boundary.{Words, from_words, put_counts, in_words}
-use Rattle.scope.specs.Contracts.{Answers, Gives}
+use Rattle.scope.specs.Holding.{Answers, Gives}
 use Rattle.promises.specs.Call.{Call, Answer, make, as_lent}
 use Rattle.promises.specs.Grounds.{Refusal}
 use Rattle.promises.specs.Remembered.{Store, noted}

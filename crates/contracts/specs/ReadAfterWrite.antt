@@ -16,7 +16,7 @@ use Rattle.scope.specs.Requests.{replied}
 use Rattle.scope.specs.Replies.{DONE, UNWRITTEN, Size}
 use Rattle.scope.specs.Calls.{buffer_sizes, run_sizes, read_of, write_of, part, run_replied, write}
 use Rattle.scope.specs.Boundary.{Words, from_words, word_sizes, counts_words, put_counts, words_of_counts, tf_check, tf_read, tf_write, tf_run, requests_of}
-use Rattle.scope.specs.Contracts.{Gives}
+use Rattle.scope.specs.Holding.{Gives}
 use Rattle.flash.specs.Moments.{total, cost}
 use Rattle.promises.specs.Call.{Call, Format, Check, ReadPage, WritePage, Run, Answer}
 use Rattle.promises.specs.Grounds.{Right, Refusal}

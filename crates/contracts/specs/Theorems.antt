@@ -5,7 +5,7 @@ use Rattle.scope.specs.Geometry.{Geometry}
 use Rattle.scope.specs.Lent.{State}
 use Rattle.scope.specs.Operations.{counted}
 use Rattle.scope.specs.Boundary.{put_counts}
-use Rattle.scope.specs.Contracts.{answers_one_outcome, gives_one_outcome}
+use Rattle.scope.specs.Holding.{answers_one_outcome, gives_one_outcome}
 use Rattle.promises.specs.Call.{Call, make}
 use Rattle.contracts.specs.Made.{Numbers, ByContract}
 use Rattle.contracts.specs.Demands.{CallsMeet}

@@ -17,7 +17,7 @@ use Rattle.scope.specs.Lent.{State}
 use Rattle.scope.specs.Replies.{Size}
 use Rattle.scope.specs.Calls.{format, check}
 use Rattle.scope.specs.Boundary.{call_sizes}
-use Rattle.scope.specs.Contracts.{Answers}
+use Rattle.scope.specs.Holding.{Answers}
 use Rattle.promises.specs.Call.{Format, Check}
 use Rattle.contracts.specs.Made.{Numbers as AsNumbers, ContractAllows}
 use Rattle.contracts.specs.Ensured.{by_number, format_made, check_made}

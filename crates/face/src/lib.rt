@@ -9,7 +9,7 @@ ghost use Rattle.lent.specs.Model.{geometry, state};
 ghost use Rattle.scope.specs.Calls.{format, check};
 ghost use Rattle.scope.specs.SmallRecord.{record_words};
 ghost use Rattle.scope.specs.Boundary.{call_sizes};
-ghost use Rattle.scope.specs.Contracts.{Answers};
+ghost use Rattle.scope.specs.Holding.{Answers};
 
 use lent::{Geometry, RECORD_WORDS, Record};
 

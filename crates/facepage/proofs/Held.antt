@@ -18,7 +18,7 @@ use Rattle.scope.specs.Replies.{Size}
 use Rattle.scope.specs.Requests.{replied}
 use Rattle.scope.specs.Calls.{read, write}
 use Rattle.scope.specs.Boundary.{call_sizes}
-use Rattle.scope.specs.Contracts.{Answers}
+use Rattle.scope.specs.Holding.{Answers}
 use Rattle.promises.specs.Call.{ReadPage, WritePage}
 use Rattle.contracts.specs.Made.{Numbers as AsNumbers, ContractAllows}
 use Rattle.contracts.specs.Ensured.{by_page, read_made, write_made}

@@ -8,7 +8,7 @@ ghost use Rattle.scope.specs.Requests.{replied};
 ghost use Rattle.scope.specs.Calls.{read, write};
 ghost use Rattle.scope.specs.SmallRecord.{record_words};
 ghost use Rattle.scope.specs.Boundary.{call_sizes};
-ghost use Rattle.scope.specs.Contracts.{Answers};
+ghost use Rattle.scope.specs.Holding.{Answers};
 
 use lent::{Geometry, RECORD_WORDS, Record};
 

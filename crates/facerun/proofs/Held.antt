@@ -16,7 +16,7 @@ use Rattle.scope.specs.Lent.{State}
 use Rattle.scope.specs.Replies.{Size}
 use Rattle.scope.specs.Calls.{run_replied, run}
 use Rattle.scope.specs.Boundary.{call_sizes}
-use Rattle.scope.specs.Contracts.{Answers}
+use Rattle.scope.specs.Holding.{Answers}
 use Rattle.replies.specs.declared.Request.{Request}
 use Rattle.replies.specs.Model.{request}
 use Rattle.promises.specs.Call.{Run}

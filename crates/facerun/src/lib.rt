@@ -10,7 +10,7 @@ ghost use Rattle.lent.specs.Model.{geometry, state};
 ghost use Rattle.scope.specs.Calls.{run_replied, run};
 ghost use Rattle.scope.specs.SmallRecord.{record_words};
 ghost use Rattle.scope.specs.Boundary.{call_sizes};
-ghost use Rattle.scope.specs.Contracts.{Answers};
+ghost use Rattle.scope.specs.Holding.{Answers};
 ghost use Rattle.replies.specs.Model.{request};
 
 use crate::served::serve_all;

@@ -9,7 +9,7 @@ ghost use Rattle.scope.specs.Requests.{replied};
 ghost use Rattle.scope.specs.Calls.{run_replied, format, check, read, write, run};
 ghost use Rattle.scope.specs.SmallRecord.{record_words};
 ghost use Rattle.scope.specs.Boundary.{call_sizes};
-ghost use Rattle.scope.specs.Contracts.{Answers};
+ghost use Rattle.scope.specs.Holding.{Answers};
 
 use lent::{Geometry, Record};
 use replies::{Out, Request};

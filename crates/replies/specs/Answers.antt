@@ -8,7 +8,7 @@ use Rattle.scope.specs.Lent.{State}
 use Rattle.scope.specs.Operations.{Counts, no_counts, Step, look, ◌>>=◌}
 use Rattle.scope.specs.Replies.{DONE, Test, first_applying, admit}
 use Rattle.scope.specs.Boundary.{counts_words, put_counts}
-use Rattle.scope.specs.Contracts.{Answers}
+use Rattle.scope.specs.Holding.{Answers}
 
 pub set_three : (l : List ℕ) → length l ≡ counts_words → {a b c : ℕ} → set (set (set l 0 a) 1 b) 2 c ≡ a ∷ b ∷ c ∷ []
 set_three [] e = absurd (omega arith)

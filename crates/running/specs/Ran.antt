@@ -20,7 +20,7 @@ use Rattle.geometry.specs.Sizes.{piece_inside}
 use Rattle.replies.specs.declared.Request.{Request as Asked}
 use Rattle.replies.specs.Model.{request}
 use Rattle.running.specs.declared.Running.{Running}
-use Rattle.scope.specs.Contracts.{Answers}
+use Rattle.scope.specs.Holding.{Answers}
 use Rattle.replies.specs.Answers.{does_answers, refuses, admits}
 use Rattle.replies.specs.Sizes.{run_right, with_run}
 use Rattle.admission.specs.Tested.{state_passes, state_ready}

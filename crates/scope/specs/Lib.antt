@@ -23,7 +23,7 @@ pub mod Requests
 -- "What the library covers": the five calls, the same calls as C makes them, and the form of their contracts
 pub mod Calls
 pub mod Boundary
-pub mod Contracts
+pub mod Holding
 -- What is proved of these here: laws, and "A session in full" with other closed instances
 pub mod Laws
 pub mod Tables

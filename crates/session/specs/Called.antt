@@ -9,7 +9,7 @@ use Rattle.scope.specs.Replies.{DONE, Size, right_sizes}
 use Rattle.scope.specs.Calls.{read, write}
 use Rattle.scope.specs.Boundary.{counts_words, call_sizes, words_of_counts, put_counts, Words, InWords, from_words, to_words, word_sizes}
 use Rattle.scope.specs.Boundary.{in_words, tf_read, tf_write}
-use Rattle.scope.specs.Contracts.{Answers, Gives}
+use Rattle.scope.specs.Holding.{Answers, Gives}
 use Rattle.scope.specs.Laws.SmallRecord.{record_stored}
 use Rattle.scope.specs.Tables.Play.{Line, W, R, made, first_word, printed}
 use Rattle.scope.specs.Tables.Session.{G}

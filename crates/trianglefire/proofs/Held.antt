@@ -13,7 +13,7 @@ use Rattle.scope.specs.Geometry.{Geometry}
 use Rattle.scope.specs.Requests.{replied}
 use Rattle.scope.specs.Calls.{run_replied}
 use Rattle.scope.specs.Boundary.{Words, word_sizes, requests_of, tf_format, tf_check, tf_read, tf_write, tf_run}
-use Rattle.scope.specs.Contracts.{Gives}
+use Rattle.scope.specs.Holding.{Gives}
 use Rattle.promises.specs.Call.{Format, Check, ReadPage, WritePage, Run}
 use Rattle.contracts.specs.Made.{AsWords, ContractAllows}
 use Rattle.contracts.specs.Ensured.{by_number, by_page, by_run, run_word_sizes, tf_format_made, tf_check_made, tf_read_made, tf_write_made, tf_run_made}

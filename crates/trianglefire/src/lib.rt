@@ -6,7 +6,7 @@
 ghost use Rattle.scope.specs.Requests.{replied};
 ghost use Rattle.scope.specs.Calls.{run_replied};
 ghost use Rattle.scope.specs.Boundary.{tf_format, tf_check, tf_read, tf_write, tf_run};
-ghost use Rattle.scope.specs.Contracts.{Gives};
+ghost use Rattle.scope.specs.Holding.{Gives};
 ghost use Rattle.settings.specs.Kept.{ReadMade, WriteMade};
 ghost use Rattle.lent.specs.Model.{words};
 ghost use Rattle.trianglefire.specs.Numbers.{geometry_of};

@@ -4,7 +4,7 @@
 
 ghost use Rattle.lent.specs.Model.{geometry, words};
 ghost use Rattle.scope.specs.Boundary.{tf_format, tf_check};
-ghost use Rattle.scope.specs.Contracts.{Gives};
+ghost use Rattle.scope.specs.Holding.{Gives};
 
 use lent::Geometry;
 use wording::record::{load, store};

@@ -10,7 +10,7 @@ use Rattle.scope.specs.Lent.{State, with_small}
 use Rattle.scope.specs.SmallRecord.{SmallRecord, record_of, words_from}
 use Rattle.scope.specs.Operations.{Step}
 use Rattle.scope.specs.Boundary.{Words, from_words, to_words, in_words}
-use Rattle.scope.specs.Contracts.{Answers, Gives}
+use Rattle.scope.specs.Holding.{Answers, Gives}
 use Rattle.scope.specs.Laws.SmallRecord.{record_words_kept}
 
 -- Numbers that come back as they were loaded change no word.

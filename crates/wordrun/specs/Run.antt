@@ -9,7 +9,7 @@ use Rattle.scope.specs.Lent.{State, Request}
 use Rattle.scope.specs.Replies.{DONE, Size}
 use Rattle.scope.specs.Calls.{run_replied, serve_record, serve_records, run}
 use Rattle.scope.specs.Boundary.{requests_of}
-use Rattle.scope.specs.Contracts.{Answers}
+use Rattle.scope.specs.Holding.{Answers}
 use Rattle.running.specs.declared.Running.{Running}
 use Rattle.running.specs.Ends.{Begun, Finished}
 use Rattle.words.specs.Noted.{Noted}

@@ -6,7 +6,7 @@ ghost use Rattle.std.specs.Prelude.{◌/◌, ◌%◌, length};
 ghost use Rattle.lent.specs.Model.{geometry, state, words as lent-words};
 ghost use Rattle.scope.specs.Calls.{run_replied, serve_records, run};
 ghost use Rattle.scope.specs.Boundary.{requests_of, tf_run};
-ghost use Rattle.scope.specs.Contracts.{Answers, Gives};
+ghost use Rattle.scope.specs.Holding.{Answers, Gives};
 ghost use Rattle.replies.specs.Sizes.{beside_run};
 ghost use Rattle.running.specs.Serve.{Runs};
 ghost use Rattle.running.specs.Ran.{Tested};

@@ -66,7 +66,7 @@ use Rattle.lent.specs.Model.{geometry, state}
 use Rattle.scope.specs.Calls.{run_replied, run}
 use Rattle.scope.specs.SmallRecord.{record_words}
 use Rattle.scope.specs.Boundary.{call_sizes}
-use Rattle.scope.specs.Contracts.{Answers}
+use Rattle.scope.specs.Holding.{Answers}
 use Rattle.replies.specs.Model.{request}
 
 abbrev stayed : Stays (walked·.ended).signature.params (walked·.ended).kept

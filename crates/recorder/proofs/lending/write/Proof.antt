@@ -61,7 +61,7 @@ use Rattle.scope.specs.Requests.{replied}
 use Rattle.scope.specs.Calls.{write}
 use Rattle.scope.specs.SmallRecord.{record_words}
 use Rattle.scope.specs.Boundary.{call_sizes}
-use Rattle.scope.specs.Contracts.{Answers}
+use Rattle.scope.specs.Holding.{Answers}
 
 abbrev stayed : Stays (walked·.ended).signature.params (walked·.ended).kept
 stayed = (stay_none (λ _. T-as-Record.the_row) yes, (stay_none (λ _. T-as-Geometry.the_row) yes, (stay_none (λ _. u32) yes, (gave_slice (0 ∷ []) tt (plain (λ _. u32)), (gave_slice (1 ∷ []) tt (plain (λ _. u32)), (gave_slice (2 ∷ []) tt (plain (λ _. u32)), (gave_slice (3 ∷ []) tt (plain (λ _. u32)), (stay_none_slice (4 ∷ []) tt (plain (λ _. u32)) yes, (gave_slice (5 ∷ []) tt (plain (λ _. u32)), tt)))))))))
