@@ -34,7 +34,7 @@ pub const FILTER_WORDS: usize = 1024;
 pub const FILTER_BITS: usize = FILTER_WORDS * 64;
 
 // The six numbers of a geometry.
-#[derive(Drop)]
+#[derive(Clone, Copy)]
 pub struct Geometry {
     pub p: u32,
     pub w: u32,
@@ -45,7 +45,7 @@ pub struct Geometry {
 }
 
 // The small record, in document 01's order, with the number that document 02 adds.
-#[derive(Drop)]
+#[derive(Clone, Copy)]
 pub struct Record {
     pub open_data: u32,
     pub data_offset: u32,
@@ -56,7 +56,7 @@ pub struct Record {
 }
 
 // Reads, programs and erases.
-#[derive(Drop)]
+#[derive(Clone, Copy)]
 pub struct Counts {
     pub reads: u32,
     pub programs: u32,
@@ -64,28 +64,28 @@ pub struct Counts {
 }
 
 // The small record and the counts so far: what a step takes, and hands back as it leaves them.
-#[derive(Drop)]
+#[derive(Clone, Copy)]
 pub struct Work {
     pub rec: Record,
     pub counts: Counts,
 }
 
 // What a step hands back beside that: a page number, or an entry's word.
-#[derive(Drop)]
+#[derive(Clone, Copy)]
 pub struct Handed {
     pub value: u32,
     pub work: Work,
 }
 
 // The two regions of the chip.
-#[derive(Drop)]
+#[derive(Clone, Copy)]
 pub enum Region {
     Data,
     Translation,
 }
 
 // An entry: a page number, or none.
-#[derive(Drop)]
+#[derive(Clone, Copy)]
 pub enum Entry {
     Place(u32),
     Nowhere,
