@@ -14,14 +14,14 @@ pub const KIND_WRITE: u32 = 1;
 pub const KINDS: u32 = 2;
 
 // A request: kind 0 reads and kind 1 writes a logical page.
-#[derive(Drop)]
+#[derive(Clone, Copy)]
 pub struct Request {
     pub kind: u32,
     pub page: u32,
 }
 
 // The reply number, and the small record after the call.
-#[derive(Drop)]
+#[derive(Clone, Copy)]
 pub struct Out {
     pub answer: u32,
     pub rec: Record,
