@@ -1,0 +1,21 @@
+-- `entries::enter` meets its contract: the trial part, with the entry in front, behind the protected one.
+use Prim.Native.Nat.{◌-◌, ◌*◌}
+use mathlib.Core.Path.{refl}
+use native.Mathlib.Omega.{arith}
+use Rattle.scope.specs.Lent.{entry_words}
+use Rattle.words.specs.Filter.{bit_below}
+use Rattle.entries.specs.Entries.{part_entered, enter_does}
+use Rattle.entries.specs.Filter.{filter_gains}
+use Rattle.entries.proofs.enter.Goals as goal
+
+pub put-requires : goal.put-requires
+put-requires c = omega (arith, c.bit_of.ensures, bit_below c.args.l)
+
+pub returns : goal.returns
+returns c = let a = c.args in
+    let (fits, few, before) = c.requires.entry_words_in_bounds in
+    let stored = part_entered a.cache.now (a.work.rec.protected * entry_words) (a.work.rec.used - a.work.rec.protected) c.put_front.ensures refl in record {
+      does_cache = enter_does refl a.l a.place stored refl;
+      filter_2 = filter_gains c.requires.filter a.work.rec.protected a.l a.place before fits refl c.bit_of.ensures
+          c.put.ensures stored;
+    }
