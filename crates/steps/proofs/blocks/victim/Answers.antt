@@ -1,0 +1,17 @@
+-- `steps::blocks::victim` meets its contract: a block with no erased page has a number below that of one.
+use native.Mathlib.Omega.{arith}
+use Rattle.lent.specs.Model.{region}
+use Rattle.steps.specs.Census.{numbers_lie, blocks_few, victim_found}
+use Rattle.steps.proofs.blocks.victim.Goals as goal
+
+pub fewest_below-requires : goal.fewest_below-requires
+fewest_below-requires c = numbers_lie c.requires.0 c.requires.1 (region c.args.r) c.first_block-first.ensures c.region_blocks-n.ensures
+
+pub overflow_add-result : goal.overflow_add-result
+overflow_add-result c = omega (arith, blocks_few c.requires.0 c.requires.1 (region c.args.r) c.first_block-first.ensures c.region_blocks-n.ensures, c.requires.0.P_to)
+
+pub overflow_cast-result : goal.overflow_cast-result
+overflow_cast-result c = omega (arith, blocks_few c.requires.0 c.requires.1 (region c.args.r) c.first_block-first.ensures c.region_blocks-n.ensures, c.requires.0.P_to)
+
+pub returns : goal.returns
+returns c = λ s lent. victim_found c.requires.0 c.requires.1 (region c.args.r) c.first_block-first.ensures c.region_blocks-n.ensures s lent c.fewest_below.ensures.1
