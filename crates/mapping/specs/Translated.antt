@@ -3,7 +3,7 @@
 use Rattle.std.specs.Prelude.{ℕ, suc, ◌+◌, ◌*◌, ◌-◌, ◌/◌, ◌%◌, min, ◌≤◌, ◌<◌, ◌≡◌, refl, Bool, List, length, get_or, take, drop}
 use Rattle.std.proofs.Common.{le-div_iff_mul-le, mod-eq_of_lt, suc-mul, mul-le-mul_right, add-zero, add-one, arith, sym, ap, ◌∙◌, subst, length-take, length-drop, get_or-take, get_or-drop, eq-eqb}
 use Rattle.std.proofs.Math.Nat.{lt-div-mul-add, mul-add-div_right, mul-add-mod_self_right, div-eq_of_lt}
-use Rattle.scope.specs.Counting.{all, count}
+use Rattle.scope.specs.Counting.{count}
 use Rattle.scope.specs.Geometry.{Geometry, Accepted, M, pages, most_pages}
 use Rattle.scope.specs.Lent.{none, Place, Nowhere, decode, word_of, named, chip_size, directory_size, logical_at, physical_at}
 use Rattle.scope.specs.Regions.{Translation}

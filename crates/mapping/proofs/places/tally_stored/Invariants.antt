@@ -1,0 +1,13 @@
+-- `places::tally_stored` meets its contract. The loop's invariant: what the first t translation pages store is counted.
+use Prim.Native.Nat.{◌-◌, ◌≤◌}
+use lib.ListN.{length}
+use Rattle.lent.specs.Model.{geometry}
+use Rattle.mapping.specs.Tally.{nothing}
+use Rattle.mapping.specs.Translated.{TalliedPages}
+use Rattle.mapping.proofs.places.tally_stored.Given as goal
+
+abbrev pub invariant-loop-t : goal.invariant-loop-t
+invariant-loop-t l = (l.t ≤ length l.directory) × TalliedPages (geometry l.g) l.chip l.spare l.directory l.t nothing l.sum
+
+abbrev pub decreases-loop-t : goal.decreases-loop-t
+decreases-loop-t l = length l.directory - l.t
