@@ -29,7 +29,7 @@ overflow_mul-at c = let a = c.args in
     omega (
       arith,
       small (get_or a.directory.now (a.l / a.g.w) 0) _ a.g.w
-          (c.shared_slice_known-3-1.given (a.l / a.g.w)).fits
+          (omega arith)
           (ap entry (sym c.in-Place.is) ∙ c.decode-e.ensures) c.requires.W_to,
     )
 
@@ -38,7 +38,7 @@ overflow_add-at c = let a = c.args in
     omega (
       arith,
       small (get_or a.directory.now (a.l / a.g.w) 0) _ a.g.w
-          (c.shared_slice_known-3-1.given (a.l / a.g.w)).fits
+          (omega arith)
           (ap entry (sym c.in-Place.is) ∙ c.decode-e.ensures) c.requires.W_to,
       mod-lt a.l c.requires.W_from,
     )

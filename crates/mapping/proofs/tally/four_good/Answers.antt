@@ -1,9 +1,7 @@
 -- `tally::four_good` meets its contract: a word counts 1 or 0, and the definition counts the four.
 use native.Mathlib.Nat.{add-zero}
 use native.Mathlib.Omega.{arith}
-use Prim.Native.Nat.{◌+◌}
 use Rattle.flash.specs.Counting.{counts_one}
-use Rattle.mapping.specs.Tally.{word_good}
 use Rattle.mapping.proofs.tally.four_good.Goals as goal
 
 pub good_at-a-requires : goal.good_at-a-requires
@@ -13,41 +11,35 @@ good_at-a-requires c = record {
 }
 
 pub good_at-b-requires : goal.good_at-b-requires
-good_at-b-requires c = record { at_in_bounds = (omega (arith, c.requires), c.requires.at_in_bounds.1 1 (omega arith)); lie = c.requires.lie }
+good_at-b-requires c = record { at_in_bounds = (omega (arith, c.requires), c.requires.at_in_bounds.1 _ (omega arith)); lie = c.requires.lie }
 
 pub good_at-c-requires : goal.good_at-c-requires
-good_at-c-requires c = record { at_in_bounds = (omega (arith, c.requires), c.requires.at_in_bounds.1 2 (omega arith)); lie = c.requires.lie }
+good_at-c-requires c = record { at_in_bounds = (omega (arith, c.requires), c.requires.at_in_bounds.1 _ (omega arith)); lie = c.requires.lie }
 
 pub good_at-d-requires : goal.good_at-d-requires
-good_at-d-requires c = record { at_in_bounds = (omega (arith, c.requires), c.requires.at_in_bounds.1 3 (omega arith)); lie = c.requires.lie }
+good_at-d-requires c = record { at_in_bounds = (omega (arith, c.requires), c.requires.at_in_bounds.1 _ (omega arith)); lie = c.requires.lie }
 
 pub overflow_add-result : goal.overflow_add-result
 overflow_add-result c =
-    let a = c.args in
-    let good = word_good a.words.now a.from a.spare.now a.first a.n in
-    omega (arith, counts_one (good a.at) c.good_at-a.ensures, counts_one (good (a.at + 1)) c.good_at-b.ensures)
+    omega (arith, counts_one _ c.good_at-a.ensures, counts_one _ c.good_at-b.ensures)
 
 pub overflow_add-result-2 : goal.overflow_add-result-2
 overflow_add-result-2 c =
-    let a = c.args in
-    let good = word_good a.words.now a.from a.spare.now a.first a.n in
     omega (
       arith,
-      counts_one (good a.at) c.good_at-a.ensures,
-      counts_one (good (a.at + 1)) c.good_at-b.ensures,
-      counts_one (good (a.at + 2)) c.good_at-c.ensures,
+      counts_one _ c.good_at-a.ensures,
+      counts_one _ c.good_at-b.ensures,
+      counts_one _ c.good_at-c.ensures,
     )
 
 pub overflow_add-result-3 : goal.overflow_add-result-3
 overflow_add-result-3 c =
-    let a = c.args in
-    let good = word_good a.words.now a.from a.spare.now a.first a.n in
     omega (
       arith,
-      counts_one (good a.at) c.good_at-a.ensures,
-      counts_one (good (a.at + 1)) c.good_at-b.ensures,
-      counts_one (good (a.at + 2)) c.good_at-c.ensures,
-      counts_one (good (a.at + 3)) c.good_at-d.ensures,
+      counts_one _ c.good_at-a.ensures,
+      counts_one _ c.good_at-b.ensures,
+      counts_one _ c.good_at-c.ensures,
+      counts_one _ c.good_at-d.ensures,
     )
 
 pub returns : goal.returns

@@ -10,26 +10,14 @@ use Rattle.words.specs.Runs.{get_d_any}
 use Rattle.mapping.specs.Tally.{four_places}
 use Rattle.mapping.proofs.tally.four_places.Goals as goal
 
-pub overflow_cast-words : goal.overflow_cast-words
-overflow_cast-words c = omega (arith, c.shared_slice_known-1.given c.args.at)
-
 pub returns-then-end-words : goal.returns-then-end-words
 returns-then-end-words c = λ e. clash e refl
-
-pub overflow_cast-words-2 : goal.overflow_cast-words-2
-overflow_cast-words-2 c = omega (arith, c.shared_slice_known-2-1.given (c.args.at + 1))
 
 pub returns-then-end-words-2 : goal.returns-then-end-words-2
 returns-then-end-words-2 c = λ e. clash e refl
 
-pub overflow_cast-words-3 : goal.overflow_cast-words-3
-overflow_cast-words-3 c = omega (arith, c.shared_slice_known-3-1.given (c.args.at + 2))
-
 pub returns-then-end-words-3 : goal.returns-then-end-words-3
 returns-then-end-words-3 c = λ e. clash e refl
-
-pub overflow_cast-result : goal.overflow_cast-result
-overflow_cast-result c = omega (arith, c.shared_slice_known-4-1.given (c.args.at + 3))
 
 pub returns : goal.returns
 returns c = λ e.

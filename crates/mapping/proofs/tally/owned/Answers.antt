@@ -36,4 +36,4 @@ returns c =
     product state owner a.k a.first a.at c.same-found.ensures c.reaches.ensures
     ∙ ap (λ (b : Bool). cond b 1 0)
     (pair_tells a.first a.n a.spare.now a.k a.at c.requires.1 (omega (arith, c.requires))
-    (omega (arith, c.shared_slice_known-1.given (a.at * spare_words))))
+    (omega arith))

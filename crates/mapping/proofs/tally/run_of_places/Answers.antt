@@ -12,9 +12,6 @@ use Rattle.mapping.proofs.tally.run_of_places.Goals as goal
 pub loop-at-init : goal.loop-at-init
 loop-at-init c = c.run_of_fours-fours.ensures
 
-pub overflow_cast-words : goal.overflow_cast-words
-overflow_cast-words c = omega (arith, c.shared_slice_known-in-loop-at-1.given c.loop-at.at)
-
 pub returns-then-first-n : goal.returns-then-first-n
 returns-then-first-n c = let a = c.args in record {
   run_counted = c.loop-at.invariant;
