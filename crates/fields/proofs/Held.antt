@@ -6,6 +6,7 @@ use mathlib.Core.List.{List}
 use borrow.Fn.World.{World}
 use contract.Lifetimes.{Lfts}
 use denote.Ref.{Bor}
+use denote.MutBor.{MutBor}
 use denote.Triple.Clauses.{Clauses}
 use lib.ListN.{length}
 use Rattle.lent.specs.declared.Geometry.{Geometry}
@@ -26,14 +27,14 @@ use Rattle.fields.proofs.write.write.Met as write_met
 
 -- Each contract, at a model of the prover's logic.
 abbrev read_contract : (m : World) → Clauses m.𝓤 read.ended
-read_contract m = read.clauses m.𝓛 m.𝓜.mem m.𝓡.run
+read_contract m = read.clauses m.𝓛 m.𝓜.mem m.𝓡.returns
 
 abbrev write_contract : (m : World) → Clauses m.𝓤 write.ended
-write_contract m = write.clauses m.𝓛 m.𝓜.mem m.𝓡.run
+write_contract m = write.clauses m.𝓛 m.𝓜.mem m.𝓡.returns
 
 -- What is read by value is what the call for C gives in any six words.
 pub read_held : (bytes bytes' : Bor (List ℕ)) (r : Settings) (κs : Lfts 1) →
-    HeldTo read.ended (code_of read_symbol.routine) read_contract κs (bytes, tt) r (bytes', tt)
+    HeldTo read.ended read_symbol.code (code_of read_symbol.name) read_contract κs (bytes, tt) r (bytes', tt)
     ((numbers : List ℕ) → length numbers ≡ numbers_words → ReadMade bytes.now numbers (settings r).answer (settings r).left)
 read_held bytes bytes' r κs =
     record {
@@ -44,8 +45,8 @@ read_held bytes bytes' r κs =
       gives = λ h numbers six. h ∙ sym (six_words_read bytes.now numbers six);
     }
 
-pub write_held : (g : Geometry) (place place' : Bor (List ℕ)) (r : Writing) (κs : Lfts 1) →
-    HeldTo write.ended (code_of write_symbol.routine) write_contract κs (g, (place, tt)) r (g, (place', tt))
+pub write_held : (g : Geometry) (place place' : MutBor (List ℕ)) (r : Writing) (κs : Lfts 1) →
+    HeldTo write.ended write_symbol.code (code_of write_symbol.name) write_contract κs (g, (place, tt)) r (g, (place', tt))
     (WriteMade (geometry g) place.now (writing r) place'.now)
 write_held g place place' r κs =
     record {

@@ -6,13 +6,13 @@ ghost use Rattle.fields.specs.Model.{field, Sized, FirstRead, NextRead};
 use crate::{Field, HEAD_BYTES};
 
 // Where in the record the reader stands.
-#[derive(Drop)]
+#[derive(Clone, Copy)]
 pub struct Cursor {
     pub at: usize,
 }
 
 // Why a record is refused, in the order of document 02's numbers.
-#[derive(Drop)]
+#[derive(Clone, Copy)]
 pub enum Refusal {
     Short,
     Tag,
@@ -23,14 +23,14 @@ pub enum Refusal {
 }
 
 // The number of the field that a part begins with, or why there is none.
-#[derive(Drop)]
+#[derive(Clone, Copy)]
 pub enum First {
     Number(u32),
     Refused(Refusal),
 }
 
 // A field's number, with the cursor behind the field; or why there is none.
-#[derive(Drop)]
+#[derive(Clone, Copy)]
 pub enum Next {
     Number(u32, Cursor),
     Refused(Refusal),

@@ -14,7 +14,7 @@ pub mod words;
 pub mod write;
 
 // A field by its version: its tag, and how many bytes its number has.
-#[derive(Drop)]
+#[derive(Clone, Copy)]
 pub struct Field {
     pub tag: u8,
     pub bytes: usize,
@@ -27,7 +27,7 @@ pub const HEAD_BYTES: usize = 3;
 pub const NUMBERS: usize = 6;
 
 // A version: its number, the tags of its fields with the sizes of their numbers, and whether fields of higher tags may follow.
-#[derive(Drop)]
+#[derive(Clone, Copy)]
 pub struct Version {
     pub number: u8,
     pub tags: [u8; 6],
@@ -53,7 +53,7 @@ pub fn version_1() -> Version
 }
 
 // A row of the table, if it is known.
-#[derive(Drop)]
+#[derive(Clone, Copy)]
 pub struct Row {
     pub known: bool,
     pub version: Version,

@@ -11,7 +11,7 @@ use crate::{Field, Row, VERSION_BYTES, VERSION_TAG, Version, version_of};
 use lent::Geometry;
 
 // What a record says, or why it is refused.
-#[derive(Drop)]
+#[derive(Clone, Copy)]
 pub enum Settings {
     Accepted(Geometry),
     Refused(Refusal),

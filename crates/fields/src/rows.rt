@@ -7,7 +7,7 @@ use crate::{Field, NUMBERS, Version};
 use lent::Geometry;
 
 // The numbers of a version's fields, with the cursor behind them; or why they are not there.
-#[derive(Drop)]
+#[derive(Clone, Copy)]
 pub enum Numbers {
     All(Geometry, Cursor),
     Refused(Refusal),

@@ -9,7 +9,7 @@ use crate::{Field, HEAD_BYTES, NUMBERS, VERSION_BYTES, VERSION_TAG, Version, ver
 use lent::Geometry;
 
 // What came of it.
-#[derive(Drop)]
+#[derive(Clone, Copy)]
 pub enum Writing {
     Written,
     Geometry,
