@@ -1,6 +1,6 @@
 -- The changed entries of one translation page, from the last entry down: those from rank i on have been looked at, what is left to set and to
 -- make unchanged makes it whole, and nothing is left once as many entries of the page were met as it has words.
-use Rattle.std.specs.Prelude.{◌≡◌, ℕ, zero, suc, ◌+◌, ◌-◌, ◌*◌, ◌<◌, ◌≤◌, Bool, true, false, cond, ◌≢◌, List, [], ◌∷◌, ◌++◌, length, get_or, set, ◌==◌, nat_eq, slice_index_or, slice_set}
+use Rattle.std.specs.Prelude.{◌≡◌, ℕ, zero, suc, ◌+◌, ◌-◌, ◌*◌, ◌<◌, ◌≤◌, Bool, true, false, cond, ◌≢◌, List, [], ◌∷◌, ◌++◌, length, get_or, ◌==◌, nat_eq, slice_index_or, slice_set}
 use Rattle.std.proofs.Common.{add-zero, add-one, arith, ◌∙◌, subst, eq-eqb, ne_eqb}
 use Rattle.std.proofs.Math.Path.{refl, sym, ap}
 use mathlib.Core.List.{append_assoc, append-nil}

@@ -1,7 +1,6 @@
 -- The index, chip, spare and directory, as the steps of this crate are lent it: they do their definitions whatever else the state holds.
 -- The laws of the theory are of whole states, so they are asked of one that has nothing else in it.
 use Rattle.std.specs.Prelude.{◌≡◌, ℕ, ◌*◌, ◌<◌, List, length}
-use Rattle.std.specs.Borrow.{Bor}
 use Rattle.scope.specs.Geometry.{Geometry, Accepted}
 use Rattle.scope.specs.Regions.{Translation}
 use Rattle.scope.specs.Lent.{State, Mapping, with_flash, with_directory, chip_size, spare_size, directory_size}
@@ -29,8 +28,8 @@ abbrev pub lists : List ℕ → List ℕ → List ℕ → Index
 lists chip spare directory = record { chip = chip; spare = spare; directory = directory }
 
 -- As contracts write them.
-abbrev pub index : Bor (List ℕ) → Bor (List ℕ) → Bor (List ℕ) → Index
-index chip spare directory = lists chip.now spare.now directory.now
+abbrev pub index : List ℕ → List ℕ → List ℕ → Index
+index chip spare directory = lists chip spare directory
 
 -- Those among all that is lent.
 abbrev pub index_in : Lists → Index

@@ -1,5 +1,5 @@
 -- What waits for one translation page taken out: the words that it sets there, what is left, and the lowest page of that.
-use Rattle.std.specs.Prelude.{◌≡◌, ℕ, ◌+◌, ◌*◌, ◌<◌, ◌≤◌, cond, ◌≢◌, ◌⊎◌, List, [], ◌∷◌, ◌++◌, length, set, nat_lt, slice_index, slice_index_or, slice_set, refl}
+use Rattle.std.specs.Prelude.{◌≡◌, ℕ, ◌+◌, ◌*◌, ◌<◌, ◌≤◌, cond, ◌≢◌, ◌⊎◌, List, [], ◌∷◌, ◌++◌, length, nat_lt, slice_index, slice_index_or, slice_set, refl}
 use Rattle.std.proofs.Common.{sym, ap, subst, ◌∙◌, inl, inr, arith, length-append, lt-ltb, le-ltb}
 use Rattle.scope.specs.Geometry.{most_pages_in_block, Geometry, pages}
 use Rattle.scope.specs.Lent.{Mapping, translation_page, translation_word}

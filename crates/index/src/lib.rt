@@ -36,12 +36,12 @@ pub fn update_changed(
     directory: &mut [u32],
     cache: &mut [u32],
 ) -> Work
-    requires page_ready { PageReady (geometry g) (index chip spare directory) work t }
+    requires page_ready { PageReady (geometry g) (index chip.old spare.old directory.old) work t }
     requires entries_lent { EntriesLent (geometry g) t work.rec.used cache.old }
     requires census { Census (geometry g) spare.old census.old }
     ensures does_index { DoesIndex (update (geometry g) t (changed_of (geometry g) t work.rec.used cache.old))
-        (index chip.entry spare.entry directory.entry) work tt
-        (index chip.exit spare.exit directory.exit) result }
+        (index chip.old spare.old directory.old) work tt
+        (index chip.new spare.new directory.new) result }
     ensures census_2 { Census (geometry g) spare.new census.new }
     ensures cache_after { cache.new ≡ unchanged_of (geometry g) t work.rec.used cache.old }
 {
@@ -71,13 +71,13 @@ fn update_page(
     census: &mut [u32],
     directory: &mut [u32],
 ) -> Settled
-    requires page_ready { PageReady (geometry g) (index chip spare directory) settled.work settled.left.lowest }
+    requires page_ready { PageReady (geometry g) (index chip.old spare.old directory.old) settled.work settled.left.lowest }
     requires census { Census (geometry g) spare.old census.old }
     requires waits_in { WaitsIn (geometry g) settled.left.n waiting.old }
     ensures does_index { DoesIndex (update (geometry g) settled.left.lowest
         (of_page (geometry g) settled.left.lowest (first_moves settled.left.n waiting.old)))
-        (index chip.entry spare.entry directory.entry) settled.work tt
-        (index chip.exit spare.exit directory.exit) result.work }
+        (index chip.old spare.old directory.old) settled.work tt
+        (index chip.new spare.new directory.new) result.work }
     ensures census_2 { Census (geometry g) spare.new census.new }
     ensures left_after { LeftAfter (geometry g) settled.left.lowest m settled.left.n waiting.old
         result.left.n result.left.lowest waiting.new }
@@ -102,12 +102,12 @@ pub fn settle(
     census: &mut [u32],
     directory: &mut [u32],
 ) -> Work
-    requires index_ready { IndexReady (geometry g) (index chip spare directory) work (first_moves n waiting.old) }
+    requires index_ready { IndexReady (geometry g) (index chip.old spare.old directory.old) work (first_moves n waiting.old) }
     requires census { Census (geometry g) spare.old census.old }
     requires waits_in { WaitsIn (geometry g) n waiting.old }
     ensures does_index { DoesIndex (update_all (geometry g) (first_moves n waiting.old))
-        (index chip.entry spare.entry directory.entry) work tt
-        (index chip.exit spare.exit directory.exit) result }
+        (index chip.old spare.old directory.old) work tt
+        (index chip.new spare.new directory.new) result }
     ensures census_2 { Census (geometry g) spare.new census.new }
 {
     let m = directory.len() as u32;

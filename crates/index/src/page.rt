@@ -20,10 +20,10 @@ pub(crate) fn begin(
     census: &mut [u32],
     directory: &mut [u32],
 ) -> Work
-    requires page_ready { PageReady (geometry g) (index chip spare directory) work t }
+    requires page_ready { PageReady (geometry g) (index chip.old spare.old directory.old) work t }
     requires census { Census (geometry g) spare.old census.old }
-    ensures begins { Begins (geometry g) t (index chip.entry spare.entry directory.entry) work
-        (index chip.exit spare.exit directory.exit) result }
+    ensures begins { Begins (geometry g) t (index chip.old spare.old directory.old) work
+        (index chip.new spare.new directory.new) result }
     ensures census_2 { Census (geometry g) spare.new census.new }
 {
     let made = room(work, g, chip, spare, census, directory);

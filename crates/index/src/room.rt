@@ -43,11 +43,11 @@ fn collect(
     census: &mut [u32],
     directory: &mut [u32],
 ) -> Work
-    requires room_ready { RoomReady (geometry g) (index chip spare directory) work × ToCollect (geometry g) Translation spare.old work v }
+    requires room_ready { RoomReady (geometry g) (index chip.old spare.old directory.old) work × ToCollect (geometry g) Translation spare.old work v }
     requires census { Census (geometry g) spare.old census.old }
     ensures does_index { DoesIndex (make_room (geometry g) Translation directory_follows)
-        (index chip.entry spare.entry directory.entry) work tt
-        (index chip.exit spare.exit directory.exit) result }
+        (index chip.old spare.old directory.old) work tt
+        (index chip.new spare.new directory.new) result }
     ensures census_2 { Census (geometry g) spare.new census.new }
 {
     let mut moves = [0u32; MOVES_WORDS];
@@ -76,11 +76,11 @@ pub fn room(
     census: &mut [u32],
     directory: &mut [u32],
 ) -> Work
-    requires room_ready { RoomReady (geometry g) (index chip spare directory) work }
+    requires room_ready { RoomReady (geometry g) (index chip.old spare.old directory.old) work }
     requires census { Census (geometry g) spare.old census.old }
     ensures does_index { DoesIndex (make_room (geometry g) Translation directory_follows)
-        (index chip.entry spare.entry directory.entry) work tt
-        (index chip.exit spare.exit directory.exit) result }
+        (index chip.old spare.old directory.old) work tt
+        (index chip.new spare.new directory.new) result }
     ensures census_2 { Census (geometry g) spare.new census.new }
 {
     let choice = choose(work, g, Region::Translation, spare, census);
