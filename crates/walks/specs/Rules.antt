@@ -1,19 +1,19 @@
--- Printed by `python3 tools/walks rules`; do not edit. Rules that printed walks cite, of any function. They assume `Logic`.
+-- Rules of separation logic by which a walk, a proof by hand of a function, steps through its code: of any function. They assume `Logic`.
 --     lends_again   a `&mut [T]` that is needed after a call is lent for a lifetime made for the call, under a new name, at its list
 --     comes_back    once the call is over, that lifetime ends, and the slice is had as before, at the list that the call left
---     lends-ref-again, ref-comes-back   the same of a `&mut T`
+--     lends_ref_again, ref_comes_back   the same of a `&mut T`
 --     lends_local, local_back           a local is lent as a `&mut T` for such a lifetime, and holds the value that the call left
---     shares-local, shared_back         the same as a `&T`; it holds what it held
---     shares-elements, elements-back    the same of a local array, whose elements are lent as a `&[T]`
---     as-raw, as-named                  a local as it lies behind a reference, where types have no names, and back
---     zeros-typed, zeroed               a local array of zeros has its type, and holds a list, of which a walk keeps no more than that it is zeros
+--     shares_local, shared_back         the same as a `&T`, where T can be shared with no token but that lifetime's; it holds what it held
+--     shares_elements, elements_back    the same of a local array, whose elements are lent as a `&[T]`
+--     as_raw, as_named                  a local as it lies behind a reference, where types have no names, and back
+--     zeros_typed, zeroed               a local array of zeros has its type, and holds a list, of which a walk keeps no more than that it is zeros
 --     frees_all     at a `return` all locals are freed
 use Rattle.std.specs.Prelude.{◌≡◌, ℕ, zero, suc, ◌<◌, ◌^◌, List, [], ◌∷◌, length, replicate, T}
 use Rattle.std.proofs.Math.Path.{refl}
 use Rattle.std.proofs.Common.{sym, ap, subst, ◌∙◌}
 use Rattle.std.proofs.lemmas.List.{length-replicate}
 use seplogic.Ra.Ura.{Ura}
-use seplogic.Ra.TreeShare.{full_share}
+use base.Fraction.{full_share}
 use mir.Syntax.{Ty, Lifetime, Width, ty_int, ty_array}
 use mir.Val.{Val, vint, vptr, bits, WT, has_ty}
 use mir.Raw.{raw}
@@ -32,6 +32,8 @@ use denote.Memory.{mem, cell_at, part_of, part_at, shares}
 use denote.Plain.{UInt, uint_vals, uint_Tells, uint_Lawful}
 use denote.Array.{Array, each, array_val, array_vals, Array-Tells, Array-Lawful}
 use denote.ArrayMemory.{Single, Array-apart, Array-whole}
+use denote.Shares.{Shares}
+use mathlib.Core.List.{not-mem-nil}
 use denote.Steps.{only, peeks}
 use denote.Struct.Steps.{spelt}
 use denote.Ref.{MutBor, MutRef, ShrRef}
@@ -94,11 +96,11 @@ module _ (R : RattleType) (b o : ℕ) where
 
 -- What the callee has of a local b that is shared: a `&T`, or a `&[T]` of the elements of an array, of which the lender keeps `elements`.
 module _ (R : RattleType) (b : ℕ) where
-  abbrev shared_one : Lifetime → Lft → GName → R.Denot → Fml
-  shared_one ℓ κ γ x = (ShrRef ℓ κ R).own_val (to_one R b 0 γ x) (vptr b 0 ∷ [])
+  abbrev shared_one : Lifetime → Lft → R.Denot → Fml
+  shared_one ℓ κ x = (ShrRef ℓ κ R).own_val (record { ref_ptr = (b, 0); now = x }) (vptr b 0 ∷ [])
 
-  abbrev shared_all : Lifetime → Lft → GName → List R.Denot → ℕ → Fml
-  shared_all ℓ κ γ xs m = (ShrSlice ℓ κ R).own_val (slice R b 0 γ xs) (slice_val (b, 0) m ∷ [])
+  abbrev shared_all : Lifetime → Lft → List R.Denot → ℕ → Fml
+  shared_all ℓ κ xs m = (ShrSlice ℓ κ R).own_val (record { ref_ptr = (b, 0); now = xs }) (slice_val (b, 0) m ∷ [])
 
   abbrev elements : List R.Denot → ℕ → Fml
   elements xs m = (arr_parts (shares R) m).part full_share xs b 0
@@ -121,10 +123,10 @@ module _ {M : Type 1} {𝓤 : Ura M} {𝓛 : Logic 𝓤} {K : Type 0} {Γ : List
   pub lends_local : K → Soaks G → (R : RattleType) (ℓ : Lifetime) (b : ℕ) (x : R.Denot) (vs : List Val)
       → ((ν : ℕ) (δ : GName)
       → Seq K 𝓛 (‵ (flft (ν ∷ []) full_share) ∷ ‵ (one R b 0 ℓ (ν ∷ []) δ x) ∷ ‵ (flent (ν ∷ []) (Body (mem R) b 0 δ)) ∷ Γ) G)
-      → Seq K 𝓛 (‵ (cell_at full_share R.mir vs b 0) ∷ ‵ (R.own x vs) ∷ Γ) G
+      → Seq K 𝓛 (‵ (cell_at full_share R.mir vs b 0) ∷ ‵ (R.own_val x vs) ∷ Γ) G
   unfolding part_of
   lends_local t z R ℓ b x vs k =
-      fjoin t $ fpack t (List Val) (λ us. fsep (cell_at full_share R.mir us b 0) (R.own x us)) vs $ lft_new t z (λ ν. move t (1 ∷ []) $
+      fjoin t $ fpack t (List Val) (λ us. fsep (cell_at full_share R.mir us b 0) (R.own_val x us)) vs $ lft_new t z (λ ν. move t (1 ∷ []) $
       use1 𝓛 (later (some (λ (δ : GName). ‵ (one R b 0 ℓ (ν ∷ []) δ x) ⊛ ‵ (flent (ν ∷ []) (Body (mem R) b 0 δ)))))
       (lends_ref 𝓛 R ℓ (ν ∷ []) x b 0) $ await t z $ pick t (λ δ. split t $ move t (2 ∷ 0 ∷ 1 ∷ []) $ k ν δ))
 
@@ -143,15 +145,17 @@ module _ {M : Type 1} {𝓤 : Ura M} {𝓛 : Logic 𝓤} {K : Type 0} {Γ : List
   local_back t z R vals tells b {ν} {δ} x k = lft_end t z $
       use3 𝓛 (later (‵ ((mem R).own_at x b 0))) (ref_back 𝓛 R (ν ∷ []) δ x b 0) $ await t z $ lies_again t R vals tells b x k
 
-  pub shares_local : K → Soaks G → (R : RattleType) (ℓ : Lifetime) (b : ℕ) (x : R.Denot) (vs : List Val)
-      → ((ν : ℕ) (δ : GName)
-      → Seq K 𝓛 (‵ (flft (ν ∷ []) full_share) ∷ ‵ (shared_one R b ℓ (ν ∷ []) δ x) ∷ ‵ (flent (ν ∷ []) (part_at R full_share x b 0)) ∷ Γ) G)
-      → Seq K 𝓛 (‵ (cell_at full_share R.mir vs b 0) ∷ ‵ (R.own x vs) ∷ Γ) G
+  -- A local of which each value can be shared, as one that holds no `&mut` can.
+  pub shares_local : K → Soaks G → (R : RattleType) → Shares 𝓛 R [] → (ℓ : Lifetime) (b : ℕ) (x : R.Denot) (vs : List Val)
+      → ((ν : ℕ)
+      → Seq K 𝓛 (‵ (flft (ν ∷ []) full_share) ∷ ‵ (shared_one R b ℓ (ν ∷ []) x) ∷ ‵ (flent (ν ∷ []) (part_at R full_share x b 0)) ∷ Γ) G)
+      → Seq K 𝓛 (‵ (cell_at full_share R.mir vs b 0) ∷ ‵ (R.own_val x vs) ∷ Γ) G
   unfolding part_of
-  shares_local t z R ℓ b x vs k =
-      fjoin t $ fpack t (List Val) (λ us. fsep (cell_at full_share R.mir us b 0) (R.own x us)) vs $ lft_new t z (λ ν. move t (1 ∷ []) $
-      use1 𝓛 (later (some (λ (δ : GName). ‵ (shared_one R b ℓ (ν ∷ []) δ x) ⊛ ‵ (flent (ν ∷ []) (part_at R full_share x b 0)))))
-      (lends_shr 𝓛 R ℓ (ν ∷ []) full_share x b 0) $ await t z $ pick t (λ δ. split t $ move t (2 ∷ 0 ∷ 1 ∷ []) $ k ν δ))
+  shares_local t z R shared ℓ b x vs k =
+      fjoin t $ fpack t (List Val) (λ us. fsep (cell_at full_share R.mir us b 0) (R.own_val x us)) vs $ lft_new t z (λ ν. move t (1 ∷ []) $
+      use2 𝓛 (later ((‵ (shared_one R b ℓ (ν ∷ []) x) ⊛ ‵ (flent (ν ∷ []) (part_at R full_share x b 0))) ⊛ ‵ (flft (ν ∷ []) full_share)))
+      (lends_shr 𝓛 R ℓ (ν ∷ []) full_share x b 0 [] (shared x) ((ν ∷ [], full_share) ∷ []) (λ a m. absurd (not-mem-nil m)) (λ a m. m)) $ await t z $
+      split t $ split t $ move t (2 ∷ 0 ∷ 1 ∷ []) $ k ν)
 
   pub shared_back : K → Soaks G → (R : RattleType) (vals : R.Denot → List Val) → Tells R (Is R) vals → (b : ℕ) {ν : ℕ} (x : R.Denot)
       → Step K 𝓛 (‵ (cell_at full_share R.mir (vals x) b 0) ∷ Γ) G
@@ -159,20 +163,21 @@ module _ {M : Type 1} {𝓤 : Ura M} {𝓛 : Logic 𝓤} {K : Type 0} {Γ : List
   shared_back t z R vals tells b x = step (λ s. lft_end t z $ lent_back t z $ lies_again t R vals tells b x (λ _. s))
 
   -- An array is its elements, side by side, and these are what a slice borrows. Its type has n, and the slice the length of its list.
-  pub shares_elements : K → Soaks G → (R : RattleType) → Single R.mir → (ℓ : Lifetime) (n b : ℕ) (xs : List R.Denot) (vs : List Val)
+  pub shares_elements : K → Soaks G → (R : RattleType) → Shares 𝓛 R [] → Single R.mir → (ℓ : Lifetime) (n b : ℕ) (xs : List R.Denot) (vs : List Val)
       → length xs ≡ n → Room R n
-      → ((ν : ℕ) (δ : GName)
-      → Seq K 𝓛 (‵ (flft (ν ∷ []) full_share) ∷ ‵ (shared_all R b ℓ (ν ∷ []) δ xs n) ∷ ‵ (flent (ν ∷ []) (elements R b xs n)) ∷ Γ) G)
+      → ((ν : ℕ)
+      → Seq K 𝓛 (‵ (flft (ν ∷ []) full_share) ∷ ‵ (shared_all R b ℓ (ν ∷ []) xs n) ∷ ‵ (flent (ν ∷ []) (elements R b xs n)) ∷ Γ) G)
       → Seq K 𝓛 (‵ (cell_at full_share (Array R n).mir vs b 0) ∷ ‵ ((Array R n).own_val xs vs) ∷ Γ) G
   unfolding part_of
-  shares_elements t z R single ℓ n b xs vs as_n room k =
+  shares_elements t z R shared single ℓ n b xs vs as_n room k =
       fjoin t $ fpack t (List Val) (λ us. fsep (cell_at full_share (Array R n).mir us b 0) ((Array R n).own_val xs us)) vs $
       use1 𝓛 (‵ (elements R b xs n)) (Array-apart 𝓛 R full_share single n xs b 0) $
       rewrite t 0 (λ (m : ℕ). ‵ (elements R b xs m)) (sym as_n) refl $ lft_new t z (λ ν. move t (1 ∷ []) $
-      use1 𝓛 (later (some (λ (δ : GName). ‵ (shared_all R b ℓ (ν ∷ []) δ xs (length xs)) ⊛ ‵ (flent (ν ∷ []) (elements R b xs (length xs))))))
-      (lends_shr_slice 𝓛 R ℓ (ν ∷ []) full_share xs b 0 (subst (Room R) (sym as_n) room)) $ await t z $ pick t (λ δ. split t $
-      rewrite t 0 (λ (m : ℕ). ‵ (shared_all R b ℓ (ν ∷ []) δ xs m)) as_n refl $
-      rewrite t 1 (λ (m : ℕ). ‵ (flent (ν ∷ []) (elements R b xs m))) as_n refl $ move t (2 ∷ 0 ∷ 1 ∷ []) $ k ν δ))
+      use2 𝓛 (later ((‵ (shared_all R b ℓ (ν ∷ []) xs (length xs)) ⊛ ‵ (flent (ν ∷ []) (elements R b xs (length xs)))) ⊛ ‵ (flft (ν ∷ []) full_share)))
+      (lends_shr_slice 𝓛 R ℓ (ν ∷ []) full_share xs b 0 (subst (Room R) (sym as_n) room) [] shared ((ν ∷ [], full_share) ∷ []) (λ a m. absurd (not-mem-nil m))
+      (λ a m. m)) $ await t z $ split t $ split t $
+      rewrite t 0 (λ (m : ℕ). ‵ (shared_all R b ℓ (ν ∷ []) xs m)) as_n refl $
+      rewrite t 1 (λ (m : ℕ). ‵ (flent (ν ∷ []) (elements R b xs m))) as_n refl $ move t (2 ∷ 0 ∷ 1 ∷ []) $ k ν)
 
   pub elements_back : K → Soaks G → (R : RattleType) (vals : R.Denot → List Val) → Tells R (Is R) vals → (n b : ℕ) {ν : ℕ}
       (xs : List R.Denot)

@@ -1,2 +1,2 @@
-// The rules of separation logic that printed walks cite (tools/walks), once for every crate that has walks. No code.
+// The rules of separation logic that walks, proofs by hand, cite, once for every crate. Today every function is proved without one. No code.
 #![tactic(auto)]
