@@ -5,7 +5,7 @@
 use lent::{Counts, Record};
 
 // The run's answer so far, which is 0 where the run is admitted, the counts of the requests served, and the small record.
-#[derive(Drop)]
+#[derive(Clone, Copy)]
 pub struct Running {
     pub answer: u32,
     pub counts: Counts,
