@@ -1,7 +1,6 @@
 -- What the steps of a call ask where they begin: an accepted geometry, lists of its lengths, a sound state, and room in the counts. And
 -- the lent lists and the small record as one state, as contracts write it.
 use Rattle.std.specs.Prelude.{ℕ, ◌+◌, ◌≤◌, ◌<◌, List}
-use Rattle.std.specs.Borrow.{Bor}
 use Rattle.scope.specs.Geometry.{Geometry, Accepted}
 use Rattle.scope.specs.Lent.{State}
 use Rattle.scope.specs.Sound.{Sound}
@@ -14,8 +13,8 @@ use Rattle.lent.specs.Model.{state, counts}
 use Rattle.lent.specs.Does.{Does}
 use Rattle.lent.specs.Shapes.{RoomToCount, room_after, less_room}
 
-abbrev pub lent : Bor (List ℕ) → Bor (List ℕ) → Bor (List ℕ) → Bor (List ℕ) → Work → State
-lent chip spare directory cache w = state chip.now spare.now directory.now cache.now w.rec
+abbrev pub lent : List ℕ → List ℕ → List ℕ → List ℕ → Work → State
+lent chip spare directory cache w = state chip spare directory cache w.rec
 
 -- From one state to another, with the counts of what travels by value.
 abbrev pub DoesAll : {A : Type 0} → Step A → State → Work → A → State → Work → Type 0

@@ -53,14 +53,14 @@ pub fn read(
     filter: &mut [u64; FILTER_WORDS],
     buffer: &mut [u32],
 ) -> Handed
-    requires ready_for { ReadyFor l (geometry g) (lent chip spare directory cache work) (read_bound (geometry g)) work.counts
+    requires ready_for { ReadyFor l (geometry g) (lent chip.old spare.old directory.old cache.old work) (read_bound (geometry g)) work.counts
         × (length buffer.old ≡ g.w) }
-    requires noted { Noted (geometry g) (lent chip spare directory cache work) census.old filter.old }
+    requires noted { Noted (geometry g) (lent chip.old spare.old directory.old cache.old work) census.old filter.old }
     ensures does_all { DoesAll (read_steps (geometry g) l buffer.old)
-        (lent chip.entry spare.entry directory.entry cache.entry work) work
+        (lent chip.old spare.old directory.old cache.old work) work
         (replied buffer.new result.value)
-        (lent chip.exit spare.exit directory.exit cache.exit result.work) result.work }
-    ensures noted_2 { Noted (geometry g) (lent chip.exit spare.exit directory.exit cache.exit result.work)
+        (lent chip.new spare.new directory.new cache.new result.work) result.work }
+    ensures noted_2 { Noted (geometry g) (lent chip.new spare.new directory.new cache.new result.work)
         census.new filter.new }
 {
     let at = translate(work, g, l, chip, spare, census, directory, cache, filter);
@@ -111,14 +111,14 @@ pub fn write(
     filter: &mut [u64; FILTER_WORDS],
     buffer: &[u32],
 ) -> Handed
-    requires ready_for { ReadyFor l (geometry g) (lent chip spare directory cache work) (write_bound (geometry g)) work.counts
+    requires ready_for { ReadyFor l (geometry g) (lent chip.old spare.old directory.old cache.old work) (write_bound (geometry g)) work.counts
         × (length buffer.now ≡ g.w) }
-    requires noted { Noted (geometry g) (lent chip spare directory cache work) census.old filter.old }
+    requires noted { Noted (geometry g) (lent chip.old spare.old directory.old cache.old work) census.old filter.old }
     ensures does_all { DoesAll (write_steps (geometry g) l buffer.now)
-        (lent chip.entry spare.entry directory.entry cache.entry work) work
+        (lent chip.old spare.old directory.old cache.old work) work
         (replied buffer.now result.value)
-        (lent chip.exit spare.exit directory.exit cache.exit result.work) result.work }
-    ensures noted_2 { Noted (geometry g) (lent chip.exit spare.exit directory.exit cache.exit result.work)
+        (lent chip.new spare.new directory.new cache.new result.work) result.work }
+    ensures noted_2 { Noted (geometry g) (lent chip.new spare.new directory.new cache.new result.work)
         census.new filter.new }
 {
     let at = translate(work, g, l, chip, spare, census, directory, cache, filter);

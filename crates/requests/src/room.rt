@@ -28,12 +28,12 @@ fn collect(
     cache: &mut [u32],
     filter: &[u64; FILTER_WORDS],
 ) -> Work
-    requires room_ready { RoomReady (geometry g) (lent chip spare directory cache work) work.counts × ToCollect (geometry g) Data spare.old work v }
-    requires noted { Noted (geometry g) (lent chip spare directory cache work) census.old filter.now }
+    requires room_ready { RoomReady (geometry g) (lent chip.old spare.old directory.old cache.old work) work.counts × ToCollect (geometry g) Data spare.old work v }
+    requires noted { Noted (geometry g) (lent chip.old spare.old directory.old cache.old work) census.old filter.now }
     ensures does_all { DoesAll (make_room (geometry g) Data (cache_follows (geometry g)))
-        (lent chip.entry spare.entry directory.entry cache.entry work) work tt
-        (lent chip.exit spare.exit directory.exit cache.exit result) result }
-    ensures noted_2 { Noted (geometry g) (lent chip.exit spare.exit directory.exit cache.exit result)
+        (lent chip.old spare.old directory.old cache.old work) work tt
+        (lent chip.new spare.new directory.new cache.new result) result }
+    ensures noted_2 { Noted (geometry g) (lent chip.new spare.new directory.new cache.new result)
         census.new filter.now }
 {
     let mut moves = [0u32; MOVES_WORDS];
@@ -58,12 +58,12 @@ pub fn make_room(
     cache: &mut [u32],
     filter: &[u64; FILTER_WORDS],
 ) -> Work
-    requires room_ready { RoomReady (geometry g) (lent chip spare directory cache work) work.counts }
-    requires noted { Noted (geometry g) (lent chip spare directory cache work) census.old filter.now }
+    requires room_ready { RoomReady (geometry g) (lent chip.old spare.old directory.old cache.old work) work.counts }
+    requires noted { Noted (geometry g) (lent chip.old spare.old directory.old cache.old work) census.old filter.now }
     ensures does_all { DoesAll (make_room (geometry g) Data (cache_follows (geometry g)))
-        (lent chip.entry spare.entry directory.entry cache.entry work) work tt
-        (lent chip.exit spare.exit directory.exit cache.exit result) result }
-    ensures noted_2 { Noted (geometry g) (lent chip.exit spare.exit directory.exit cache.exit result)
+        (lent chip.old spare.old directory.old cache.old work) work tt
+        (lent chip.new spare.new directory.new cache.new result) result }
+    ensures noted_2 { Noted (geometry g) (lent chip.new spare.new directory.new cache.new result)
         census.new filter.now }
 {
     let choice = choose(work, g, Region::Data, spare, census);

@@ -30,12 +30,12 @@ fn write_back_if_changed(
     directory: &mut [u32],
     cache: &mut [u32],
 ) -> Work
-    requires ready { Ready (geometry g) (lent chip spare directory cache work) (update_bound (geometry g)) work.counts
+    requires ready { Ready (geometry g) (lent chip.old spare.old directory.old cache.old work) (update_bound (geometry g)) work.counts
         × (i < work.rec.used) }
     requires census { Census (geometry g) spare.old census.old }
     ensures does_all { DoesAll (cond (is_changed i cache.old) (write_back (geometry g) i) nothing)
-        (lent chip.entry spare.entry directory.entry cache.entry work) work tt
-        (lent chip.exit spare.exit directory.exit cache.exit result) result }
+        (lent chip.old spare.old directory.old cache.old work) work tt
+        (lent chip.new spare.new directory.new cache.new result) result }
     ensures census_2 { Census (geometry g) spare.new census.new }
 {
     if is_changed(i, cache) {
@@ -55,12 +55,12 @@ fn drop_entry(
     directory: &mut [u32],
     cache: &mut [u32],
 ) -> Work
-    requires ready { Ready (geometry g) (lent chip spare directory cache work) (update_bound (geometry g)) work.counts
+    requires ready { Ready (geometry g) (lent chip.old spare.old directory.old cache.old work) (update_bound (geometry g)) work.counts
         × (1 ≤ work.rec.used) }
     requires census { Census (geometry g) spare.old census.old }
     ensures does_all { DoesAll (drop_entry (geometry g))
-        (lent chip.entry spare.entry directory.entry cache.entry work) work tt
-        (lent chip.exit spare.exit directory.exit cache.exit result) result }
+        (lent chip.old spare.old directory.old cache.old work) work tt
+        (lent chip.new spare.new directory.new cache.new result) result }
     ensures census_2 { Census (geometry g) spare.new census.new }
     ensures keeps_filters { KeepsFilters cache.old work.rec.used cache.new result.rec.used }
 {
@@ -79,11 +79,11 @@ fn drop_if_full(
     directory: &mut [u32],
     cache: &mut [u32],
 ) -> Work
-    requires ready { Ready (geometry g) (lent chip spare directory cache work) (update_bound (geometry g)) work.counts }
+    requires ready { Ready (geometry g) (lent chip.old spare.old directory.old cache.old work) (update_bound (geometry g)) work.counts }
     requires census { Census (geometry g) spare.old census.old }
     ensures does_all { DoesAll (drop_if_full (geometry g))
-        (lent chip.entry spare.entry directory.entry cache.entry work) work tt
-        (lent chip.exit spare.exit directory.exit cache.exit result) result }
+        (lent chip.old spare.old directory.old cache.old work) work tt
+        (lent chip.new spare.new directory.new cache.new result) result }
     ensures census_2 { Census (geometry g) spare.new census.new }
     ensures keeps_filters { KeepsFilters cache.old work.rec.used cache.new result.rec.used }
 {
@@ -127,12 +127,12 @@ pub fn translate(
     cache: &mut [u32],
     filter: &mut [u64; FILTER_WORDS],
 ) -> Handed
-    requires ready_for { ReadyFor l (geometry g) (lent chip spare directory cache work) (translate_bound (geometry g)) work.counts }
-    requires noted { Noted (geometry g) (lent chip spare directory cache work) census.old filter.old }
+    requires ready_for { ReadyFor l (geometry g) (lent chip.old spare.old directory.old cache.old work) (translate_bound (geometry g)) work.counts }
+    requires noted { Noted (geometry g) (lent chip.old spare.old directory.old cache.old work) census.old filter.old }
     ensures does_all { DoesAll (translate (geometry g) l)
-        (lent chip.entry spare.entry directory.entry cache.entry work) work result.value
-        (lent chip.exit spare.exit directory.exit cache.exit result.work) result.work }
-    ensures noted_2 { Noted (geometry g) (lent chip.exit spare.exit directory.exit cache.exit result.work)
+        (lent chip.old spare.old directory.old cache.old work) work result.value
+        (lent chip.new spare.new directory.new cache.new result.work) result.work }
+    ensures noted_2 { Noted (geometry g) (lent chip.new spare.new directory.new cache.new result.work)
         census.new filter.new }
 {
     let rec = work.rec;
