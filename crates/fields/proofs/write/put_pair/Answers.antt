@@ -7,9 +7,6 @@ use Rattle.settings.specs.Fields.{bytes_of}
 use Rattle.fields.specs.Written.{put_one, put_then}
 use Rattle.fields.proofs.write.put_pair.Goals as goal
 
-pub bounds-place-at-2 : goal.bounds-place-at-2
-bounds-place-at-2 c = omega (arith, length-set c.args.place.now c.args.at (c.args.x / 256 % 256))
-
 pub returns : goal.returns
 unfolding bytes_of
 returns c = let place = c.args.place.now in
