@@ -12,7 +12,7 @@ use lib.ListN.{length}
 use Rattle.lent.specs.declared.Geometry.{Geometry}
 use Rattle.lent.specs.Model.{geometry}
 use Rattle.settings.specs.Settings.{versions, read as read_settings, numbers_words}
-use Rattle.settings.specs.Laws.Calls.{six_words_read}
+use Rattle.settings.proofs.Laws.Calls.{six_words_read}
 use Rattle.settings.specs.Kept.{ReadMade, WriteMade}
 use Rattle.held.specs.Held.{code_of, HeldTo}
 use Rattle.fields.specs.declared.read.Settings.{Settings}

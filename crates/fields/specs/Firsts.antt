@@ -4,7 +4,7 @@ use Rattle.std.proofs.Math.Path.{refl}
 use Rattle.std.proofs.Common.{sym, ap, ◌∙◌, arith, length-drop, take_all, drop-drop}
 use borrow.Author.Tests.{lt-ltb, le-ltb, eq-eqb, ne_eqb}
 use Rattle.settings.specs.Fields.{Field, Numbers, field_bytes, head_bytes, number, next}
-use Rattle.settings.specs.Laws.Fields.{Whole, whole_is_read, read_was_whole}
+use Rattle.settings.proofs.Laws.Fields.{Whole, whole_is_read, read_was_whole}
 use Rattle.fields.specs.declared.cursor.First.TheVariants.{Number as FirstIs, Refused as NoFirst}
 use Rattle.fields.specs.declared.cursor.Next.TheVariants.{Number as NextIs, Refused as NoNext}
 use Rattle.fields.specs.declared.cursor.Refusal.{Refusal}

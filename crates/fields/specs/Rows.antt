@@ -4,7 +4,7 @@ use Rattle.std.proofs.Common.{sym, ◌∙◌, subst, add-one, arith, length-set,
 use Rattle.std.proofs.Math.Path.{ap}
 use mathlib.Core.List.{List, [], ◌∷◌}
 use Rattle.settings.specs.Fields.{Field, Reading, Refused, Numbers, next, fields_read}
-use Rattle.settings.specs.Laws.Fields.{refusal_stays}
+use Rattle.settings.proofs.Laws.Fields.{refusal_stays}
 use Rattle.fields.specs.declared.cursor.Cursor.{Cursor}
 use Rattle.fields.specs.declared.cursor.Refusal.{Refusal}
 use Rattle.fields.specs.declared.cursor.Next.TheVariants.{Number as NextIs, Refused as NoNext}

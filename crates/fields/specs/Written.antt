@@ -6,7 +6,7 @@ use Rattle.std.proofs.Common.{◌∙◌, add-one, arith, length-set, length-appe
 use mathlib.Core.List.{List, [], ◌∷◌, ◌++◌, append_assoc, append-nil}
 use Rattle.std.proofs.Math.ListN.{take, drop, drop_of_length-le}
 use Rattle.settings.specs.Fields.{Field, field_bytes, field_written, fields_written, bytes_in}
-use Rattle.settings.specs.Laws.Fields.{length_field_written}
+use Rattle.settings.proofs.Laws.Fields.{length_field_written}
 use Rattle.fields.specs.Model.{Put}
 
 pub put_one : (place : List ℕ) (at b : ℕ) → at < length place → Put place (set place at b) at (b ∷ [])

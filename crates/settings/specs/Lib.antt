@@ -8,8 +8,5 @@ pub mod Settings
 pub mod Laid
 -- What is promised of the two calls
 pub mod Kept
--- What is proved of these here: laws, the promises of any version in any table, those of the two calls, and closed instances
-pub mod Laws
-pub mod Promises
-pub mod Theorems
+-- Closed instances; what else is proved of these stands in proofs/
 pub mod Tables

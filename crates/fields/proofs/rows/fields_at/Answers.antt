@@ -6,7 +6,7 @@ use borrow.Author.Rules.{rules}
 use native.Mathlib.Omega.{arith}
 use lib.ListN.{get_or, drop}
 use Rattle.settings.specs.Fields.{Numbers}
-use Rattle.settings.specs.Laws.Reader.{numbers_of_their_geometry}
+use Rattle.settings.proofs.Laws.Reader.{numbers_of_their_geometry}
 use Rattle.fields.specs.Model.{rows, NextRead}
 use Rattle.fields.specs.Rows.{before_first, before_next, refused_there, all_rows_read, row_at, sized_row, length_rows}
 use Rattle.fields.proofs.rows.fields_at.Goals as goal

@@ -1,6 +1,6 @@
 -- A slice of another length is left; one of six takes what was read.
 use mathlib.Core.Path.{sym, ◌∙◌}
-use Rattle.settings.specs.Laws.Calls.{other_length_refused, six_words_read}
+use Rattle.settings.proofs.Laws.Calls.{other_length_refused, six_words_read}
 use Rattle.fields.proofs.words.read_settings.Goals as goal
 
 pub returns-then-numbers-ne-NUMBERS : goal.returns-then-numbers-ne-NUMBERS

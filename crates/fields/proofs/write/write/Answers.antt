@@ -2,9 +2,9 @@
 use mathlib.Core.Path.{sym, ap, ◌∙◌}
 use Rattle.lent.specs.Model.{geometry}
 use Rattle.settings.specs.Settings.{Version, version_1, answered, record_bytes, written}
-use Rattle.settings.specs.Promises.{record_1_has_36_bytes}
+use Rattle.settings.proofs.Promises.{record_1_has_36_bytes}
 use Rattle.fields.specs.Judged.{version_1_sized}
-use Rattle.settings.specs.Laws.Calls.{geometry_not_written, place_not_written, record_written}
+use Rattle.settings.proofs.Laws.Calls.{geometry_not_written, place_not_written, record_written}
 use Rattle.fields.proofs.write.write.Goals as goal
 
 pub returns-then-not-accepts : goal.returns-then-not-accepts

@@ -5,8 +5,8 @@ use Rattle.std.proofs.Common.{sym, ap, ap₂, subst, ◌∙◌, append_assoc, ap
 use Rattle.std.proofs.lemmas.Bool.{not-false}
 use Rattle.settings.specs.Fields.{Field, head_bytes, field_bytes, number, bytes_of, Reading, Refused, Numbers, next, fields_read, field_written, fields_written, bytes_in}
 use Rattle.settings.specs.Laid.{Bytes}
-use Rattle.settings.specs.Laws.Numbers.{length_bytes_of, number_of_its_bytes, bytes_of_their_number, bytes_dropped}
-use Rattle.settings.specs.Laws.Tests.{not_refused}
+use Rattle.settings.proofs.Laws.Numbers.{length_bytes_of, number_of_its_bytes, bytes_of_their_number, bytes_dropped}
+use Rattle.settings.proofs.Laws.Tests.{not_refused}
 
 -- One number for each field; the field's length fits its two bytes, and the number the bytes of the field.
 abbrev pub Fits : List Field → List ℕ → Type 0

@@ -4,7 +4,7 @@ use Rattle.std.proofs.Common.{sym, ap, ◌∙◌, true≢false, arith}
 use Rattle.scope.specs.Laws.Decides.{by_below, by_itself, by_and}
 use Rattle.settings.specs.Fields.{number, bytes_of, whole_fields}
 use Rattle.settings.specs.Laid.{Bytes, Skipped, laid, Higher}
-use Rattle.settings.specs.Laws.Numbers.{bytes_of_their_number}
+use Rattle.settings.proofs.Laws.Numbers.{bytes_of_their_number}
 
 bytes_passed : (last : ℕ) (bytes rest : List ℕ) → whole_fields last (length bytes) (bytes ++ rest) ≡ whole_fields last 0 rest
 unfolding whole_fields

@@ -7,7 +7,7 @@ use Rattle.std.proofs.lemmas.Bool.{not-false}
 use Rattle.scope.specs.Geometry.{accepted}
 use Rattle.settings.specs.Fields.{Field, field_bytes, number, Reading, Refused, Numbers, ACCEPTED, next, fields_read}
 use Rattle.settings.specs.Settings.{Version, version_of, may_follow, numbers_of, numbers_words, geometry_from, Answered, answered, ended, by_table, by_version}
-use Rattle.settings.specs.Laws.Tests.{of_both, not_refused}
+use Rattle.settings.proofs.Laws.Tests.{of_both, not_refused}
 
 -- ---- accepting
 

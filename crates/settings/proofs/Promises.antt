@@ -8,11 +8,11 @@ use Rattle.scope.specs.Laws.Decided.{accepted_decided}
 use Rattle.settings.specs.Fields.{head_bytes, field_bytes, number, Numbers, ACCEPTED, next, fields_read, whole_fields, field_written, fields_written, bytes_in}
 use Rattle.settings.specs.Settings.{Version, version_field, version_1, versions, version_of, last_tag, may_follow, numbers_of, numbers_words, geometry_from, answered, ended, by_table, by_version, read, written, record_bytes}
 use Rattle.settings.specs.Laid.{Bytes, Skipped, laid, Higher}
-use Rattle.settings.specs.Laws.Tests.{of_both}
-use Rattle.settings.specs.Laws.Numbers.{bytes_dropped}
-use Rattle.settings.specs.Laws.Reader.{ended_accepts, next_says_why, fields_read_say_why, Ended, ended_accepted, table_accepted, version_accepted, Each, found_is_one, numbers_of_their_geometry, version_zeros}
-use Rattle.settings.specs.Laws.Skipped.{laid_is_whole, WasLaid, whole_was_laid}
-use Rattle.settings.specs.Laws.Fields.{Fits, length_field_written, length_fields_written, Whole, whole_is_read, read_was_whole, whole_is_written, written_field_is_read, written_fields_are_read, WasWritten, read_fields_were_written}
+use Rattle.settings.proofs.Laws.Tests.{of_both}
+use Rattle.settings.proofs.Laws.Numbers.{bytes_dropped}
+use Rattle.settings.proofs.Laws.Reader.{ended_accepts, next_says_why, fields_read_say_why, Ended, ended_accepted, table_accepted, version_accepted, Each, found_is_one, numbers_of_their_geometry, version_zeros}
+use Rattle.settings.proofs.Laws.Skipped.{laid_is_whole, WasLaid, whole_was_laid}
+use Rattle.settings.proofs.Laws.Fields.{Fits, length_field_written, length_fields_written, Whole, whole_is_read, read_was_whole, whole_is_written, written_field_is_read, written_fields_are_read, WasWritten, read_fields_were_written}
 
 -- What a version's row must have: the reader finds it under its number, which one byte holds, and it has a field for each of the six
 -- numbers, in which that number of any accepted geometry has room.

@@ -9,11 +9,11 @@ use Rattle.settings.specs.Fields.{ACCEPTED, GEOMETRY, PLACE}
 use Rattle.settings.specs.Settings.{version_1, versions, numbers_words, geometry_from, Answered, answered, read, written, record_bytes, write, tf_settings_read, tf_settings_write}
 use Rattle.settings.specs.Laid.{Bytes, laid, IsRecord}
 use Rattle.settings.specs.Kept.{ReadMade, WriteMade, ReadOneOutcome, WriteOneOutcome, ReadsEachRecord, ReadsRecordsAlone, WriteAnswers, LeftByRefusal, ReadRefused, WriteRefused, ReadGivesWhatWasWritten, OnlyRecordOfItsNumbers, WritingWhatWasReadGivesItBack, SkippedNeverMatters}
-use Rattle.settings.specs.Laws.Numbers.{bytes_dropped}
-use Rattle.settings.specs.Laws.Tests.{of_both, not_refused}
-use Rattle.settings.specs.Laws.Calls.{record_written, six_words_read}
-use Rattle.settings.specs.Laws.Reader.{same_outcome, did_not_accept}
-use Rattle.settings.specs.Promises.{RecordOf, written_is_read, written_alone_is_read, first_bytes_are_written, only_record, refusal_gives_zeros, version_1_writable, record_1_has_36_bytes, written_1_has_36_bytes, higher_fields_may_follow, higher_fields_followed, accepted_was_version_1}
+use Rattle.settings.proofs.Laws.Numbers.{bytes_dropped}
+use Rattle.settings.proofs.Laws.Tests.{of_both, not_refused}
+use Rattle.settings.proofs.Laws.Calls.{record_written, six_words_read}
+use Rattle.settings.proofs.Laws.Reader.{same_outcome, did_not_accept}
+use Rattle.settings.proofs.Promises.{RecordOf, written_is_read, written_alone_is_read, first_bytes_are_written, only_record, refusal_gives_zeros, version_1_writable, record_1_has_36_bytes, written_1_has_36_bytes, higher_fields_may_follow, higher_fields_followed, accepted_was_version_1}
 
 -- ---- one outcome
 
