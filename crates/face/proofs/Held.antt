@@ -7,7 +7,7 @@ use Prim.Native.Nat.{ℕ}
 use lib.ListN.{length}
 use borrow.Fn.World.{World}
 use contract.Lifetimes.{Lfts}
-use denote.Ref.{Bor}
+use denote.Ref.{Bor, MutBor}
 use denote.Triple.Clauses.{Clauses}
 use Rattle.lent.specs.declared.Geometry.{Geometry as Numbers}
 use Rattle.lent.specs.declared.Record.{Record}
@@ -31,17 +31,17 @@ use Rattle.face.proofs.check.Met as check_met
 
 -- Each contract, at a model of the prover's logic.
 abbrev format_contract : (m : World) → Clauses m.𝓤 format'.ended
-format_contract m = format'.clauses m.𝓛 m.𝓜.mem m.𝓡.run
+format_contract m = format'.clauses m.𝓛 m.𝓜.mem m.𝓡.returns
 
 abbrev check_contract : (m : World) → Clauses m.𝓤 check'.ended
-check_contract m = check'.clauses m.𝓛 m.𝓜.mem m.𝓡.run
+check_contract m = check'.clauses m.𝓛 m.𝓜.mem m.𝓡.returns
 
-module _ (g : Numbers) (rec rec' : Bor Record) (chip spare directory cache counts chip' spare' directory' cache' counts' : Bor (List ℕ))
-    (r : ℕ) where
-  -- A record of numbers has all its words.
-  abbrev sizes : List Size
-  sizes = call_sizes record_words (length counts.now)
+-- A record of numbers has all its words.
+abbrev sizes : MutBor (List ℕ) → List Size
+sizes counts = call_sizes record_words (length counts.now)
 
+module _ (g : Numbers) (rec rec' : MutBor Record)
+    (chip spare directory cache counts chip' spare' directory' cache' counts' : MutBor (List ℕ)) (r : ℕ) where
   abbrev lent : State
   lent = state chip.now spare.now directory.now cache.now rec.now
 
@@ -49,30 +49,35 @@ module _ (g : Numbers) (rec rec' : Bor Record) (chip spare directory cache count
   left = state chip'.now spare'.now directory'.now cache'.now rec'.now
 
   pub format_held : (κs : Lfts 6) →
-      HeldTo format'.ended (code_of format_symbol.routine) format_contract κs
+      HeldTo format'.ended format_symbol.code (code_of format_symbol.name) format_contract κs
       (rec, (g, (chip, (spare, (directory, (cache, (counts, tt))))))) r
       (rec', (g, (chip', (spare', (directory', (cache', (counts', tt)))))))
-      (ContractAllows (geometry g) (Format sizes) (by_number r) (AsNumbers lent counts.now left counts'.now))
+      (ContractAllows (geometry g) (Format (sizes counts)) (by_number r) (AsNumbers lent counts.now left counts'.now))
   format_held κs =
       record {
         meets = λ m. format_met.met m.𝓤 m.𝓛 m.𝓜 m.𝓡;
         asks_nothing = λ m x. refl;
-        Told = Answers (format (geometry g) sizes lent) counts.now r left counts'.now;
+        Told = Answers (format (geometry g) (sizes counts) lent) counts.now r left counts'.now;
         tells_it = λ m x. refl;
-        gives = format_made (geometry g) sizes lent;
+        gives = format_made (geometry g) (sizes counts) lent;
       }
 
-  -- Nothing but the counts is lent to be changed.
+-- Nothing but the counts is lent to be changed.
+module _ (g : Numbers) (rec rec' : Bor Record) (chip spare directory cache : Bor (List ℕ)) (counts : MutBor (List ℕ))
+    (chip' spare' directory' cache' : Bor (List ℕ)) (counts' : MutBor (List ℕ)) (r : ℕ) where
+  abbrev looked_at : State
+  looked_at = state chip.now spare.now directory.now cache.now rec.now
+
   pub check_held : (κs : Lfts 6) →
-      HeldTo check'.ended (code_of check_symbol.routine) check_contract κs
+      HeldTo check'.ended check_symbol.code (code_of check_symbol.name) check_contract κs
       (rec, (g, (chip, (spare, (directory, (cache, (counts, tt))))))) r
       (rec', (g, (chip', (spare', (directory', (cache', (counts', tt)))))))
-      (ContractAllows (geometry g) (Check sizes) (by_number r) (AsNumbers lent counts.now lent counts'.now))
+      (ContractAllows (geometry g) (Check (sizes counts)) (by_number r) (AsNumbers looked_at counts.now looked_at counts'.now))
   check_held κs =
       record {
         meets = λ m. check_met.met m.𝓤 m.𝓛 m.𝓜 m.𝓡;
         asks_nothing = λ m x. refl;
-        Told = Answers (check (geometry g) sizes lent) counts.now r lent counts'.now;
+        Told = Answers (check (geometry g) (sizes counts) looked_at) counts.now r looked_at counts'.now;
         tells_it = λ m x. refl;
-        gives = check_made (geometry g) sizes lent;
+        gives = check_made (geometry g) (sizes counts) looked_at;
       }

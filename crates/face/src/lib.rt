@@ -1,7 +1,7 @@
 // The public face of the library for Rattle, over a small record that is lent and changed in place: format and check stand here, read and write
 // in crate facepage, the run in crate facerun. No call has a `requires`, and each contract cites the call's definition, so that it settles the
 // reply, the record, every lent list and the counts for every input. A body only copies the record, hands it on by value and stores what
-// comes back: all that is tested and done is in crate calls. The bodies have the shapes of tools/walks, which prints their proofs.
+// comes back: all that is tested and done is in crate calls.
 #![tactic(auto)]
 
 ghost use Rattle.std.specs.Prelude.{length};
