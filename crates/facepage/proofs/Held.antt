@@ -7,7 +7,7 @@ use Prim.Native.Nat.{ℕ}
 use lib.ListN.{length}
 use borrow.Fn.World.{World}
 use contract.Lifetimes.{Lfts}
-use denote.Ref.{Bor}
+use denote.Ref.{Bor, MutBor}
 use denote.Triple.Clauses.{Clauses}
 use Rattle.lent.specs.declared.Geometry.{Geometry as Numbers}
 use Rattle.lent.specs.declared.Record.{Record}
@@ -32,13 +32,13 @@ use Rattle.facepage.proofs.write.Met as write_met
 
 -- Each contract, at a model of the prover's logic.
 abbrev read_contract : (m : World) → Clauses m.𝓤 read'.ended
-read_contract m = read'.clauses m.𝓛 m.𝓜.mem m.𝓡.run
+read_contract m = read'.clauses m.𝓛 m.𝓜.mem m.𝓡.returns
 
 abbrev write_contract : (m : World) → Clauses m.𝓤 write'.ended
-write_contract m = write'.clauses m.𝓛 m.𝓜.mem m.𝓡.run
+write_contract m = write'.clauses m.𝓛 m.𝓜.mem m.𝓡.returns
 
-module _ (g : Numbers) (rec rec' : Bor Record) (chip spare directory cache counts chip' spare' directory' cache' counts' : Bor (List ℕ))
-    (r page : ℕ) (buffer buffer' : Bor (List ℕ)) where
+module _ (g : Numbers) (rec rec' : MutBor Record)
+    (chip spare directory cache counts chip' spare' directory' cache' counts' : MutBor (List ℕ)) (r page : ℕ) where
   -- A record of numbers has all its words.
   abbrev sizes : List Size
   sizes = call_sizes record_words (length counts.now)
@@ -49,31 +49,33 @@ module _ (g : Numbers) (rec rec' : Bor Record) (chip spare directory cache count
   abbrev left : State
   left = state chip'.now spare'.now directory'.now cache'.now rec'.now
 
-  pub read_held : (κs : Lfts 7) →
-      HeldTo read'.ended (code_of read_symbol.routine) read_contract κs
-      (rec, (g, (page, (chip, (spare, (directory, (cache, (buffer, (counts, tt))))))))) r
-      (rec', (g, (page, (chip', (spare', (directory', (cache', (buffer', (counts', tt)))))))))
-      (ContractAllows (geometry g) (ReadPage sizes page buffer.now) (by_page (replied buffer'.now r)) (AsNumbers lent counts.now left counts'.now))
-  read_held κs =
-      record {
-        meets = λ m. read_met.met m.𝓤 m.𝓛 m.𝓜 m.𝓡;
-        asks_nothing = λ m x. refl;
-        Told = Answers (read (geometry g) sizes page buffer.now lent) counts.now (replied buffer'.now r) left counts'.now;
-        tells_it = λ m x. refl;
-        gives = read_made (geometry g) sizes lent page buffer.now;
-      }
+  module _ (buffer buffer' : MutBor (List ℕ)) where
+    pub read_held : (κs : Lfts 7) →
+        HeldTo read'.ended read_symbol.code (code_of read_symbol.name) read_contract κs
+        (rec, (g, (page, (chip, (spare, (directory, (cache, (buffer, (counts, tt))))))))) r
+        (rec', (g, (page, (chip', (spare', (directory', (cache', (buffer', (counts', tt)))))))))
+        (ContractAllows (geometry g) (ReadPage sizes page buffer.now) (by_page (replied buffer'.now r)) (AsNumbers lent counts.now left counts'.now))
+    read_held κs =
+        record {
+          meets = λ m. read_met.met m.𝓤 m.𝓛 m.𝓜 m.𝓡;
+          asks_nothing = λ m x. refl;
+          Told = Answers (read (geometry g) sizes page buffer.now lent) counts.now (replied buffer'.now r) left counts'.now;
+          tells_it = λ m x. refl;
+          gives = read_made (geometry g) sizes lent page buffer.now;
+        }
 
   -- The page buffer is not lent to be changed.
-  pub write_held : (κs : Lfts 7) →
-      HeldTo write'.ended (code_of write_symbol.routine) write_contract κs
-      (rec, (g, (page, (chip, (spare, (directory, (cache, (buffer, (counts, tt))))))))) r
-      (rec', (g, (page, (chip', (spare', (directory', (cache', (buffer', (counts', tt)))))))))
-      (ContractAllows (geometry g) (WritePage sizes page buffer.now) (by_page (replied buffer.now r)) (AsNumbers lent counts.now left counts'.now))
-  write_held κs =
-      record {
-        meets = λ m. write_met.met m.𝓤 m.𝓛 m.𝓜 m.𝓡;
-        asks_nothing = λ m x. refl;
-        Told = Answers (write (geometry g) sizes page buffer.now lent) counts.now (replied buffer.now r) left counts'.now;
-        tells_it = λ m x. refl;
-        gives = write_made (geometry g) sizes lent page buffer.now;
-      }
+  module _ (buffer buffer' : Bor (List ℕ)) where
+    pub write_held : (κs : Lfts 7) →
+        HeldTo write'.ended write_symbol.code (code_of write_symbol.name) write_contract κs
+        (rec, (g, (page, (chip, (spare, (directory, (cache, (buffer, (counts, tt))))))))) r
+        (rec', (g, (page, (chip', (spare', (directory', (cache', (buffer', (counts', tt)))))))))
+        (ContractAllows (geometry g) (WritePage sizes page buffer.now) (by_page (replied buffer.now r)) (AsNumbers lent counts.now left counts'.now))
+    write_held κs =
+        record {
+          meets = λ m. write_met.met m.𝓤 m.𝓛 m.𝓜 m.𝓡;
+          asks_nothing = λ m x. refl;
+          Told = Answers (write (geometry g) sizes page buffer.now lent) counts.now (replied buffer.now r) left counts'.now;
+          tells_it = λ m x. refl;
+          gives = write_made (geometry g) sizes lent page buffer.now;
+        }
