@@ -6,7 +6,7 @@ use Prim.Native.Nat.{ℕ}
 use lib.ListN.{length}
 use borrow.Fn.World.{World}
 use contract.Lifetimes.{Lfts}
-use denote.Ref.{Bor}
+use denote.Ref.{Bor, MutBor}
 use denote.Triple.Clauses.{Clauses}
 use Rattle.lent.specs.declared.Geometry.{Geometry as Numbers}
 use Rattle.lent.specs.declared.Record.{Record}
@@ -29,10 +29,11 @@ use Rattle.facerun.proofs.run.Met as run_met
 
 -- Its contract, at a model of the prover's logic.
 abbrev run_contract : (m : World) → Clauses m.𝓤 run'.ended
-run_contract m = run'.clauses m.𝓛 m.𝓜.mem m.𝓡.run
+run_contract m = run'.clauses m.𝓛 m.𝓜.mem m.𝓡.returns
 
-module _ (g : Numbers) (rec rec' : Bor Record) (chip spare directory cache counts chip' spare' directory' cache' counts' : Bor (List ℕ))
-    (r : ℕ) (requests requests' : Bor (List Request)) (words words' answers answers' : Bor (List ℕ)) where
+module _ (g : Numbers) (rec rec' : MutBor Record)
+    (chip spare directory cache counts chip' spare' directory' cache' counts' : MutBor (List ℕ)) (r : ℕ) (requests requests' : Bor (List Request))
+    (words words' answers answers' : MutBor (List ℕ)) where
   -- A record of numbers has all its words.
   abbrev sizes : List Size
   sizes = call_sizes record_words (length counts.now)
@@ -44,7 +45,7 @@ module _ (g : Numbers) (rec rec' : Bor Record) (chip spare directory cache count
   left = state chip'.now spare'.now directory'.now cache'.now rec'.now
 
   pub run_held : (κs : Lfts 9) →
-      HeldTo run'.ended (code_of run_symbol.routine) run_contract κs
+      HeldTo run'.ended run_symbol.code (code_of run_symbol.name) run_contract κs
       (rec, (g, (requests, (chip, (spare, (directory, (cache, (words, (answers, (counts, tt)))))))))) r
       (rec', (g, (requests', (chip', (spare', (directory', (cache', (words', (answers', (counts', tt))))))))))
       (ContractAllows (geometry g) (Run sizes (map request requests.now) words.now answers.now) (by_run (run_replied words'.now answers'.now r)) (AsNumbers lent counts.now left counts'.now))

@@ -1,6 +1,6 @@
 // The public run for Rattle: over a small record that is lent and changed in place, and a lent slice of requests. It has no `requires`, and its
 // contract cites the call's definition, so that it settles the reply, the record, every lent list and the counts for every input. All that
-// is tested and done is in crate serving; the bodies have the shapes of tools/walks, which prints their proofs.
+// is tested and done is in crate serving.
 #![tactic(auto)]
 
 mod served;
