@@ -11,7 +11,7 @@ use Rattle.scope.specs.Sound.{Sound}
 use Rattle.scope.specs.Decisions.{sound}
 use Rattle.scope.specs.Replies.{DONE, DAMAGED, Test, first_applying, right_sizes}
 use Rattle.scope.specs.Calls.{state_sizes, size_tests, state_tests, request_tests}
-use Rattle.scope.specs.Laws.Decided.{accepted_decided, sound_decided}
+use Rattle.scope.proofs.Decided.{accepted_decided, sound_decided}
 use Rattle.promises.specs.GroundsDecided.{tests_passed, page_passed}
 use Rattle.lent.specs.declared.Counts.{Counts as Counted}
 use Rattle.lent.specs.Shapes.{RoomToCount}

@@ -15,4 +15,3 @@ pub mod Heads
 pub mod Owners
 pub mod SamePages
 pub mod Listed
-pub mod Clearing

@@ -9,7 +9,7 @@ use Rattle.scope.specs.Decisions.{unchanged_agree}
 use Rattle.scope.specs.Geometry.{Geometry}
 use Rattle.scope.specs.SmallRecord.{with_used}
 use Rattle.scope.specs.Lent.{none, Place, Nowhere, decode, State, with_flash, with_directory, with_cache, with_small, word_of, logical_at, physical_at, changed_at}
-use Rattle.scope.specs.Laws.Decided.{unchanged_agree_decided}
+use Rattle.scope.proofs.Decided.{unchanged_agree_decided}
 use Rattle.scope.specs.Laws.Decides.{Decides}
 use Rattle.scope.specs.Sound.{in_page, stored, UnchangedAgree}
 use Rattle.flash.specs.Cases.{below?}

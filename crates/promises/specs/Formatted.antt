@@ -10,7 +10,7 @@ use Rattle.std.proofs.Math.ListN.{replicate, get_or-replicate}
 use Rattle.std.proofs.lemmas.List.{length-replicate}
 use borrow.Author.Tests.{ltb-true, le-ltb}
 use Rattle.scope.specs.Counting.{lowest}
-use Rattle.scope.specs.Geometry.{Geometry, Accepted, M, blocks, pages}
+use Rattle.scope.specs.Geometry.{Geometry, Accepted, M, blocks}
 use Rattle.scope.specs.Lent.{none, valid, Place, Nowhere, State, with_directory, entry_words, directory_size, cache_size, state_of, named, logical_at, translation_page}
 use Rattle.scope.specs.Regions.{Region, Data, Translation, first_block, region_blocks, page_in, HasBlock, HasPage}
 use Rattle.scope.specs.SmallRecord.{SmallRecord, fresh, open_block, next_offset}

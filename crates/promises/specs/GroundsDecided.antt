@@ -12,7 +12,7 @@ use Rattle.scope.specs.Decisions.{sound}
 use Rattle.scope.specs.Replies.{DONE, UNWRITTEN, GEOMETRY, LENGTH, DAMAGED, KIND, PAGE, Size, first_applying, right_sizes}
 use Rattle.scope.specs.Calls.{state_sizes, buffer_sizes, run_sizes, kinds, request_tests, read_of}
 use Rattle.scope.specs.Laws.Decides.{Decides, by_equal, by_and, by_not, by_most}
-use Rattle.scope.specs.Laws.Decided.{accepted_decided, sound_decided}
+use Rattle.scope.proofs.Decided.{accepted_decided, sound_decided}
 use Rattle.promises.specs.Call.{Format, Check, Run}
 use Rattle.promises.specs.Grounds.{Right, Wrong, AllPassed, size_grounds, state_ground, state_grounds, request_grounds, single_grounds, grounds}
 use Rattle.promises.specs.Tests.{Decided, AllDecided, decided_then, done_exactly}

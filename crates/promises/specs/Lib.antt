@@ -4,7 +4,7 @@ pub mod Grounds
 pub mod EachRecord
 pub mod Remembered
 pub mod Bounds
--- The steps.
+-- The steps. What follows from all of them together stands in proofs/.
 pub mod Index
 pub mod Stored
 pub mod Parts
@@ -18,16 +18,9 @@ pub mod Replacement
 pub mod HeldWords
 pub mod Read
 pub mod Write
-pub mod Serve
 pub mod Formatted
 -- Demand 1.
 pub mod Tests
 pub mod GroundsDecided
-pub mod Refusals
-pub mod Records
-pub mod Demand1
 -- Demands 2 and 3.
 pub mod OneForEach
-pub mod Standing
-pub mod RunStands
-pub mod FromSound

@@ -11,7 +11,7 @@ use Rattle.scope.specs.Lent.{erased, valid, State, state_of, owner_of, is_valid}
 use Rattle.scope.specs.Blocks.{wholly_erased, no_erased_page, valid_pages}
 use Rattle.scope.specs.Sound.{PagesFit, OwnersDiffer, WhollyErased, Full}
 use Rattle.scope.specs.Room.{erased_blocks, lowest_erased, victim}
-use Rattle.scope.specs.Laws.Decided.{wholly_erased_decided, full_decided}
+use Rattle.scope.proofs.Decided.{wholly_erased_decided, full_decided}
 use Rattle.flash.specs.Bounded.{RegionBounded}
 use Rattle.flash.specs.Cases.{on, same?, and_true, true_and, and_cases, clash, not_of_false}
 use Rattle.flash.specs.Counting.{some_found, none_some, sum, count_same, sum_same, count_blocks, count_one, count_split, pigeonhole, count_at_most_one}

@@ -14,8 +14,8 @@ use Rattle.scope.specs.Sound.{Sound}
 use Rattle.scope.specs.Operations.{Outcome, give, ◌>>=◌}
 use Rattle.scope.specs.Calls.{RunReplied, part, no_request, answer_record, serve_record, serve_records}
 use Rattle.promises.specs.Remembered.{held}
-use Rattle.promises.specs.Records.{record_stores}
-use Rattle.promises.specs.RunStands.{record_stands}
+use Rattle.promises.proofs.Records.{record_stores}
+use Rattle.promises.proofs.RunStands.{record_stands}
 use Rattle.words.specs.Runs.{length_part}
 use Rattle.geometry.specs.Sizes.{piece_inside}
 use Rattle.admission.specs.Room.{most_cost, write_few}

@@ -6,7 +6,7 @@ use Rattle.std.proofs.lemmas.List.Edits.{sets}
 use Rattle.scope.specs.Geometry.{Geometry}
 use Rattle.scope.specs.SmallRecord.{with_used, with_protected}
 use Rattle.scope.specs.Lent.{none, State, Mapping, entry_words, most_protected, logical_at, physical_at, changed_at, translation_page}
-use Rattle.scope.specs.Operations.{Step, give, look, set_cache, set_small, ◌>>=◌, ◌>>◌}
+use Rattle.scope.specs.Operations.{Step, give, look, set_cache, set_small, ◌>>◌}
 
 -- The entry at a rank, and the cache without it, those behind it one rank nearer.
 abbrev pub entry_at : ℕ → List ℕ → List ℕ

@@ -7,7 +7,7 @@ use Rattle.scope.specs.Geometry.{Geometry, accepted}
 use Rattle.scope.specs.SmallRecord.{SmallRecord}
 use Rattle.scope.specs.Lent.{none, State, Request, most_requests, chip_size, spare_size, directory_size, cache_size}
 use Rattle.scope.specs.Decisions.{sound}
-use Rattle.scope.specs.Operations.{Step, give, look, ◌>>=◌, ◌>>◌}
+use Rattle.scope.specs.Operations.{Step, give, look, ◌>>=◌}
 use Rattle.scope.specs.Replies.{DONE, GEOMETRY, LENGTH, DAMAGED, KIND, PAGE, Test, Size, admit, right_sizes}
 use Rattle.scope.specs.Requests.{Replied, replied, read_steps, write_steps, format_steps}
 

@@ -1,5 +1,5 @@
 -- Document 01 as definitions, in its order. Below each of 01's headings stand the files that say it; a reader must believe those up to
--- Contracts, and nothing else.
+-- Holding, and nothing else.
 
 -- "Geometry"
 pub mod Counting
@@ -24,6 +24,7 @@ pub mod Requests
 pub mod Calls
 pub mod Boundary
 pub mod Holding
--- What is proved of these here: laws, and "A session in full" with other closed instances
+-- What is proved of these here: laws, of which proofs/ has those of the rules' tests and of every step, and "A session in full" with other
+-- closed instances
 pub mod Laws
 pub mod Tables

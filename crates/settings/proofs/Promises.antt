@@ -4,7 +4,7 @@ use Rattle.std.specs.Prelude.{ℕ, ◌+◌, ◌*◌, ◌-◌, ◌^◌, ◌≤◌
 use Rattle.std.proofs.Common.{sym, ap, ap₂, subst, ◌∙◌, append_assoc, append-nil, mul-le-mul, arith, length-append, take_all, take_at}
 use Rattle.std.proofs.Math.Option.{Option, some}
 use Rattle.scope.specs.Geometry.{Geometry, Accepted, accepted, most_blocks, most_pages_in_block}
-use Rattle.scope.specs.Laws.Decided.{accepted_decided}
+use Rattle.scope.proofs.Decided.{accepted_decided}
 use Rattle.settings.specs.Fields.{head_bytes, field_bytes, number, Numbers, ACCEPTED, next, fields_read, whole_fields, field_written, fields_written, bytes_in}
 use Rattle.settings.specs.Settings.{Version, version_field, version_1, versions, version_of, last_tag, may_follow, numbers_of, numbers_words, geometry_from, answered, ended, by_table, by_version, read, written, record_bytes}
 use Rattle.settings.specs.Laid.{Bytes, Skipped, laid, Higher}

@@ -4,7 +4,7 @@ use Rattle.std.specs.Prelude.{ℕ, ◌≡◌, refl, true, not, List, ◌++◌, e
 use Rattle.std.proofs.Common.{sym, ap, subst, ◌∙◌, inl, inr, arith, drop_at, eqb-true}
 use Rattle.std.proofs.lemmas.Bool.{eqb-false, not-true, not-false}
 use Rattle.scope.specs.Geometry.{Geometry, accepted}
-use Rattle.scope.specs.Laws.Decided.{accepted_decided}
+use Rattle.scope.proofs.Decided.{accepted_decided}
 use Rattle.settings.specs.Fields.{ACCEPTED, GEOMETRY, PLACE}
 use Rattle.settings.specs.Settings.{version_1, versions, numbers_words, geometry_from, Answered, answered, read, written, record_bytes, write, tf_settings_read, tf_settings_write}
 use Rattle.settings.specs.Laid.{Bytes, laid, IsRecord}

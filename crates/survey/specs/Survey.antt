@@ -4,7 +4,7 @@ use Rattle.std.specs.Prelude.{ℕ, ◌+◌, ◌*◌, ◌≤◌, ◌<◌, ◌≡�
 use Rattle.std.proofs.Common.{sym, ap, ◌∙◌, add-mul, zero-mul, suc-mul, mul-le-mul_right, add-one, arith}
 use Rattle.scope.specs.Counting.{all, count}
 use Rattle.scope.specs.Geometry.{Geometry, blocks}
-use Rattle.scope.specs.Laws.Decided.{pages_fit_decided, blocks_fit_decided}
+use Rattle.scope.proofs.Decided.{pages_fit_decided, blocks_fit_decided}
 use Rattle.scope.specs.Laws.Decides.{Decides, by_same, by_and}
 use Rattle.scope.specs.Lent.{spare_words, chip_size, spare_size, is_valid}
 use Rattle.scope.specs.Regions.{Region, Data, Translation, owners, first_block, region_blocks, region_pages}

@@ -5,7 +5,7 @@ use borrow.Author.Tests.{not-true, not-false}
 use Rattle.lent.specs.Model.{geometry}
 use Rattle.scope.specs.Geometry.{accepted}
 use Rattle.scope.specs.Replies.{right_sizes}
-use Rattle.scope.specs.Laws.Decided.{accepted_decided}
+use Rattle.scope.proofs.Decided.{accepted_decided}
 use Rattle.flash.specs.Tests.{refused, passed}
 use Rattle.geometry.specs.Sizes.{sizes}
 use Rattle.replies.specs.Tests.{geometry_refused, length_refused, other_refused, size_admitted}

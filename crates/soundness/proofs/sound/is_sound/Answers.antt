@@ -1,7 +1,7 @@
 -- `sound::is_sound` meets its contract: all seven rules, and the census and the filter where they hold.
 use mathlib.Core.Path.{refl}
 use borrow.Author.Tests.{not-false}
-use Rattle.scope.specs.Laws.Decided.{sound_decided}
+use Rattle.scope.proofs.Decided.{sound_decided}
 use Rattle.scope.specs.Laws.Decides.{by_same}
 use Rattle.scope.specs.Regions.{Data}
 use Rattle.flash.specs.Cases.{clash}

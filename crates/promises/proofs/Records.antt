@@ -19,8 +19,8 @@ use Rattle.flash.specs.Cases.{last, below?}
 use Rattle.flash.specs.Stores.{getD_sets_outside, slot_same}
 use Rattle.flash.specs.Lengths.{words_same}
 use Rattle.promises.specs.EachRecord.{before_record, record_outcome}
-use Rattle.promises.specs.Serve.{serve_hands_back}
-use Rattle.promises.specs.Refusals.{record_by_grounds}
+use Rattle.promises.proofs.Serve.{serve_hands_back}
+use Rattle.promises.proofs.Refusals.{record_by_grounds}
 
 -- ---- one record
 

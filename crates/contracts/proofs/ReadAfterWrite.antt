@@ -27,7 +27,7 @@ use Rattle.promises.specs.GroundsDecided.{read_below, page_below}
 use Rattle.contracts.specs.Made.{Lent, AsWords, counts_at_entry, counts_at_exit, Made, ByContract}
 use Rattle.contracts.specs.Ensured.{by_number, by_page, by_run, tf_check_made, tf_read_made, tf_write_made, tf_run_made, run_word_sizes}
 use Rattle.contracts.specs.Demands.{Node, DemandsAfter, did}
-use Rattle.contracts.specs.Theorems.{calls_meet}
+use Rattle.contracts.proofs.Theorems.{calls_meet}
 
 -- What tells of words that were written is DONE, with those words.
 abbrev words_in : List ℕ → Held → List ℕ
@@ -153,7 +153,7 @@ module _ {g : Geometry} where
 
     -- So nothing fixed is: not the words that were lent, as where nothing is done.
     pub no_fixed_words : k ≡ l → (fixed : List ℕ) → fixed ≢ buffer → page' ≢ fixed
-    no_fixed_words e fixed differ is = differ (sym is ∙ (write_then_read e).1)
+    no_fixed_words e fixed differ is = differ (sym is ∙ (told_words buffer reply' page' (rw (eq-eqb k l e) refl) told).1)
 
     -- Every other page reads as it did.
     pub write_leaves_others : k ≢ l → Tells (held g (from_words w) k) reply' page'

@@ -10,14 +10,15 @@ use Rattle.scope.specs.Requests.{Replied, read_steps}
 use Rattle.scope.specs.Calls.{serve}
 use Rattle.promises.specs.Call.{Call, Format, Check, ReadPage, WritePage, Run, make}
 use Rattle.promises.specs.Grounds.{Refusal, AllPassed, grounds}
-use Rattle.promises.specs.Refusals.{read_by_grounds}
-use Rattle.promises.specs.Standing.{right_lengths}
-use Rattle.promises.specs.Replacement.{Replaces, read_replaces}
+use Rattle.promises.proofs.Refusals.{read_by_grounds}
+use Rattle.promises.proofs.Standing.{right_lengths}
+use Rattle.promises.specs.Replacement.{Replaces}
+use Rattle.promises.proofs.Replacement.{read_replaces}
 use Rattle.contracts.specs.Made.{entry, exit, Made, ByContract, Whole}
 use Rattle.contracts.specs.Demands.{Node}
-use Rattle.contracts.specs.Outcomes.{says}
-use Rattle.contracts.specs.Demand1.{demand_1}
-use Rattle.contracts.specs.Traces.{checked}
+use Rattle.contracts.proofs.Outcomes.{says}
+use Rattle.contracts.proofs.Demand1.{demand_1}
+use Rattle.contracts.proofs.Traces.{checked}
 
 abbrev IsRead : Call → Type 0
 IsRead (Format others) = ⊥

@@ -8,10 +8,10 @@ use Rattle.scope.specs.Replies.{DONE}
 use Rattle.promises.specs.Call.{Call, Answer, make, as_lent}
 use Rattle.promises.specs.Grounds.{Refusal, Refuses, AllPassed, grounds}
 use Rattle.promises.specs.EachRecord.{Ran}
-use Rattle.promises.specs.Demand1.{tested, read_keeps, write_keeps, run_ran, run_operations, unwritten_by_read, empty_run, check_unchanged}
+use Rattle.promises.proofs.Demand1.{tested, read_keeps, write_keeps, run_ran, run_operations, unwritten_by_read, empty_run, check_unchanged}
 use Rattle.contracts.specs.Made.{entry, Made, ByContract, LeftAlone}
-use Rattle.contracts.specs.Demands.{Demand1, did, DoneAsListed}
-use Rattle.contracts.specs.Outcomes.{Says, says, made_as}
+use Rattle.contracts.specs.Demands.{Demand1, DoneAsListed}
+use Rattle.contracts.proofs.Outcomes.{Says, says, made_as}
 
 module _ (g : Geometry) (m : Made) (contract : ByContract g m) where
   abbrev s : State

@@ -15,11 +15,11 @@ use Rattle.flash.specs.Cases.{below?}
 use Rattle.promises.specs.Call.{Call, Format, Check, ReadPage, WritePage, Run, answer, make, as_lent}
 use Rattle.promises.specs.Grounds.{Ground, Refuses, Refusal, AllPassed, request_grounds, grounds}
 use Rattle.promises.specs.EachRecord.{Unchanged, before_record, record_outcome, records_did, Ran}
-use Rattle.promises.specs.Serve.{serve_hands_back}
+use Rattle.promises.proofs.Serve.{serve_hands_back}
 use Rattle.promises.specs.Tests.{ByGrounds}
 use Rattle.promises.specs.GroundsDecided.{right_behind}
-use Rattle.promises.specs.Refusals.{run_reply, record_by_grounds, format_by_grounds, check_by_grounds, read_by_grounds, write_by_grounds, run_by_grounds}
-use Rattle.promises.specs.Records.{so_far, answer_of, record_stores, final_answer, kept_words, length_words, length_answers, answer_is_outcome}
+use Rattle.promises.proofs.Refusals.{run_reply, record_by_grounds, format_by_grounds, check_by_grounds, read_by_grounds, write_by_grounds, run_by_grounds}
+use Rattle.promises.proofs.Records.{so_far, answer_of, record_stores, final_answer, kept_words, length_words, length_answers, answer_is_outcome}
 
 module _ {A : Type 0} {rows : List Ground} {reply : A → ℕ} {refused : ℕ → A} {steps : Step A} {s : State} {o : Outcome A}
     (t : ByGrounds rows reply refused steps s o) where

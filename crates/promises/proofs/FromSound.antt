@@ -17,12 +17,12 @@ use Rattle.promises.specs.EachRecord.{before_record, record_outcome}
 use Rattle.promises.specs.Remembered.{noted, noted_records, Holding, Store, Tells}
 use Rattle.promises.specs.Bounds.{BelowLimit, ServesWell}
 use Rattle.promises.specs.GroundsDecided.{right_both, below_passes, page_passed, single_passes, buffer_passed, own_passed}
-use Rattle.promises.specs.Refusals.{format_by_grounds, check_by_grounds, record_by_grounds, read_by_grounds, write_by_grounds, run_by_grounds, run_reply}
-use Rattle.promises.specs.Records.{so_far, answer_of, record_stores, final_words, part_here, length_words, state_so_far, answer_is_outcome}
-use Rattle.promises.specs.Demand1.{run_is_records, run_fits, record_answer}
-use Rattle.promises.specs.Standing.{Standing, Leaves, lengths_right, serves, serve_tells, format_leaves, check_leaves, read_leaves, write_leaves}
+use Rattle.promises.proofs.Refusals.{format_by_grounds, check_by_grounds, record_by_grounds, read_by_grounds, write_by_grounds, run_by_grounds, run_reply}
+use Rattle.promises.proofs.Records.{so_far, answer_of, record_stores, final_words, part_here, length_words, state_so_far, answer_is_outcome}
+use Rattle.promises.proofs.Demand1.{run_is_records, run_fits, record_answer}
+use Rattle.promises.proofs.Standing.{Standing, Leaves, lengths_right, serves, serve_tells, format_leaves, check_leaves, read_leaves, write_leaves}
 use Rattle.promises.specs.HeldWords.{held_long}
-use Rattle.promises.specs.RunStands.{RecordStands, records_leave, answers_at, run_leaves}
+use Rattle.promises.proofs.RunStands.{RecordStands, records_leave, answers_at, run_leaves}
 
 module _ {g : Geometry} (ok : Accepted g) where
   -- Each call keeps the store.

@@ -18,12 +18,12 @@ use Rattle.region.specs.Done.{done_none, done_then}
 use Rattle.promises.specs.Grounds.{AllPassed, request_grounds}
 use Rattle.promises.specs.Remembered.{Store, noted_record, noted_records, Tells}
 use Rattle.promises.specs.Bounds.{BelowLimit, ServesWell, write_bound}
-use Rattle.promises.specs.Serve.{serve_hands_back, no_kind_well}
+use Rattle.promises.proofs.Serve.{serve_hands_back, no_kind_well}
 use Rattle.promises.specs.GroundsDecided.{below_passes}
-use Rattle.promises.specs.Refusals.{run_reply, record_by_grounds, run_by_grounds}
-use Rattle.promises.specs.Demand1.{run_is_records, run_fits, record_answer}
-use Rattle.promises.specs.Records.{so_far, answer_of, record_stores, words_before, length_words}
-use Rattle.promises.specs.Standing.{Standing, Leaves, refusal_leaves, serves, serve_leaves, serve_tells}
+use Rattle.promises.proofs.Refusals.{run_reply, record_by_grounds, run_by_grounds}
+use Rattle.promises.proofs.Demand1.{run_is_records, run_fits, record_answer}
+use Rattle.promises.proofs.Records.{so_far, answer_of, record_stores, words_before, length_words}
+use Rattle.promises.proofs.Standing.{Standing, Leaves, refusal_leaves, serves, serve_leaves, serve_tells}
 
 -- What is said of a record's answer, whether it was refused or served.
 pub record RecordStands (g : Geometry) (q : Request) (buffer : List ℕ) (s : State) (store : Store) : Type 0 where

@@ -10,7 +10,7 @@ use Rattle.scope.specs.Operations.{Outcome, no_counts, counted, apply_all, give}
 use Rattle.scope.specs.Boundary.{Words, from_words, to_words, put_counts, in_words}
 use Rattle.scope.specs.Laws.SmallRecord.{record_stored, record_words_kept}
 use Rattle.scope.specs.Laws.Applied.{SameFlash}
-use Rattle.scope.specs.Laws.AppliedSteps.{format_applied, check_applied, read_applied, write_applied, run_applied}
+use Rattle.scope.proofs.AppliedSteps.{format_applied, check_applied, read_applied, write_applied, run_applied}
 use Rattle.promises.specs.Call.{Call, Format, Check, ReadPage, WritePage, Run, Answer, make}
 use Rattle.contracts.specs.Made.{Lent, Numbers, AsWords, entry, exit, counts_at_entry, counts_at_exit, ContractAllows, SameLent, Whole}
 

@@ -9,8 +9,8 @@ use Rattle.scope.specs.Holding.{answers_one_outcome, gives_one_outcome}
 use Rattle.promises.specs.Call.{Call, make}
 use Rattle.contracts.specs.Made.{Numbers, ByContract}
 use Rattle.contracts.specs.Demands.{CallsMeet}
-use Rattle.contracts.specs.Demand1.{demand_1, done_as_listed}
-use Rattle.contracts.specs.Traces.{demands_after, checked, formatted}
+use Rattle.contracts.proofs.Demand1.{demand_1, done_as_listed}
+use Rattle.contracts.proofs.Traces.{demands_after, checked, formatted}
 
 pub calls_meet : (g : Geometry) → CallsMeet g
 calls_meet g =

@@ -13,13 +13,13 @@ use Rattle.scope.specs.Sound.{Sound}
 use Rattle.flash.specs.Cases.{on, below?}
 use Rattle.flash.specs.Lengths.{Lengths}
 use Rattle.scope.specs.Laws.Applied.{flash_refl}
-use Rattle.scope.specs.Laws.AppliedSteps.{format_steps_applied}
+use Rattle.scope.proofs.AppliedSteps.{format_steps_applied}
 use Rattle.region.specs.Done.{Done, done_none}
 use Rattle.promises.specs.Grounds.{Right, AllPassed, request_grounds}
 use Rattle.promises.specs.Remembered.{Nothing, Store, with_words, noted_record, words_at, held, Tells}
 use Rattle.promises.specs.GroundsDecided.{kind_passed, page_passed, buffer_passed, own_passed}
-use Rattle.promises.specs.Refusals.{format_by_grounds, check_by_grounds, read_by_grounds, write_by_grounds}
-use Rattle.promises.specs.Serve.{Serves, serve_law}
+use Rattle.promises.proofs.Refusals.{format_by_grounds, check_by_grounds, read_by_grounds, write_by_grounds}
+use Rattle.promises.proofs.Serve.{Serves, serve_law}
 use Rattle.promises.specs.Formatted.{format_sound, format_lengths, format_allowed, unwritten}
 
 pub record Standing (g : Geometry) (s : State) (store : Store) : Type 0 where

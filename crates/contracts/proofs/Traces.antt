@@ -1,5 +1,5 @@
 -- Demands 2 and 3 after any trace: the store that a program remembers stands by the node after each call, be it served or refused.
-use Rattle.std.specs.Prelude.{ℕ, ◌+◌, ◌≡◌, refl, ◌≢◌, List, [], ◌∷◌, ◌++◌, get_or}
+use Rattle.std.specs.Prelude.{ℕ, ◌≡◌, refl, ◌≢◌, List, [], ◌∷◌, ◌++◌, get_or}
 use Rattle.std.proofs.Common.{sym, ◌∙◌, ap, subst, inl, inr, arith, ne_eqb}
 use Rattle.scope.specs.Geometry.{Geometry, Accepted}
 use Rattle.scope.specs.Lent.{none, State, Request}
@@ -7,7 +7,7 @@ use Rattle.scope.specs.Operations.{Outcome, counted, give, ◌>>=◌}
 use Rattle.scope.specs.Replies.{DONE, Size}
 use Rattle.scope.specs.Requests.{format_steps}
 use Rattle.scope.specs.Calls.{state_sizes, buffer_sizes, run_sizes, part, no_request}
-use Rattle.flash.specs.Clearing.{allowed_clears_each}
+use Rattle.flash.proofs.Clearing.{allowed_clears_each}
 use Rattle.promises.specs.Call.{Call, Format, Check, ReadPage, WritePage, Run, Answer, make}
 use Rattle.promises.specs.Grounds.{Right, Refusal, AllPassed, grounds}
 use Rattle.promises.specs.GroundsDecided.{right_before}
@@ -16,12 +16,12 @@ use Rattle.promises.specs.Remembered.{Store, Nothing, noted, noted_records, held
 use Rattle.promises.specs.Bounds.{BelowLimit, ServesWell}
 use Rattle.promises.specs.OneForEach.{one_for_each}
 use Rattle.promises.specs.Formatted.{format_counts}
-use Rattle.promises.specs.Standing.{Standing, format_stands, right_lengths, lengths_right}
-use Rattle.promises.specs.FromSound.{call_leaves, read_call_tells, read_well, write_well, check_well, record_tells, record_well, run_well, formats}
+use Rattle.promises.proofs.Standing.{Standing, format_stands, right_lengths, lengths_right}
+use Rattle.promises.proofs.FromSound.{call_leaves, read_call_tells, read_well, write_well, check_well, record_tells, record_well, run_well, formats}
 use Rattle.contracts.specs.Made.{entry, exit, Made, ByContract, Whole, Goes, Trace, remembered}
 use Rattle.contracts.specs.Demands.{Demand2, Demand3, did, Node, DemandsAfter, Formatted}
-use Rattle.contracts.specs.Outcomes.{says}
-use Rattle.contracts.specs.Demand1.{known, answered, demand_1}
+use Rattle.contracts.proofs.Outcomes.{says}
+use Rattle.contracts.proofs.Demand1.{known, answered, demand_1}
 
 -- ---- one call more
 

@@ -10,7 +10,7 @@ use Rattle.scope.specs.Requests.{replied, format_steps}
 use Rattle.scope.specs.Calls.{read_of, write_of, run_replied, serve, answer_record, serve_record, serve_records, format, check, read, write, run}
 use Rattle.promises.specs.Call.{Format, Check, Run}
 use Rattle.promises.specs.Grounds.{request_grounds, single_grounds, grounds}
-use Rattle.promises.specs.Serve.{serve_hands_back}
+use Rattle.promises.proofs.Serve.{serve_hands_back}
 use Rattle.promises.specs.Tests.{ByGrounds, by_grounds}
 use Rattle.promises.specs.GroundsDecided.{request_decided, format_decided, check_decided, single_decided, run_decided}
 

@@ -1,0 +1,2 @@
+-- What is proved of operations that are allowed.
+pub mod Clearing
