@@ -1,7 +1,6 @@
 // The five calls for Rattle as a caller makes them. Each function here has the small record by value, and a run's requests too; it lends them
-// to the call, as `&mut Record`, `&Record` and `&[Request]`, and hands back the record that the call left. The borrow checker covers no
-// function that makes such a reference, so these do nothing else: tools/walks prints their proofs, and all above them is covered. Each
-// ensures what its call does, of the record by value.
+// to the call, as `&mut Record`, `&Record` and `&[Request]`, and hands back the record that the call left. Each ensures what its call does,
+// of the record by value.
 ghost use Rattle.std.specs.Prelude.{map, length};
 ghost use Rattle.lent.specs.Model.{geometry, state};
 ghost use Rattle.replies.specs.Model.{request};

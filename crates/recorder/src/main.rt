@@ -12,6 +12,7 @@ use crate::printing::{tell, tell_numbers, tell_word};
 use lent::{ENTRY_WORDS, Geometry, NONE, Record, SPARE_WORDS};
 use replies::tests::DONE;
 use replies::{KIND_READ, KIND_WRITE, Request};
+use std::io;
 
 const G: Geometry = Geometry {
     p: 2,
@@ -64,11 +65,12 @@ const PAGES: [u32; 2 * REQUESTS] = [10, 10, 11, 11, 12, 12, 13, 13, 14, 14, 0, 0
 
 // Format asks nothing of the state before, nor of the record.
 fn formatted(
+    to: &impl Print,
     chip: &mut [u32; CHIP],
     spare: &mut [u32; SPARE],
     directory: &mut [u32; DIRECTORY],
     cache: &mut [u32; CACHE],
-) -> Record {
+) -> io::Result<Record> {
     let any = Record {
         open_data: 0,
         data_offset: 0,
@@ -79,21 +81,22 @@ fn formatted(
     };
     let mut counts = [NONE; 3];
     let out = lending::format(any, G, chip, spare, directory, cache, &mut counts);
-    tell(b"format ", out.answer, counts);
-    out.rec
+    tell(to, b"format ", out.answer, counts)?;
+    Ok(out.rec)
 }
 
 // Says too what the record is, which has been lent to every call.
 fn checked(
+    to: &impl Print,
     rec: Record,
     chip: &[u32; CHIP],
     spare: &[u32; SPARE],
     directory: &[u32; DIRECTORY],
     cache: &[u32; CACHE],
-) {
+) -> io::Result<()> {
     let mut counts = [NONE; 3];
     let answer = lending::check(rec, G, chip, spare, directory, cache, &mut counts);
-    tell(b"check ", answer, counts);
+    tell(to, b"check ", answer, counts)?;
     let numbers = [
         rec.open_data,
         rec.data_offset,
@@ -102,17 +105,18 @@ fn checked(
         rec.used,
         rec.protected,
     ];
-    tell_numbers(b"record ", &numbers);
+    tell_numbers(to, b"record ", &numbers)
 }
 
 fn read_page(
+    to: &impl Print,
     rec: Record,
     page: u32,
     chip: &mut [u32; CHIP],
     spare: &mut [u32; SPARE],
     directory: &mut [u32; DIRECTORY],
     cache: &mut [u32; CACHE],
-) -> Record {
+) -> io::Result<Record> {
     let mut buffer = [0u32; 2];
     let mut counts = [NONE; 3];
     let out = lending::read(
@@ -127,14 +131,15 @@ fn read_page(
         &mut counts,
     );
     if out.answer == DONE {
-        tell_word(b"read ", out.answer, counts, buffer[0]);
+        tell_word(to, b"read ", out.answer, counts, buffer[0])?;
     } else {
-        tell(b"read ", out.answer, counts);
+        tell(to, b"read ", out.answer, counts)?;
     }
-    out.rec
+    Ok(out.rec)
 }
 
 fn write_page(
+    to: &impl Print,
     rec: Record,
     page: u32,
     value: u32,
@@ -142,7 +147,7 @@ fn write_page(
     spare: &mut [u32; SPARE],
     directory: &mut [u32; DIRECTORY],
     cache: &mut [u32; CACHE],
-) -> Record {
+) -> io::Result<Record> {
     let buffer = [value; 2];
     let mut counts = [NONE; 3];
     let out = lending::write(
@@ -156,11 +161,12 @@ fn write_page(
         &buffer,
         &mut counts,
     );
-    tell(b"write ", out.answer, counts);
-    out.rec
+    tell(to, b"write ", out.answer, counts)?;
+    Ok(out.rec)
 }
 
 fn serve(
+    to: &impl Print,
     rec: Record,
     q: Request,
     value: u32,
@@ -168,38 +174,40 @@ fn serve(
     spare: &mut [u32; SPARE],
     directory: &mut [u32; DIRECTORY],
     cache: &mut [u32; CACHE],
-) -> Record {
+) -> io::Result<Record> {
     if q.kind == KIND_READ {
-        return read_page(rec, q.page, chip, spare, directory, cache);
+        return read_page(to, rec, q.page, chip, spare, directory, cache);
     }
-    write_page(rec, q.page, value, chip, spare, directory, cache)
+    write_page(to, rec, q.page, value, chip, spare, directory, cache)
 }
 
 fn one_by_one(
+    to: &impl Print,
     fresh: Record,
     requests: [Request; REQUESTS],
     chip: &mut [u32; CHIP],
     spare: &mut [u32; SPARE],
     directory: &mut [u32; DIRECTORY],
     cache: &mut [u32; CACHE],
-) -> Record {
+) -> io::Result<Record> {
     let pages = PAGES;
     let mut rec = fresh;
     for i in 0..REQUESTS {
         let q = requests[i];
-        rec = serve(rec, q, pages[2 * i], chip, spare, directory, cache);
+        rec = serve(to, rec, q, pages[2 * i], chip, spare, directory, cache)?;
     }
-    rec
+    Ok(rec)
 }
 
 fn in_one_run(
+    to: &impl Print,
     fresh: Record,
     requests: [Request; REQUESTS],
     chip: &mut [u32; CHIP],
     spare: &mut [u32; SPARE],
     directory: &mut [u32; DIRECTORY],
     cache: &mut [u32; CACHE],
-) -> Record {
+) -> io::Result<Record> {
     let mut pages = PAGES;
     let mut answers = [NONE; REQUESTS];
     let mut counts = [NONE; 3];
@@ -215,36 +223,38 @@ fn in_one_run(
         &mut answers,
         &mut counts,
     );
-    tell(b"run ", out.answer, counts);
-    tell_numbers(b"answers ", &answers);
-    tell_numbers(b"pages ", &pages);
-    out.rec
+    tell(to, b"run ", out.answer, counts)?;
+    tell_numbers(to, b"answers ", &answers)?;
+    tell_numbers(to, b"pages ", &pages)?;
+    Ok(out.rec)
 }
 
-fn main() {
+fn main(rt: HostRuntime) -> io::Result<()> {
     let mut chip = [0u32; CHIP];
     let mut spare = [0u32; SPARE];
     let mut directory = [0u32; DIRECTORY];
     let mut cache = [0u32; CACHE];
     let requests = session();
-    let fresh = formatted(&mut chip, &mut spare, &mut directory, &mut cache);
+    let fresh = formatted(&rt, &mut chip, &mut spare, &mut directory, &mut cache)?;
     let after_calls = one_by_one(
+        &rt,
         fresh,
         requests,
         &mut chip,
         &mut spare,
         &mut directory,
         &mut cache,
-    );
-    checked(after_calls, &chip, &spare, &directory, &cache);
-    let again = formatted(&mut chip, &mut spare, &mut directory, &mut cache);
+    )?;
+    checked(&rt, after_calls, &chip, &spare, &directory, &cache)?;
+    let again = formatted(&rt, &mut chip, &mut spare, &mut directory, &mut cache)?;
     let after_run = in_one_run(
+        &rt,
         again,
         requests,
         &mut chip,
         &mut spare,
         &mut directory,
         &mut cache,
-    );
-    checked(after_run, &chip, &spare, &directory, &cache);
+    )?;
+    checked(&rt, after_run, &chip, &spare, &directory, &cache)
 }

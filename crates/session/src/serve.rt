@@ -1,6 +1,6 @@
 // A line served: the call that it asks for is made, and what the program prints for it is put into lent bytes. The contracts say that
 // these bytes, and the state after, are those of document 01's definitions (specs/Serves.antt).
-ghost use Rattle.scope.specs.Tables.Play.{W, R};
+ghost use Rattle.scope.specs.Tables.Play.{Line};
 ghost use Rattle.session.specs.Serves.{held, answered, shown, Serves};
 
 use lines::Parsed;
@@ -67,7 +67,7 @@ fn write_page(
     record: &mut [u32; RECORD],
 ) -> usize
     ensures { Serves
-        (answered (W page value)
+        (answered (Line.W page value)
         (held chip.old spare.old directory.old cache.old «record».old))
         (held chip.new spare.new directory.new cache.new «record».new)
         out.old out.new result }
@@ -103,7 +103,7 @@ fn read_page(
     record: &mut [u32; RECORD],
 ) -> usize
     ensures { Serves
-        (answered (R page)
+        (answered (Line.R page)
         (held chip.old spare.old directory.old cache.old «record».old))
         (held chip.new spare.new directory.new cache.new «record».new)
         out.old out.new result }
