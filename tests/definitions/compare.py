@@ -28,15 +28,14 @@ import settings
 HERE = pathlib.Path(__file__).resolve().parent
 ROOT = HERE.parent.parent
 NUMBERS = "PWDTLC"
-RECORD = ["open-data", "data-offset", "open-translation", "translation-offset", "used", "protected"]
+RECORD = ["open_data", "data_offset", "open_translation", "translation_offset", "used", "protected"]
 # What the driver counts, in its order.
 MET = ["neighbours written back", "of them at none", "drops with neighbours in both parts", "misses behind protected entries", "of them with a drop",
        "hits in trial below the limit", "at the limit", "hits of protected's first", "of one between", "of its last", "demoted entries dropped",
        "refused for more protected than C/2", "than used"]
 HEAD = """-- Printed by tests/definitions/compare.py.
-use mathlib.Core.Path.{_≡_, refl}
-use mathlib.Core.List.{List, [], _∷_}
-use Rattle·scope.specs.Tables.Play.{computed, W, R, Played, formatted, play}
+use Rattle.std.specs.Prelude.{◌≡◌, refl, List, [], ◌∷◌}
+use Rattle.scope.specs.Tables.Play.{computed, W, R, Played, formatted, play}
 
 """
 
@@ -119,9 +118,9 @@ def instance(driver, number, geometry, before, lines):
     sides = [x[1:] for x in played if x[0] == "S"]
     g = "(record { " + "; ".join(f"{k} = {v}" for k, v in zip(NUMBERS, geometry)) + " })"
     start = f"({as_state(sides[:5])})" if before else f"(formatted {g})"
-    return (f"session-{number} : record {{ lines = {as_list(prints)}; left = {as_state(sides[-5:])} }}\n"
+    return (f"session_{number} : record {{ lines = {as_list(prints)}; left = {as_state(sides[-5:])} }}\n"
             f"    ≡ play {g} {as_list(lines)} {start}\n"
-            f"unfolding computed\nsession-{number} = refl\n\n"), [int(x) for x in played[-1][1:]]
+            f"unfolding computed\nsession_{number} = refl\n\n"), [int(x) for x in played[-1][1:]]
 
 
 def sessions(rng, driver, count):
@@ -167,9 +166,9 @@ def main():
         under = crates_under(["scope", "settings"])
         for line in under:
             name = line.split(":", 1)[0]
-            shutil.copytree(ROOT / "crates" / name, scratch / "crates" / name)
+            shutil.copytree(ROOT / "crates" / name, scratch / "crates" / name, ignore=shutil.ignore_patterns("out"))
         (scratch / "crates.txt").write_text("\n".join(under) + "\ncompared: scope settings\n")
-        (crate / "src/lib.rt").write_text("// Sessions and settings of the independent program. No code.\n")
+        (crate / "src/lib.rt").write_text("// Sessions and settings of the independent program. No code.\n#![tactic(auto)]\n")
         (crate / "specs/Lib.antt").write_text("pub mod Sessions\npub mod Settings\n")
         text, met = sessions(rng, compiled(scratch, "driver.c"), asked.sessions)
         (crate / "specs/Sessions.antt").write_text(text)
@@ -177,7 +176,7 @@ def main():
         (crate / "specs/Settings.antt").write_text(text)
         print(f"definitions: {asked.sessions} random sessions of the independent program and {asked.settings} settings, "
               f"seed {asked.seed} ..", flush=True)
-        proved = subprocess.run(["rt", "check", "compared"], cwd=scratch, text=True, capture_output=True)
+        proved = subprocess.run(["rt", "check"], cwd=crate, text=True, capture_output=True)
         if proved.returncode != 0:
             sys.stderr.write(proved.stdout + proved.stderr)
             sys.exit(f"error: the definitions and the independent program differ; replay with --seed {asked.seed} "

@@ -2,15 +2,14 @@
 import subprocess
 
 HEAD = """-- Printed by tests/definitions/compare.py.
-use mathlib.Core.Path.{_≡_, refl}
-use mathlib.Core.List.{List, [], _∷_}
-use Rattle·scope.specs.Geometry.{accepted}
-use Rattle·settings.specs.Fields.{next, number, fields-read, whole-fields, bytes-of, fields-written, bytes-in}
-use Rattle·settings.specs.Settings.{answered, tf-settings-read, tf-settings-write, read, write, written, version-of, last-tag}
+use Rattle.std.specs.Prelude.{◌≡◌, refl, List, [], ◌∷◌}
+use Rattle.scope.specs.Geometry.{accepted}
+use Rattle.settings.specs.Fields.{next, number, fields_read, whole_fields, bytes_of, fields_written, bytes_in}
+use Rattle.settings.specs.Settings.{answered, tf_settings_read, tf_settings_write, read, write, written, version_of, last_tag}
 
 """
-READ = "tf-settings-read read next number fields-read whole-fields version-of last-tag accepted"
-WRITE = "write written fields-written bytes-of bytes-in accepted"
+READ = "tf_settings_read read next number fields_read whole_fields version_of last_tag accepted"
+WRITE = "write written fields_written bytes_of bytes_in accepted"
 LIMITS = (64, 512, 1022, 1022, 65406, 4096)
 WIDTHS = (2, 2, 2, 2, 4, 2)
 # One in so many is written, has other than six words or 36 bytes lent, another version, a long field to skip.
@@ -68,11 +67,11 @@ def instance(number, line, given):
     """The statement that the definitions give what the independent program gave."""
     call, lent, *rest = line
     answer, *left = given.split()
-    asked = f"tf-settings-read {as_list(rest)}"
+    asked = f"tf_settings_read {as_list(rest)}"
     if call == "W":
-        asked = "tf-settings-write (record { " + "; ".join(f"{k} = {v}" for k, v in zip("PWDTLC", rest)) + " })"
-    return (f"case-{number} : answered {answer} {as_list(left)}\n    ≡ {asked} {as_list([7] * lent)}\n"
-            f"unfolding {READ if call == 'R' else WRITE}\ncase-{number} = refl\n\n")
+        asked = "tf_settings_write (record { " + "; ".join(f"{k} = {v}" for k, v in zip("PWDTLC", rest)) + " })"
+    return (f"case_{number} : answered {answer} {as_list(left)}\n    ≡ {asked} {as_list([7] * lent)}\n"
+            f"unfolding {READ if call == 'R' else WRITE}\ncase_{number} = refl\n\n")
 
 
 def instances(rng, driver, cases):
