@@ -123,9 +123,9 @@ def summary(rows, runs):
     over = sum(row["ours"] / row["theirs"] > LIMIT for row in rows)
     over += sum(row["sweep"] > 0 and row["ours"] / row["sweep"] > LIMIT for row in rows)
     machine = platform.machine()
-    library = "target/staticlib/libtrianglefire.a"
+    library = "libtrianglefire.a"
     if machine != "x86_64":
-        library = "the library's own LLVM module compiled for this machine, which stands in for the archive (same code)"
+        library += ", compiled for this machine"
     often = "" if runs == 1 else f", the least of {runs} runs"
     return [
         f"Measured on {machine}, of {library}, the crates as of {version()}{often}. Ratios over {LIMIT}: {over}.",

@@ -1,5 +1,5 @@
 #!/usr/bin/env python3
-"""Holds the prototypes of include/trianglefire.h to the functions that the crate trianglefire exports.
+"""Holds the prototypes of include/trianglefire.h to the functions that the crate trianglefire_c exports.
 
 Nothing else does: the linker sees names alone, so a swapped or a dropped argument would link and then read the wrong memory. Both
 sides are read into the same form, a list of C arguments, and compared argument by argument by name, type and const. Each difference
@@ -16,7 +16,7 @@ import sys
 
 ROOT = pathlib.Path(__file__).resolve().parents[2]
 HEADER = ROOT / "include" / "trianglefire.h"
-SOURCE = ROOT / "crates" / "trianglefire" / "src" / "lib.rt"
+SOURCE = ROOT / "crates" / "trianglefire_c" / "src" / "lib.rt"
 
 # A Rattle number and the C type that it passes as.
 NUMBERS = {
@@ -51,7 +51,7 @@ def exported(source):
     source = re.sub(r"//[^\n]*", "", source)
     found = {}
     heads = re.finditer(
-        r"#\[\s*no_mangle\s*\]\s*pub\s+extern\s+\"C\"\s+fn\s+(\w+)\s*(?:<[^>]*>)?\s*\(([^()]*)\)\s*(?:->\s*([^\s{]+))?", source)
+        r"#\[\s*unsafe\s*\(\s*no_mangle\s*\)\s*\]\s*pub\s+extern\s+\"C\"\s+fn\s+(\w+)\s*(?:<[^>]*>)?\s*\(([^()]*)\)\s*(?:->\s*([^\s{]+))?", source)
     for name, arguments, result in (head.groups() for head in heads):
         if result is not None and result not in NUMBERS:
             raise Unreadable(f"{name}: the source's result '{result}' is no number")
@@ -126,17 +126,17 @@ def differences(source, header):
 
 
 SAMPLE_SOURCE = """
-// #[no_mangle] pub extern "C" fn commented_out(x: u32) -> u32
+// #[unsafe(no_mangle)] pub extern "C" fn commented_out(x: u32) -> u32
 pub fn inner(x: u32) -> u32 { x }
-#[no_mangle]
+#[unsafe(no_mangle)]
 pub extern "C" fn tf_sum(p: u32, w: u32, chip: &mut [u32], buffer: &[u32]) -> u32
-    ensures { λ r. ⌜ r ≡ sum p (now (buffer .entry)) ⌝ }
+    ensures { result ≡ sum p buffer.now }
 {
     inner(p)
 }
-#[no_mangle]
+#[unsafe(no_mangle)]
 pub extern "C" fn tf_bytes(bytes: &[u8], numbers: &mut [u32], place: &mut [u8]) -> u32 { 0 }
-#[no_mangle]
+#[unsafe(no_mangle)]
 pub extern "C" fn tf_none() {}
 """
 SAMPLE_HEADER = """
@@ -190,7 +190,7 @@ SAMPLES = [
     ("bytes dropped", "source", ", place: &mut [u8]", "", ["'uint8_t *place'", "'size_t place_n'"]),
     ("another result", "header", "uint32_t tf_sum", "uint64_t tf_sum", ["returns 'uint32_t'"]),
     ("no prototype", "header", "void tf_none(void);", "", ["not declared in the header"]),
-    ("not exported", "source", "#[no_mangle]\npub extern \"C\" fn tf_none", "pub extern \"C\" fn tf_none",
+    ("not exported", "source", "#[unsafe(no_mangle)]\npub extern \"C\" fn tf_none", "pub extern \"C\" fn tf_none",
      ["not exported by the source"]),
     ("a struct", "source", "p: u32, w: u32", "g: Geometry", ["neither a number nor a slice"]),
     ("spaces", "header", "uint32_t *chip", "uint32_t*\n  chip", []),
