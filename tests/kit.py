@@ -42,11 +42,13 @@ def lacks(crate):
     return None
 
 
-def edit(crate, label):
-    """The files that a must-fail edit changes, as it leaves them, by their path in the crate."""
-    texts, why = RT.read_edit(f"{crate.folder}/must-fail/{label}.edit", crate.folder)
+def edited(edit):
+    """The files that a must-fail edit, CRATE/LABEL, changes, as it leaves them, by their path in the crate."""
+    crate, label = edit.split("/")
+    folder = ROOT / "crates" / crate
+    texts, why = RT.read_edit(f"{folder}/must-fail/{label}.edit", str(folder))
     if why:
-        sys.exit(f"error: {crate.name}/{label}: {why}")
+        sys.exit(f"error: {edit}: {why}")
     return texts
 
 

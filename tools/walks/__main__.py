@@ -1,8 +1,12 @@
-"""Prints proofs of the functions that the borrow checker does not cover: those over a lent record or lent requests, and those that lend.
+"""Prints proofs, in the form of an older kit, of functions over a lent record or lent requests, and of those that lend.
 
-WHY
-    A function with a `&mut Record`, a `&Record` or a `&[Request]` among its parameters, or which makes one, is proved by a walk of its
-    MIR, some hundreds of lines in which nothing is to be thought about. This tool reads the function in src/ and prints the walk, a whole
+SINCE THE PORT to today's kit (docs/PORT.md) nothing here needs it: the check proves such functions as any other, and no file of the repository is
+    printed. What it was for is kept by the contracts of face, facepage, facerun and recorder (docs/DESIGN.md, "What is lent by reference").
+    It stands with its test until the design is worked over.
+
+WHY IT WAS MADE
+    That kit's borrow checker did not cover a function with a `&mut Record`, a `&Record` or a `&[Request]` among its parameters, or which
+    makes one. It was proved by a walk of its MIR, some hundreds of lines in which nothing is to be thought about. This tool reads the function in src/ and prints the walk, a whole
     Proof.antt. It is not trusted: the check refuses a walk that does not fit the source. Print anew after each change of a signature or
     a contract.
 
