@@ -1,2 +1,3 @@
 -- The modules of this crate.
 pub mod Held
+pub mod Linked
