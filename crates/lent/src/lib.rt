@@ -1,5 +1,5 @@
-// The words that have a meaning, and the numbers that travel by value: the geometry, the small record, the counts, a region, and an
-// entry taken apart. Their models, and the shape of every step's contract, stand in specs/.
+// The words that have a meaning, and the numbers of a call: the geometry, the small record, the counts, a region. Their models, and the
+// shape of every step's contract, stand in specs/.
 #![tactic(auto)]
 
 ghost use Rattle.std.specs.Prelude.{◌≡◌};
@@ -63,18 +63,11 @@ pub struct Counts {
     pub erases: u32,
 }
 
-// The small record and the counts so far: what a step takes, and hands back as it leaves them.
+// The small record and the counts so far, which a step is lent and changes in place.
 #[derive(Clone, Copy)]
 pub struct Work {
     pub rec: Record,
     pub counts: Counts,
-}
-
-// What a step hands back beside that: a page number, or an entry's word.
-#[derive(Clone, Copy)]
-pub struct Handed {
-    pub value: u32,
-    pub work: Work,
 }
 
 // The two regions of the chip.
@@ -84,70 +77,33 @@ pub enum Region {
     Translation,
 }
 
-// An entry: a page number, or none.
-#[derive(Clone, Copy)]
-pub enum Entry {
-    Place(u32),
-    Nowhere,
-}
-
-// A word as an entry.
-pub fn decode(x: u32) -> Entry
+// A word as an entry: the page that it names, or none.
+pub fn decode(x: u32) -> Option<u32>
     ensures { entry result ≡ decode x }
 {
-    if x == NONE {
-        Entry::Nowhere
-    } else {
-        Entry::Place(x)
-    }
+    if x == NONE { None } else { Some(x) }
 }
 
-// The record as it is, made field by field, for a step that copies a page before it hands the record on: the compiler then keeps the
-// fields in registers. A record that is copied whole goes through memory, and is read there in words wider than those just written,
-// which the processor lets wait until all earlier words are in memory, the page just copied among them.
-pub fn as_it_is(rec: Record) -> Record
-    ensures { result ≡ rec }
-{
-    Record {
-        open_data: rec.open_data,
-        data_offset: rec.data_offset,
-        open_translation: rec.open_translation,
-        translation_offset: rec.translation_offset,
-        used: rec.used,
-        protected: rec.protected,
+impl Counts {
+    // One more read; one more program; one more erase.
+    pub fn add_read(&mut self)
+        requires { RoomToCount 1 self.old }
+        ensures { counts self.new ≡ one_read (counts self.old) }
+    {
+        self.reads += 1;
     }
-}
 
-// One more read; one more program; one more erase.
-pub fn count_read(c: Counts) -> Counts
-    requires { RoomToCount 1 c }
-    ensures { counts result ≡ one_read (counts c) }
-{
-    Counts {
-        reads: c.reads + 1,
-        programs: c.programs,
-        erases: c.erases,
+    pub fn add_program(&mut self)
+        requires { RoomToCount 1 self.old }
+        ensures { counts self.new ≡ one_program (counts self.old) }
+    {
+        self.programs += 1;
     }
-}
 
-pub fn count_program(c: Counts) -> Counts
-    requires { RoomToCount 1 c }
-    ensures { counts result ≡ one_program (counts c) }
-{
-    Counts {
-        reads: c.reads,
-        programs: c.programs + 1,
-        erases: c.erases,
-    }
-}
-
-pub fn count_erase(c: Counts) -> Counts
-    requires { RoomToCount 1 c }
-    ensures { counts result ≡ one_erase (counts c) }
-{
-    Counts {
-        reads: c.reads,
-        programs: c.programs,
-        erases: c.erases + 1,
+    pub fn add_erase(&mut self)
+        requires { RoomToCount 1 self.old }
+        ensures { counts self.new ≡ one_erase (counts self.old) }
+    {
+        self.erases += 1;
     }
 }

@@ -79,6 +79,21 @@ pub record BlockLies (g : Geometry) (chip spare : List ℕ) (b : ℕ) : Type 0 w
   pub words : b * g.P * g.W + g.P * g.W ≤ length chip
   pub spares : (b * g.P + g.P) * spare_words ≤ length spare
 
+-- Those in the spare alone.
+pub record BlockSpares (g : Geometry) (spare : List ℕ) (b : ℕ) : Type 0 where
+  pub P_to : g.P ≤ most_pages_in_block
+  pub first_to : b * g.P < most_pages
+  pub spares : (b * g.P + g.P) * spare_words ≤ length spare
+
+pub block_spares : {g : Geometry} {spare : List ℕ} → SpareLent g spare → (b : ℕ) → b < blocks g → BlockSpares g spare b
+block_spares {g} spare b h =
+    let behind : b * g.P + g.P ≤ pages g = omega (arith, mul-le-mul_right g.P h) in
+    record {
+      P_to = spare.bounded.P_to;
+      first_to = omega (arith, few_pages spare.bounded, spare.bounded.P_from);
+      spares = omega (arith, spare.spare_fits);
+    }
+
 pub block_lies : {g : Geometry} {chip spare : List ℕ} → ChipLent g chip → SpareLent g spare → (b : ℕ) → b < blocks g
     → BlockLies g chip spare b
 block_lies {g} chip spare b h =

@@ -1,14 +1,13 @@
 // A region's numbers, of the geometry and of the small record, and the searches among its blocks.
 ghost use Rattle.std.specs.Prelude.{◌≡◌};
-ghost use Rattle.flash.specs.Bounded.{Bounded};
 ghost use Rattle.lent.specs.Model.{geometry, small, region};
 ghost use Rattle.scope.specs.Regions.{first_block, region_blocks};
 ghost use Rattle.scope.specs.SmallRecord.{open_block, next_offset, with_open};
 ghost use Rattle.scope.specs.Lent.{State};
 ghost use Rattle.scope.specs.Room.{erased_blocks, lowest_erased, victim, open_lowest};
 ghost use Rattle.lent.specs.Shapes.{DoesBySpare};
-ghost use Rattle.words.specs.Census.{Census};
 
+use crate::flash::Flash;
 use lent::{Geometry, Record, Region, Work};
 use words::census::{ERASED_PAGE, count_equal, fewest_below, lowest_equal};
 
@@ -49,64 +48,57 @@ pub fn next_offset(rec: Record, r: Region) -> u32
     }
 }
 
-// The record with another open block and next offset.
-pub fn with_open(rec: Record, r: Region, b: u32, offset: u32) -> Record
-    ensures { small result ≡ with_open (region r) b offset (small rec) }
+// Another open block and next offset.
+pub fn set_open(rec: &mut Record, r: Region, b: u32, offset: u32)
+    ensures { small rec.new ≡ with_open (region r) b offset (small rec.old) }
 {
-    let mut next = rec;
     match r {
         Region::Data => {
-            next.open_data = b;
-            next.data_offset = offset;
+            rec.open_data = b;
+            rec.data_offset = offset;
         }
         Region::Translation => {
-            next.open_translation = b;
-            next.translation_offset = offset;
+            rec.open_translation = b;
+            rec.translation_offset = offset;
         }
     }
-    next
 }
 
-// How many blocks are wholly erased.
-pub fn erased_blocks(g: Geometry, r: Region, spare: &[u32], census: &[u32]) -> u32
-    requires { Bounded (geometry g) × Census (geometry g) spare.now census.now }
-    ensures { (s : State) → s.spare ≡ spare.now → erased_blocks (geometry g) (region r) s ≡ result }
-{
-    let first = first_block(g, r) as usize;
-    let n = region_blocks(g, r) as usize;
-    count_equal(census, first, n, ERASED_PAGE * g.p) as u32
-}
+impl Flash<'_> {
+    // How many blocks are wholly erased.
+    pub fn erased_blocks(&self, r: Region) -> u32
+        ensures { (s : State) → s.spare ≡ self.now.spare.now
+            → erased_blocks (geometry self.now.g) (region r) s ≡ result }
+    {
+        let first = first_block(self.g, r) as usize;
+        let n = region_blocks(self.g, r) as usize;
+        count_equal(self.census, first, n, ERASED_PAGE * self.g.p) as u32
+    }
 
-// The lowest of them.
-pub fn lowest_erased(g: Geometry, r: Region, spare: &[u32], census: &[u32]) -> u32
-    requires { Bounded (geometry g) × Census (geometry g) spare.now census.now }
-    ensures { (s : State) → s.spare ≡ spare.now → lowest_erased (geometry g) (region r) s ≡ result }
-{
-    let first = first_block(g, r) as usize;
-    let n = region_blocks(g, r) as usize;
-    (first + lowest_equal(census, first, n, ERASED_PAGE * g.p)) as u32
-}
+    // The lowest of them.
+    pub fn lowest_erased(&self, r: Region) -> u32
+        ensures { (s : State) → s.spare ≡ self.now.spare.now
+            → lowest_erased (geometry self.now.g) (region r) s ≡ result }
+    {
+        let first = first_block(self.g, r) as usize;
+        let n = region_blocks(self.g, r) as usize;
+        (first + lowest_equal(self.census, first, n, ERASED_PAGE * self.g.p)) as u32
+    }
 
-// The block to collect.
-pub fn victim(g: Geometry, r: Region, spare: &[u32], census: &[u32]) -> u32
-    requires { Bounded (geometry g) × Census (geometry g) spare.now census.now }
-    ensures { (s : State) → s.spare ≡ spare.now → victim (geometry g) (region r) s ≡ result }
-{
-    let first = first_block(g, r) as usize;
-    let n = region_blocks(g, r) as usize;
-    (first + fewest_below(census, first, n, ERASED_PAGE)) as u32
-}
+    // The block to collect.
+    pub fn victim(&self, r: Region) -> u32
+        ensures { (s : State) → s.spare ≡ self.now.spare.now → victim (geometry self.now.g) (region r) s ≡ result }
+    {
+        let first = first_block(self.g, r) as usize;
+        let n = region_blocks(self.g, r) as usize;
+        (first + fewest_below(self.census, first, n, ERASED_PAGE)) as u32
+    }
 
-// The lowest wholly erased block becomes the open one.
-pub fn open_lowest(work: Work, g: Geometry, r: Region, spare: &[u32], census: &[u32]) -> Work
-    requires { Bounded (geometry g) × Census (geometry g) spare.now census.now }
-    ensures { DoesBySpare (open_lowest (geometry g) (region r)) spare.now work tt result }
-{
-    let b = lowest_erased(g, r, spare, census);
-    let rec = work.rec;
-    let counts = work.counts;
-    Work {
-        rec: with_open(rec, r, b, 0),
-        counts,
+    // The lowest wholly erased block becomes the open one.
+    pub fn open_lowest(&self, work: &mut Work, r: Region)
+        ensures { DoesBySpare (open_lowest (geometry self.now.g) (region r)) self.now.spare.now work.old tt work.new }
+    {
+        let b = self.lowest_erased(r);
+        set_open(&mut work.rec, r, b, 0);
     }
 }

@@ -6,9 +6,9 @@ ghost use Rattle.lent.specs.declared.Work.{Work};
 ghost use Rattle.lent.specs.Model.{entry};
 ghost use Rattle.lent.specs.Shapes.{DoesDirectory};
 
-use lent::{Entry, decode};
+use lent::decode;
 
-pub fn named(t: u32, directory: &[u32]) -> Entry
+pub fn named(t: u32, directory: &[u32]) -> Option<u32>
     requires { t < length directory.now }
     ensures { entry result ≡ named t directory.now }
 {

@@ -1,0 +1,28 @@
+-- `steps::flash::Flash::read_page` meets its contract.
+use Prim.Native.Nat.{ℕ, ◌*◌}
+use mathlib.Core.Path.{refl, sym, ap, ◌∙◌}
+use native.Mathlib.Omega.{arith}
+use lib.ListN.{take, drop}
+use Rattle.steps.specs.Lies.{words_lie}
+use Rattle.steps.specs.Flash.{chip_lent}
+use Rattle.steps.specs.Chip.{read_by_chip}
+use Rattle.lent.specs.Model.{geometry}
+use Rattle.lent.specs.DoesLaws.{does_value}
+use Rattle.steps.proofs.flash.Flash.read_page.Goals as goal
+
+pub overflow_mul-p : goal.overflow_mul-p
+overflow_mul-p c = omega (arith, words_lie (chip_lent c.args.self.now) c.args.p c.requires.on_chip)
+
+pub copy_out-requires : goal.copy_out-requires
+copy_out-requires c =
+    omega (arith, words_lie (chip_lent c.args.self.now) c.args.p c.requires.on_chip, c.requires.buffer_long.0)
+
+pub add_read-requires : goal.add_read-requires
+add_read-requires c = c.requires.buffer_long.1
+
+pub returns : goal.returns
+returns c = let a = c.args in
+    let f = a.self.now in
+    λ s. does_value
+    (read_by_chip (geometry f.g) a.p refl c.add_read.ensures s)
+    (sym (c.copy_out.ensures ∙ ap (λ (n : ℕ). take n (drop (a.p * f.g.w) f.chip.now)) c.requires.buffer_long.0))
