@@ -1,6 +1,6 @@
 -- How room is made in a region, once for both regions and for whatever follows a moved page: the choice among what there is, a block
 -- opened, and a victim to collect; and the parts of a collection put together as the definition puts them.
-use Rattle.std.specs.Prelude.{ℕ, ◌≤◌, ◌<◌, ◌≡◌, refl, List, [], ◌∷◌, ◌++◌}
+use Rattle.std.specs.Prelude.{ℕ, ◌≤◌, ◌<◌, ◌≡◌, refl, List, [], ◌∷◌, ◌++◌, Option, Some, None}
 use Rattle.std.proofs.Math.Path.{sym}
 use Rattle.std.proofs.Common.{ap, ◌∙◌, arith, lt-ltb, le-ltb, le-leb}
 use Rattle.std.proofs.lemmas.Bool.{lt-leb}
@@ -18,8 +18,6 @@ use Rattle.lent.specs.Model.{small, with_rec}
 use Rattle.lent.specs.Does.{Does}
 use Rattle.lent.specs.DoesLaws.{does_give, does_look, does_look_at, does_bind, does_cond_true, does_cond_false, does_same}
 use Rattle.lent.specs.Shapes.{DoesFlash, DoesBySpare}
-use Rattle.copying.specs.declared.choice.Choice.{Choice}
-use Rattle.copying.specs.declared.choice.Choice.TheVariants.{There, Opened, Victim}
 
 -- A block is to be collected: the open one is full, and fewer than two are erased.
 pub record ToCollect (g : Geometry) (r : Region) (spare : List ℕ) (w : Work) (v : ℕ) : Type 0 where
@@ -32,10 +30,10 @@ pub record MakesRoom (g : Geometry) (r : Region) (spare : List ℕ) (w w' : Work
   pub does : (follow : Following) → DoesBySpare (make_room g r follow) spare w tt w'
   pub keeps_used : w'.rec.used ≡ w.rec.used
 
-abbrev pub Chosen : Geometry → Region → List ℕ → Work → Choice → Type 0
-Chosen g r spare w There = MakesRoom g r spare w w
-Chosen g r spare w (Opened w') = MakesRoom g r spare w w'
-Chosen g r spare w (Victim v) = ToCollect g r spare w v
+-- One of the two: no block is to be collected, or one is and nothing has changed.
+abbrev pub Chosen : Geometry → Region → List ℕ → Work → Option ℕ → Work → Type 0
+Chosen g r spare w None w' = MakesRoom g r spare w w'
+Chosen g r spare w (Some v) w' = ToCollect g r spare w v × (w' ≡ w)
 
 -- Opening a block leaves the number of entries in use.
 opened_keeps_used : (r : Region) (b : ℕ) (k : SmallRecord) → (opened r b k).used ≡ k.used
@@ -48,7 +46,7 @@ module _ (g : Geometry) (r : Region) {spare : List ℕ} {w : Work} where
   opens_keeps_used opens =
       sym (ap (λ (x : State). x.small.used) (opens (blank g)).after) ∙ opened_keeps_used r _ (small w.rec)
 
-  pub room_chosen : next_offset r (small w.rec) < g.P → Chosen g r spare w There
+  pub room_chosen : next_offset r (small w.rec) < g.P → Chosen g r spare w None w
   unfolding make_room
   room_chosen h =
       record {
@@ -58,7 +56,7 @@ module _ (g : Geometry) (r : Region) {spare : List ℕ} {w : Work} where
       }
 
   module _ (full : g.P ≤ next_offset r (small w.rec)) {n : ℕ} (erased : (s : State) → s.spare ≡ spare → erased_blocks g r s ≡ n) where
-    pub open_chosen : {w' : Work} → 2 ≤ n → DoesBySpare (open_lowest g r) spare w tt w' → Chosen g r spare w (Opened w')
+    pub open_chosen : {w' : Work} → 2 ≤ n → DoesBySpare (open_lowest g r) spare w tt w' → Chosen g r spare w None w'
     unfolding make_room open_or_collect
     open_chosen two opens =
         record {
@@ -68,8 +66,8 @@ module _ (g : Geometry) (r : Region) {spare : List ℕ} {w : Work} where
           keeps_used = opens_keeps_used opens;
         }
 
-    pub victim_chosen : {v : ℕ} → n < 2 → ((s : State) → s.spare ≡ spare → victim g r s ≡ v) → Chosen g r spare w (Victim v)
-    victim_chosen one found = record { full = full; few = λ s e. omega (arith, erased s e); found = found }
+    pub victim_chosen : {v : ℕ} → n < 2 → ((s : State) → s.spare ≡ spare → victim g r s ≡ v) → Chosen g r spare w (Some v) w
+    victim_chosen one found = (record { full = full; few = λ s e. omega (arith, erased s e); found = found }, refl)
 
 -- ---- a collection
 

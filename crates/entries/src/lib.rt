@@ -80,53 +80,44 @@ fn protected_after(g: Geometry, i: usize, n: u32) -> u32
 }
 
 // The entry at rank i moves to the front.
-pub fn touch(work: Work, g: Geometry, i: usize, cache: &mut [u32]) -> Work
+pub fn touch(work: &mut Work, g: Geometry, i: usize, cache: &mut [u32])
     requires { i * entry_words + entry_words ≤ length cache.old }
-    ensures { DoesCache (touch (geometry g) i) cache.old work 0 cache.new result }
+    ensures { DoesCache (touch (geometry g) i) cache.old work.old 0 cache.new work.new }
 {
-    let mut next = work;
     to_front(cache, i);
-    let after = protected_after(g, i, work.rec.protected);
-    next.rec.protected = after;
-    next
+    work.rec.protected = protected_after(g, i, work.rec.protected);
 }
 
 // An entry for logical page l, at the trial front and unchanged, in the place of the first unused one.
 pub fn enter(
-    work: Work,
+    work: &mut Work,
     l: u32,
     place: u32,
     cache: &mut [u32],
     filter: &mut [u64; FILTER_WORDS],
-) -> Work
-    requires entry_words_in_bounds { (work.rec.used * entry_words + entry_words ≤ length cache.old) × (work.rec.used < 4294967295)
-        × (work.rec.protected ≤ work.rec.used) }
-    requires filter { Filter cache.old work.rec.used filter.old }
-    ensures does_cache { DoesCache (enter l place) cache.old work result.rec.protected cache.new result }
-    ensures filter_2 { Filter cache.new result.rec.used filter.new }
+)
+    requires used_in_cache { (work.old.rec.used * entry_words + entry_words ≤ length cache.old) × (work.old.rec.used < 4294967295)
+        × (work.old.rec.protected ≤ work.old.rec.used) }
+    requires filter { Filter cache.old work.old.rec.used filter.old }
+    ensures does_cache { DoesCache (enter l place) cache.old work.old work.new.rec.protected cache.new work.new }
+    ensures filter_after { Filter cache.new work.new.rec.used filter.new }
 {
-    let mut next = work;
     let used = work.rec.used;
     bitmap::put(filter, bit_of(l));
     let before = work.rec.protected;
     let trial = before as usize * ENTRY_WORDS;
     let behind = (used - before) as usize;
     put_front(&mut cache[trial..], behind, l, place, 0);
-    let more = used + 1;
-    next.rec.used = more;
-    next
+    work.rec.used = used + 1;
 }
 
 // The entry at rank i, the last, is dropped.
-pub fn forget(work: Work, i: usize, cache: &mut [u32]) -> Work
-    requires { (i * entry_words + entry_words ≤ length cache.old) × (i + 1 ≡ work.rec.used) }
-    ensures { DoesCache (forget i) cache.old work tt cache.new result }
+pub fn forget(work: &mut Work, i: usize, cache: &mut [u32])
+    requires { (i * entry_words + entry_words ≤ length cache.old) × (i + 1 ≡ work.old.rec.used) }
+    ensures { DoesCache (forget i) cache.old work.old tt cache.new work.new }
 {
-    let mut next = work;
     store_three(cache, i * ENTRY_WORDS, NONE, NONE, NONE);
-    let less = work.rec.used - 1;
-    next.rec.used = less;
-    next
+    work.rec.used -= 1;
 }
 
 // The entry at rank i names a new place and is changed.

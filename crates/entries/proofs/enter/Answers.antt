@@ -13,9 +13,9 @@ put-requires c = omega (arith, c.bit_of.ensures, bit_below c.args.l)
 
 pub returns : goal.returns
 returns c = let a = c.args in
-    let (fits, few, before) = c.requires.entry_words_in_bounds in
-    let stored = part_entered a.cache.now (a.work.rec.protected * entry_words) (a.work.rec.used - a.work.rec.protected) c.put_front.ensures refl in record {
+    let (fits, few, before) = c.requires.used_in_cache in
+    let stored = part_entered a.cache.now (a.work.now.rec.protected * entry_words) (a.work.now.rec.used - a.work.now.rec.protected) c.put_front.ensures refl in record {
       does_cache = enter_does refl a.l a.place stored refl;
-      filter_2 = filter_gains c.requires.filter a.work.rec.protected a.l a.place before fits refl c.bit_of.ensures
+      filter_after = filter_gains c.requires.filter a.work.now.rec.protected a.l a.place before fits refl c.bit_of.ensures
           c.put.ensures stored;
     }

@@ -9,4 +9,4 @@ use Rattle.entries.proofs.touch.Goals as goal
 pub returns : goal.returns
 returns c = let a = c.args in
     touch_does refl (geometry a.g) a.i c.to_front.ensures
-    (ap (λ (n : ℕ). with_protected n (small a.work.rec)) c.protected_after-after.ensures)
+    (ap (λ (n : ℕ). with_protected n (small a.work.now.rec)) c.protected_after-work.ensures)

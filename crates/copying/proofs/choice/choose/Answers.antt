@@ -6,18 +6,20 @@ use Rattle.lent.specs.Model.{geometry, region, small}
 use Rattle.copying.specs.Choice.{room_chosen, open_chosen, victim_chosen}
 use Rattle.copying.proofs.choice.choose.Goals as goal
 
-pub returns-then-next_offset-g : goal.returns-then-next_offset-g
-returns-then-next_offset-g c = let a = c.args in
-    room_chosen (geometry a.g) (region a.r) (omega (arith, c.if-next_offset-g.true, c.next_offset.ensures))
+pub returns-then-next_offset-flash : goal.returns-then-next_offset-flash
+returns-then-next_offset-flash c = let a = c.args in
+    room_chosen (geometry a.flash.now.g) (region a.r) (omega (arith, c.if-next_offset-flash.true, c.next_offset.ensures))
 
 pub returns-then-erased_blocks-ge2 : goal.returns-then-erased_blocks-ge2
-returns-then-erased_blocks-ge2 c = let full : c.args.g.p ≤ next_offset (region c.args.r) (small c.args.work.rec) = omega (arith, c.if-next_offset-g.false, c.next_offset.ensures) in
-    let a = c.args in
-    open_chosen (geometry a.g) (region a.r) full c.erased_blocks.ensures c.if-erased_blocks-ge2.true
+returns-then-erased_blocks-ge2 c = let a = c.args in
+    let full : a.flash.now.g.p ≤ next_offset (region a.r) (small a.work.now.rec) =
+    omega (arith, c.if-next_offset-flash.false, c.next_offset.ensures) in
+    open_chosen (geometry a.flash.now.g) (region a.r) full c.erased_blocks.ensures c.if-erased_blocks-ge2.true
     c.open_lowest.ensures
 
 pub returns : goal.returns
-returns c = let full : c.args.g.p ≤ next_offset (region c.args.r) (small c.args.work.rec) = omega (arith, c.if-next_offset-g.false, c.next_offset.ensures) in
-    let a = c.args in
-    victim_chosen (geometry a.g) (region a.r) full c.erased_blocks.ensures
+returns c = let a = c.args in
+    let full : a.flash.now.g.p ≤ next_offset (region a.r) (small a.work.now.rec) =
+    omega (arith, c.if-next_offset-flash.false, c.next_offset.ensures) in
+    victim_chosen (geometry a.flash.now.g) (region a.r) full c.erased_blocks.ensures
     (omega (arith, c.if-erased_blocks-ge2.false)) c.victim.ensures

@@ -6,36 +6,34 @@ use mathlib.Core.List.{[], append-nil}
 use native.Mathlib.Omega.{arith}
 use lib.ListN.{length}
 use Rattle.scope.specs.Lent.{is_valid}
-use Rattle.steps.specs.Lies.{spare_lies}
+use Rattle.steps.specs.Flash.{same_lent}
 use Rattle.lent.specs.Model.{geometry, region}
 use Rattle.copying.specs.Moves.{move_words, two_stored, stored_more}
 use Rattle.copying.specs.Copies.{valid_copied, other_passed}
 use Rattle.copying.proofs.copies.copy_if_valid.Goals as goal
 
 pub is_valid-requires : goal.is_valid-requires
-is_valid-requires c = let ready = c.requires.page_to_copy in
-    omega (arith, spare_lies ready.spare_lent _ ready.on_chip)
+is_valid-requires c = c.requires.page_to_copy.on_chip
 
 pub returns-then-not-is_valid : goal.returns-then-not-is_valid
 returns-then-not-is_valid c =
     record {
       does_noting = record {
         more = [];
-        does = other_passed (geometry c.args.g) (region c.args.r) c.args.page
+        does = other_passed (geometry c.args.flash.now.g) (region c.args.r) c.args.page
             (sym c.is_valid.ensures ∙ c.if-not-is_valid.true);
         noted = sym (append-nil _);
       };
-      census_2 = c.requires.census;
-      moves_len_2 = c.requires.moves_len;
+      same = same_lent;
+      moves_len_kept = c.requires.moves_len;
     }
 
 pub relocate-moved-requires : goal.relocate-moved-requires
-relocate-moved-requires c = let told : is_valid c.args.page c.args.spare.now ≡ true = sym c.is_valid.ensures ∙ c.if-not-is_valid.false in
+relocate-moved-requires c = let told : is_valid c.args.page c.args.flash.now.spare.now ≡ true = sym c.is_valid.ensures ∙ c.if-not-is_valid.false in
     let ready = c.requires.page_to_copy in
     record {
-      chip_lent = (ready.chip_lent, ready.spare_lent, ready.on_chip);
+      on_chip = ready.on_chip;
       has_next = (ready.next, ready.countable told);
-      census = c.requires.census;
     }
 
 pub overflow_mul-moves : goal.overflow_mul-moves
@@ -60,15 +58,15 @@ pub bounds-moves-n-2 : goal.bounds-moves-n-2
 bounds-moves-n-2 c = omega (arith, c.requires.page_to_copy.few, c.requires.moves_len)
 
 pub returns : goal.returns
-returns c = let told : is_valid c.args.page c.args.spare.now ≡ true = sym c.is_valid.ensures ∙ c.if-not-is_valid.false in
-    let few : c.args.copied.n * move_words + move_words ≤ length c.args.moves.now = omega (arith, c.requires.page_to_copy.few, c.requires.moves_len) in
-    let a = c.args in
+returns c = let a = c.args in
+    let told : is_valid a.page a.flash.now.spare.now ≡ true = sym c.is_valid.ensures ∙ c.if-not-is_valid.false in
+    let few : a.n * move_words + move_words ≤ length a.moves.now = omega (arith, c.requires.page_to_copy.few, c.requires.moves_len) in
     record {
       does_noting = record {
         more = _;
-        does = valid_copied (geometry a.g) (region a.r) a.page told c.relocate-moved.ensures.does_flash;
-        noted = stored_more (two_stored a.copied.n _ _ a.moves.now few);
+        does = valid_copied (geometry a.flash.now.g) (region a.r) a.page told c.relocate-moved.ensures.does;
+        noted = stored_more (two_stored a.n _ _ a.moves.now few);
       };
-      census_2 = c.relocate-moved.ensures.census_2;
-      moves_len_2 = (two_stored a.copied.n _ _ a.moves.now few).as_long ∙ c.requires.moves_len;
+      same = c.relocate-moved.ensures.same;
+      moves_len_kept = (two_stored a.n _ _ a.moves.now few).as_long ∙ c.requires.moves_len;
     }

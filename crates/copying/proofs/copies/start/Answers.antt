@@ -5,8 +5,7 @@ use Rattle.copying.proofs.copies.start.Goals as goal
 pub copy_pages-requires : goal.copy_pages-requires
 copy_pages-requires c =
     record {
-      copy_ready = copy_ready c.requires.collect_ready c.open_lowest-opened.ensures;
-      census = c.requires.census;
+      copy_ready = copy_ready c.requires.collect_ready c.open_lowest.ensures;
       moves_len = c.requires.moves_len;
     }
 
@@ -14,8 +13,7 @@ pub returns : goal.returns
 returns c = let ready = c.requires.collect_ready in
     let copies = c.copy_pages.ensures.does_flash in
     record {
-      does_flash = started_does ready c.open_lowest-opened.ensures _ _ copies;
-      started = started ready c.open_lowest-opened.ensures _ _ copies;
-      census_2 = c.copy_pages.ensures.census_2;
-      moves_len_2 = c.copy_pages.ensures.moves_len_2;
+      does_flash = record { does = started_does ready c.open_lowest.ensures _ _ copies.does; same = copies.same };
+      started = started ready c.open_lowest.ensures _ _ copies.does;
+      moves_len_kept = c.copy_pages.ensures.moves_len_kept;
     }
