@@ -16,6 +16,8 @@ use Rattle.lent.specs.declared.Work.{Work}
 use Rattle.lent.specs.Model.{Lists, with_rec, counts}
 use Rattle.lent.specs.Does.{Does}
 use Rattle.lent.specs.Shapes.{DoesFlash, RoomToCount}
+use Rattle.steps.specs.declared.flash.Flash.{Flash}
+use Rattle.steps.specs.Flash.{SameFlash}
 use Rattle.steps.specs.Lies.{ChipLent, SpareLent}
 
 -- The three lists.
@@ -30,6 +32,10 @@ lists chip spare directory = record { chip = chip; spare = spare; directory = di
 -- As contracts write them.
 abbrev pub index : List ℕ → List ℕ → List ℕ → Index
 index chip spare directory = lists chip spare directory
+
+-- Those of flash and a directory.
+abbrev pub indexed : Flash → List ℕ → Index
+indexed f directory = lists f.chip.now f.spare.now directory
 
 -- Those among all that is lent.
 abbrev pub index_in : Lists → Index
@@ -51,6 +57,12 @@ with_index x w s = with_directory x.directory (with_flash x.chip x.spare (with_r
 -- The index, and what travels by value.
 abbrev pub DoesIndex : {A : Type 0} → Step A → Index → Work → A → Index → Work → Type 0
 DoesIndex m x w y x' w' = (s : State) → Does m (with_index x w s) (counts w.counts) y (with_index x' w' s) (counts w'.counts)
+
+-- A step of 01 is done on flash and directory.
+pub record IndexDoes {A : Type 0} (m : Step A) (f : Flash) (directory : List ℕ) (w : Work) (y : A) (f' : Flash) (directory' : List ℕ) (w' : Work)
+    : Type 0 where
+  pub does : DoesIndex m (indexed f directory) w y (indexed f' directory') w'
+  pub same : SameFlash f f'
 
 -- What is done to chip and spare, whatever else the state holds, is done to the index.
 pub flash_does : {A : Type 0} {m : Step A} (x : Index) {chip spare : List ℕ} {w w' : Work} {y : A}

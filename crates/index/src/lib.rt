@@ -5,19 +5,19 @@ ghost use Rattle.std.specs.Prelude.{◌≡◌};
 ghost use Rattle.scope.specs.Cache.{changed_of, unchanged_of};
 ghost use Rattle.scope.specs.Steps.{of_page, update, update_all};
 ghost use Rattle.lent.specs.Model.{geometry};
-ghost use Rattle.words.specs.Census.{Census};
 ghost use Rattle.copying.specs.Moves.{first_moves};
 ghost use Rattle.index.specs.Moves.{WaitsIn};
-ghost use Rattle.index.specs.Index.{index, DoesIndex, IndexReady};
+ghost use Rattle.index.specs.Index.{indexed, IndexDoes, IndexReady};
 ghost use Rattle.index.specs.Changed.{EntriesLent};
 ghost use Rattle.index.specs.Taking.{LeftAfter};
 ghost use Rattle.index.specs.Writing.{PageReady};
 
 use changed::set_changed;
 use copying::copies::MOVES_WORDS;
-use lent::{Geometry, Region, Work};
+use lent::{Region, Work};
 use page::{begin, finish};
 use steps::chip::next_page;
+use steps::flash::Flash;
 use touched::{Left, lowest, take_words};
 
 pub mod changed;
@@ -27,97 +27,67 @@ pub mod touched;
 
 // Translation page t is updated with the changed entries of it, which become unchanged.
 pub fn update_changed(
-    work: Work,
-    g: Geometry,
-    t: u32,
-    chip: &mut [u32],
-    spare: &mut [u32],
-    census: &mut [u32],
+    flash: &mut Flash,
+    work: &mut Work,
     directory: &mut [u32],
     cache: &mut [u32],
-) -> Work
-    requires page_ready { PageReady (geometry g) (index chip.old spare.old directory.old) work t }
-    requires entries_lent { EntriesLent (geometry g) t work.rec.used cache.old }
-    requires census { Census (geometry g) spare.old census.old }
-    ensures does_index { DoesIndex (update (geometry g) t (changed_of (geometry g) t work.rec.used cache.old))
-        (index chip.old spare.old directory.old) work tt
-        (index chip.new spare.new directory.new) result }
-    ensures census_2 { Census (geometry g) spare.new census.new }
-    ensures cache_after { cache.new ≡ unchanged_of (geometry g) t work.rec.used cache.old }
+    t: u32,
+)
+    requires page_ready { PageReady (geometry flash.old.g) (indexed flash.old directory.old) work.old t }
+    requires entries_lent { EntriesLent (geometry flash.old.g) t work.old.rec.used cache.old }
+    ensures does_index { IndexDoes (update (geometry flash.old.g) t (changed_of (geometry flash.old.g) t work.old.rec.used cache.old))
+        flash.old directory.old work.old tt flash.new directory.new work.new }
+    ensures cache_after { cache.new ≡ unchanged_of (geometry flash.old.g) t work.old.rec.used cache.old }
 {
-    let begun = begin(work, g, t, chip, spare, census, directory);
-    let rec = begun.rec;
-    let q = next_page(rec, g, Region::Translation);
     let used = work.rec.used as usize;
-    set_changed(g, q, t, used, cache, chip);
-    finish(begun, g, t, spare, census, directory)
+    begin(flash, work, directory, t);
+    let q = next_page(work.rec, flash.g, Region::Translation);
+    set_changed(flash.g, q, t, used, cache, flash.chip);
+    finish(flash, work, directory, t);
 }
 
-// What is settled so far, and what is left.
-#[derive(Drop)]
-struct Settled {
-    work: Work,
-    left: Left,
-}
-
-// The lowest translation page that something waits for is updated with all of it.
+// The lowest translation page that something waits for is updated with all of it. Handed back is what is left.
 fn update_page(
-    settled: Settled,
-    g: Geometry,
+    flash: &mut Flash,
+    work: &mut Work,
+    directory: &mut [u32],
+    left: Left,
     m: u32,
     waiting: &mut [u32; MOVES_WORDS],
-    chip: &mut [u32],
-    spare: &mut [u32],
-    census: &mut [u32],
-    directory: &mut [u32],
-) -> Settled
-    requires page_ready { PageReady (geometry g) (index chip.old spare.old directory.old) settled.work settled.left.lowest }
-    requires census { Census (geometry g) spare.old census.old }
-    requires waits_in { WaitsIn (geometry g) settled.left.n waiting.old }
-    ensures does_index { DoesIndex (update (geometry g) settled.left.lowest
-        (of_page (geometry g) settled.left.lowest (first_moves settled.left.n waiting.old)))
-        (index chip.old spare.old directory.old) settled.work tt
-        (index chip.new spare.new directory.new) result.work }
-    ensures census_2 { Census (geometry g) spare.new census.new }
-    ensures left_after { LeftAfter (geometry g) settled.left.lowest m settled.left.n waiting.old
-        result.left.n result.left.lowest waiting.new }
+) -> Left
+    requires page_ready { PageReady (geometry flash.old.g) (indexed flash.old directory.old) work.old left.lowest }
+    requires waits_in { WaitsIn (geometry flash.old.g) left.n waiting.old }
+    ensures does_index { IndexDoes (update (geometry flash.old.g) left.lowest
+        (of_page (geometry flash.old.g) left.lowest (first_moves left.n waiting.old)))
+        flash.old directory.old work.old tt flash.new directory.new work.new }
+    ensures left_after { LeftAfter (geometry flash.old.g) left.lowest m left.n waiting.old
+        result.n result.lowest waiting.new }
 {
-    let t = settled.left.lowest;
-    let begun = begin(settled.work, g, t, chip, spare, census, directory);
-    let rec = begun.rec;
-    let q = next_page(rec, g, Region::Translation);
-    let left = take_words(g, q, t, settled.left.n, m, waiting, chip);
-    let work = finish(begun, g, t, spare, census, directory);
-    Settled { work, left }
+    let t = left.lowest;
+    begin(flash, work, directory, t);
+    let q = next_page(work.rec, flash.g, Region::Translation);
+    let next = take_words(flash.g, q, t, left.n, m, waiting, flash.chip);
+    finish(flash, work, directory, t);
+    next
 }
 
 // The first n mappings that wait are settled: each translation page that they touch, in rising number, is updated once.
 pub fn settle(
-    work: Work,
-    g: Geometry,
+    flash: &mut Flash,
+    work: &mut Work,
+    directory: &mut [u32],
     n: usize,
     waiting: &mut [u32; MOVES_WORDS],
-    chip: &mut [u32],
-    spare: &mut [u32],
-    census: &mut [u32],
-    directory: &mut [u32],
-) -> Work
-    requires index_ready { IndexReady (geometry g) (index chip.old spare.old directory.old) work (first_moves n waiting.old) }
-    requires census { Census (geometry g) spare.old census.old }
-    requires waits_in { WaitsIn (geometry g) n waiting.old }
-    ensures does_index { DoesIndex (update_all (geometry g) (first_moves n waiting.old))
-        (index chip.old spare.old directory.old) work tt
-        (index chip.new spare.new directory.new) result }
-    ensures census_2 { Census (geometry g) spare.new census.new }
+)
+    requires index_ready { IndexReady (geometry flash.old.g) (indexed flash.old directory.old) work.old (first_moves n waiting.old) }
+    requires waits_in { WaitsIn (geometry flash.old.g) n waiting.old }
+    ensures { IndexDoes (update_all (geometry flash.old.g) (first_moves n waiting.old))
+        flash.old directory.old work.old tt flash.new directory.new work.new }
 {
     let m = directory.len() as u32;
     let t = lowest(n, waiting, m);
-    let mut settled = Settled {
-        work,
-        left: Left { n, lowest: t },
-    };
-    while settled.left.lowest < m {
-        settled = update_page(settled, g, m, waiting, chip, spare, census, directory);
+    let mut left = Left { n, lowest: t };
+    while left.lowest < m {
+        left = update_page(flash, work, directory, left, m, waiting);
     }
-    settled.work
 }

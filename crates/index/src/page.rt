@@ -1,53 +1,35 @@
 // A translation page updated, in the parts that its changed entries and all that waits have in common: what comes before the words are set in
 // the new page, and what comes after.
 ghost use Rattle.lent.specs.Model.{geometry};
-ghost use Rattle.words.specs.Census.{Census};
-ghost use Rattle.index.specs.Index.{index};
+ghost use Rattle.steps.specs.Flash.{SameFlash, OnlySpare};
+ghost use Rattle.index.specs.Index.{indexed};
 ghost use Rattle.index.specs.Writing.{PageReady, Begins, FinishReady, Written};
 
 use crate::room::room;
-use lent::{Geometry, Region, Work};
-use steps::chip::{begin_next, claim_next, mark_old};
+use lent::{Region, Work};
 use steps::directory::{named, names_it};
+use steps::flash::Flash;
 
 // Room is made, and the open block's next page has the words of translation page t, or none throughout.
-pub(crate) fn begin(
-    work: Work,
-    g: Geometry,
-    t: u32,
-    chip: &mut [u32],
-    spare: &mut [u32],
-    census: &mut [u32],
-    directory: &mut [u32],
-) -> Work
-    requires page_ready { PageReady (geometry g) (index chip.old spare.old directory.old) work t }
-    requires census { Census (geometry g) spare.old census.old }
-    ensures begins { Begins (geometry g) t (index chip.old spare.old directory.old) work
-        (index chip.new spare.new directory.new) result }
-    ensures census_2 { Census (geometry g) spare.new census.new }
+pub(crate) fn begin(flash: &mut Flash, work: &mut Work, directory: &mut [u32], t: u32)
+    requires { PageReady (geometry flash.old.g) (indexed flash.old directory.old) work.old t }
+    ensures begins { Begins (geometry flash.old.g) t (indexed flash.old directory.old) work.old
+        (indexed flash.new directory.new) work.new }
+    ensures same { SameFlash flash.old flash.new }
 {
-    let made = room(work, g, chip, spare, census, directory);
+    room(flash, work, directory);
     let former = named(t, directory);
-    begin_next(made, g, Region::Translation, former, chip)
+    flash.begin_next(work, Region::Translation, former);
 }
 
 // The next page becomes that of translation page t, in the place of the former one, and the directory names it.
-pub(crate) fn finish(
-    work: Work,
-    g: Geometry,
-    t: u32,
-    spare: &mut [u32],
-    census: &mut [u32],
-    directory: &mut [u32],
-) -> Work
-    requires finish_ready { FinishReady (geometry g) spare.old directory.old work t }
-    requires census { Census (geometry g) spare.old census.old }
-    ensures written { Written (geometry g) t spare.old directory.old work spare.new directory.new result }
-    ensures census_2 { Census (geometry g) spare.new census.new }
+pub(crate) fn finish(flash: &mut Flash, work: &mut Work, directory: &mut [u32], t: u32)
+    requires { FinishReady (geometry flash.old.g) flash.old.spare.now directory.old work.old t }
+    ensures written { Written (geometry flash.old.g) t flash.old.spare.now directory.old work.old flash.new.spare.now directory.new work.new }
+    ensures only_spare { OnlySpare flash.old flash.new }
 {
     let former = named(t, directory);
-    let claimed = claim_next(work, g, Region::Translation, t, spare, census);
-    mark_old(g, former, spare, census);
-    names_it(t, claimed.value, directory);
-    claimed.work
+    let q = flash.claim_next(work, Region::Translation, t);
+    flash.mark_old(former);
+    names_it(t, q, directory);
 }

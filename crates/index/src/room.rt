@@ -8,16 +8,15 @@ ghost use Rattle.region.specs.Apart.{follow_each};
 ghost use Rattle.lent.specs.declared.Work.{Work};
 ghost use Rattle.lent.specs.Model.{geometry};
 ghost use Rattle.lent.specs.Shapes.{DoesDirectory};
-ghost use Rattle.words.specs.Census.{Census};
 ghost use Rattle.copying.specs.Moves.{move_words, moves_words, first_moves};
 ghost use Rattle.copying.specs.Choice.{ToCollect};
-ghost use Rattle.index.specs.Index.{index, DoesIndex, RoomReady};
+ghost use Rattle.index.specs.Index.{indexed, IndexDoes, RoomReady};
 
-use copying::choice::{Choice, choose};
+use copying::choice::choose;
 use copying::copies::{MOVE_WORDS, MOVES_WORDS, start};
-use lent::{Geometry, Region, Work};
-use steps::chip::erase;
+use lent::{Region, Work};
 use steps::directory::names_it;
+use steps::flash::Flash;
 
 // The directory names the pages of the first n moves.
 fn names_moved(n: usize, moves: &[u32; MOVES_WORDS], directory: &mut [u32])
@@ -34,59 +33,25 @@ fn names_moved(n: usize, moves: &[u32; MOVES_WORDS], directory: &mut [u32])
 }
 
 // Block v is emptied into the one erased block, and erased.
-fn collect(
-    work: Work,
-    g: Geometry,
-    v: u32,
-    chip: &mut [u32],
-    spare: &mut [u32],
-    census: &mut [u32],
-    directory: &mut [u32],
-) -> Work
-    requires room_ready { RoomReady (geometry g) (index chip.old spare.old directory.old) work × ToCollect (geometry g) Translation spare.old work v }
-    requires census { Census (geometry g) spare.old census.old }
-    ensures does_index { DoesIndex (make_room (geometry g) Translation directory_follows)
-        (index chip.old spare.old directory.old) work tt
-        (index chip.new spare.new directory.new) result }
-    ensures census_2 { Census (geometry g) spare.new census.new }
+fn collect(flash: &mut Flash, work: &mut Work, directory: &mut [u32], v: u32)
+    requires { RoomReady (geometry flash.old.g) (indexed flash.old directory.old) work.old
+        × ToCollect (geometry flash.old.g) Translation flash.old.spare.now work.old v }
+    ensures { IndexDoes (make_room (geometry flash.old.g) Translation directory_follows)
+        flash.old directory.old work.old tt flash.new directory.new work.new }
 {
     let mut moves = [0u32; MOVES_WORDS];
-    let copied = start(
-        work,
-        g,
-        Region::Translation,
-        v,
-        chip,
-        spare,
-        census,
-        &mut moves,
-    );
-    let after = copied.work;
-    let n = copied.n;
+    let n = start(flash, work, Region::Translation, v, &mut moves);
     names_moved(n, &moves, directory);
-    erase(after, g, v, chip, spare, census)
+    flash.erase(work, v);
 }
 
 // Make room: afterwards the open block has a page to program.
-pub fn room(
-    work: Work,
-    g: Geometry,
-    chip: &mut [u32],
-    spare: &mut [u32],
-    census: &mut [u32],
-    directory: &mut [u32],
-) -> Work
-    requires room_ready { RoomReady (geometry g) (index chip.old spare.old directory.old) work }
-    requires census { Census (geometry g) spare.old census.old }
-    ensures does_index { DoesIndex (make_room (geometry g) Translation directory_follows)
-        (index chip.old spare.old directory.old) work tt
-        (index chip.new spare.new directory.new) result }
-    ensures census_2 { Census (geometry g) spare.new census.new }
+pub fn room(flash: &mut Flash, work: &mut Work, directory: &mut [u32])
+    requires { RoomReady (geometry flash.old.g) (indexed flash.old directory.old) work.old }
+    ensures { IndexDoes (make_room (geometry flash.old.g) Translation directory_follows)
+        flash.old directory.old work.old tt flash.new directory.new work.new }
 {
-    let choice = choose(work, g, Region::Translation, spare, census);
-    match choice {
-        Choice::There => work,
-        Choice::Opened(opened) => opened,
-        Choice::Victim(v) => collect(work, g, v, chip, spare, census, directory),
+    if let Some(v) = choose(flash, work, Region::Translation) {
+        collect(flash, work, directory, v);
     }
 }

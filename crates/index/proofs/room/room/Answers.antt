@@ -1,41 +1,31 @@
 -- `index::room::room` meets its contract: room is there or was made by the choice, or is by a collection.
 use Rattle.std.proofs.Common.{subst}
-use Rattle.flash.specs.Bounded.{accepted_bounded}
+use Rattle.std.specs.Prelude.{ℕ, Option}
 use Rattle.scope.specs.Regions.{Translation}
 use Rattle.lent.specs.Model.{geometry}
+use Rattle.steps.specs.Flash.{same_lent}
 use Rattle.copying.specs.Choice.{Chosen}
 use Rattle.index.specs.Collecting.{chosen_does}
 use Rattle.index.proofs.room.room.Goals as goal
 
-pub choose-choice-requires : goal.choose-choice-requires
-choose-choice-requires c = (accepted_bounded c.requires.room_ready.lent.accepted, c.requires.census)
-
 pub collect-requires : goal.collect-requires
 collect-requires c =
     let a = c.args in
-    record {
-      room_ready = (c.requires.room_ready, subst (Chosen (geometry a.g) Translation a.spare.now a.work) c.in-Victim.is c.choose-choice.ensures);
-      census = c.requires.census;
-    }
+    let chosen = subst (λ (o : Option ℕ). Chosen (geometry a.flash.now.g) Translation a.flash.now.spare.now a.work.now o c.choose.new.work)
+        c.in-Some.is c.choose.ensures in
+    rw chosen.1 (c.requires, chosen.0)
 
-pub returns-in-There : goal.returns-in-There
-returns-in-There c =
+pub returns-in_default : goal.returns-in_default
+returns-in_default c =
     let a = c.args in
-    record {
-      does_index = chosen_does (subst (Chosen (geometry a.g) Translation a.spare.now a.work) c.in-There.is c.choose-choice.ensures);
-      census_2 = c.requires.census;
-    }
+    let chosen = subst (λ (o : Option ℕ). Chosen (geometry a.flash.now.g) Translation a.flash.now.spare.now a.work.now o c.choose.new.work)
+        c.in_default.is c.choose.ensures in
+    record { does = chosen_does chosen; same = same_lent }
 
-pub returns-in-Opened : goal.returns-in-Opened
-returns-in-Opened c =
+pub returns-in-Some : goal.returns-in-Some
+returns-in-Some c =
     let a = c.args in
-    record {
-      does_index = chosen_does (subst (Chosen (geometry a.g) Translation a.spare.now a.work) c.in-Opened.is c.choose-choice.ensures);
-      census_2 = c.requires.census;
-    }
-
-pub returns-in-Victim : goal.returns-in-Victim
-returns-in-Victim c = record {
-  does_index = c.collect.ensures.does_index;
-  census_2 = c.collect.ensures.census_2;
-}
+    let chosen = subst (λ (o : Option ℕ). Chosen (geometry a.flash.now.g) Translation a.flash.now.spare.now a.work.now o c.choose.new.work)
+        c.in-Some.is c.choose.ensures in
+    let collected = rw chosen.1 at c.collect.ensures.does in
+    record { does = collected; same = c.collect.ensures.same }
