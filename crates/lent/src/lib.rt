@@ -8,6 +8,8 @@ ghost use Rattle.lent.specs.Model.{counts, entry};
 ghost use Rattle.lent.specs.DoesLaws.{one_read, one_program, one_erase};
 ghost use Rattle.lent.specs.Shapes.{RoomToCount};
 
+pub mod reply;
+
 // No page; the word of an erased page, in the chip and in the spare; the other two states.
 pub const NONE: u32 = 4294967295;
 

@@ -1,11 +1,11 @@
 -- The filter of the cached pages from step to step: only translate changes the number of entries in use, and the others change no more of
 -- an entry than the place that it names.
-use Rattle.std.specs.Prelude.{ℕ, ◌+◌, ◌<◌, ◌≡◌, length}
+use Rattle.std.specs.Prelude.{ℕ, ◌+◌, ◌<◌, ◌≡◌, length, Option, Some, None}
 use Rattle.std.proofs.Common.{sym, ap, arith}
 use Rattle.std.proofs.Math.Path.{subst, subst₂}
 use mathlib.Core.List.{List}
 use Rattle.scope.specs.Geometry.{Geometry}
-use Rattle.scope.specs.Regions.{Data}
+use Rattle.scope.specs.Regions.{Region, Data}
 use Rattle.scope.specs.Lent.{Entry, Place, Nowhere, State, logical_at}
 use Rattle.scope.specs.Sound.{rank_of}
 use Rattle.scope.specs.Operations.{Counts, Erase, apply, give, look, perform, set_cache, set_small, ◌>>=◌}
@@ -18,6 +18,7 @@ use Rattle.lent.specs.declared.Work.{Work}
 use Rattle.lent.specs.Does.{Does}
 use Rattle.lent.specs.Shapes.{DoesFlash, DoesByChip, DoesCache}
 use Rattle.words.specs.Filter.{Filter}
+use Rattle.copying.specs.Choice.{Chosen}
 use Rattle.entries.specs.Entries.{Different, different_placed}
 use Rattle.entries.specs.Filter.{filter_moved, filter_forgotten, filter_ranks_kept, filter_placed}
 
@@ -86,8 +87,19 @@ unfolding perform apply
 erase_keeps_used g b does = sym (ap (λ (s : State). s.small.used) does.after)
 
 -- So does a read.
+pub read_page_keeps_used : (g : Geometry) (p : ℕ) {chip : List ℕ} {w w' : Work} {words : List ℕ} → DoesByChip (read_page g p) chip w words w'
+    → w'.rec.used ≡ w.rec.used
+unfolding read_page perform apply look give ◌>>=◌
+read_page_keeps_used g p does = sym (ap (λ (s : State). s.small.used) (does some_state).after)
+
 pub read_place_keeps_used : (g : Geometry) (buffer : List ℕ) (place : Entry) {chip : List ℕ} {w w' : Work} {r : Replied}
     → DoesByChip (read_place g buffer place) chip w r w' → w'.rec.used ≡ w.rec.used
 unfolding read_place read_page perform apply look give ◌>>=◌
 read_place_keeps_used g buffer (Place p) does = sym (ap (λ (s : State). s.small.used) (does some_state).after)
 read_place_keeps_used g buffer Nowhere does = sym (ap (λ (s : State). s.small.used) (does some_state).after)
+
+-- The choice of how room is made leaves it too.
+pub chosen_keeps_used : (g : Geometry) (r : Region) (spare : List ℕ) (w w' : Work) (o : Option ℕ) → Chosen g r spare w o w'
+    → w'.rec.used ≡ w.rec.used
+chosen_keeps_used g r spare w w' None h = h.keeps_used
+chosen_keeps_used g r spare w w' (Some v) h = ap (λ (x : Work). x.rec.used) h.1

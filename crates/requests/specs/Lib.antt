@@ -4,3 +4,4 @@ pub mod Filtered
 pub mod Following
 pub mod Collecting
 pub mod Answering
+pub mod Node

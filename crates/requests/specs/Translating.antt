@@ -140,6 +140,9 @@ module _ {g : Geometry} {s : State} {n : ℕ} {c : Counted} {left : Lists} {w : 
   pub written_keeps_used : w.rec.used ≡ s.small.used
   written_keeps_used = sym (ap (λ (z : State). z.small.used) does.after) ∙ law.used
 
+  pub written_fits : length left.cache ≡ cache_size g
+  written_fits = subst (λ (z : State). length z.cache ≡ cache_size g) does.after law.kept.lengths.cache_fits
+
   pub written_keeps_ranks : (j : ℕ) → logical_at j left.cache ≡ logical_at j s.cache
   written_keeps_ranks j = sym (ap (λ (z : State). logical_at j z.cache) does.after) ∙ law.ranks j
 

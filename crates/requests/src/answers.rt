@@ -1,133 +1,79 @@
-// Read and write: what a call does once its tests have passed. The reply's number is handed back.
-ghost use Rattle.std.specs.Prelude.{◌≡◌, List, ℕ, length};
+// Read and write: what a call does once its tests have passed. The reply is handed back. Both say of each slice that it is the caller's
+// own, by its name: who lends them learns by that what they hold afterwards.
+ghost use Rattle.std.specs.Prelude.{◌≡◌, length};
 ghost use Rattle.scope.specs.Requests.{replied, read_place, read_steps, write_steps};
-ghost use Rattle.lent.specs.Model.{geometry, entry};
-ghost use Rattle.lent.specs.Shapes.{DoesByChip};
+ghost use Rattle.lent.specs.Model.{entry};
+ghost use Rattle.lent.specs.Reply.{reply};
 ghost use Rattle.promises.specs.Bounds.{read_bound, write_bound};
 ghost use Rattle.promises.specs.Write.{placing};
-ghost use Rattle.words.specs.Census.{Census};
-ghost use Rattle.words.specs.Filter.{Filter};
-ghost use Rattle.words.specs.Noted.{Noted};
-ghost use Rattle.lent.specs.Ready.{lent, DoesAll, ReadyFor};
-ghost use Rattle.requests.specs.Answering.{PlaceReady, WritingReady, DoesPlacing};
+ghost use Rattle.lent.specs.Ready.{ReadyFor};
+ghost use Rattle.requests.specs.Answering.{PlaceReady, WritingReady};
+ghost use Rattle.requests.specs.Node.{under, held, NodeDoes, SameNode};
 
-use crate::room::make_room;
-use crate::translation::translate;
-use entries::{physical, set_entry};
-use lent::{Entry, FILTER_WORDS, Geometry, Handed, Region, Work, decode};
-use steps::chip::{mark_old, program_next, read_page};
+use crate::node::Node;
+use entries::set_entry;
+use lent::reply::Reply;
+use lent::{Region, decode};
 
-const DONE: u32 = 0;
-
-const UNWRITTEN: u32 = 1;
-
-// The page at a place is read into the buffer; nowhere, nothing.
-fn read_place(work: Work, g: Geometry, place: Entry, chip: &[u32], buffer: &mut [u32]) -> Handed
-    requires { PlaceReady (geometry g) (entry place) chip.now buffer.old work.counts }
-    ensures { DoesByChip (read_place (geometry g) buffer.old (entry place))
-        chip.now work (replied buffer.new result.value) result.work }
-{
-    let Entry::Place(p) = place else {
-        return Handed {
-            value: UNWRITTEN,
-            work,
+impl Node<'_, '_, '_, '_> {
+    // The page at a place is read into the buffer; nowhere, nothing.
+    fn read_place(&mut self, place: Option<u32>, buffer: &mut [u32]) -> Reply
+        requires { PlaceReady (under self.old) (entry place) self.old.flash.chip.now buffer.old self.old.work.counts }
+        ensures { NodeDoes (read_place (under self.old) buffer.old (entry place)) self.old (replied buffer.new (reply result)) self.new }
+    {
+        let Some(p) = place else {
+            return Reply::Unwritten;
         };
-    };
-    let read = read_page(work, g, p, chip, buffer);
-    Handed {
-        value: DONE,
-        work: read,
+        self.flash.read_page(&mut self.work, p, buffer);
+        Reply::Done
     }
-}
 
-// Read logical page l.
-pub fn read(
-    work: Work,
-    g: Geometry,
-    l: u32,
-    chip: &mut [u32],
-    spare: &mut [u32],
-    census: &mut [u32],
-    directory: &mut [u32],
-    cache: &mut [u32],
-    filter: &mut [u64; FILTER_WORDS],
-    buffer: &mut [u32],
-) -> Handed
-    requires ready_for { ReadyFor l (geometry g) (lent chip.old spare.old directory.old cache.old work) (read_bound (geometry g)) work.counts
-        × (length buffer.old ≡ g.w) }
-    requires noted { Noted (geometry g) (lent chip.old spare.old directory.old cache.old work) census.old filter.old }
-    ensures does_all { DoesAll (read_steps (geometry g) l buffer.old)
-        (lent chip.old spare.old directory.old cache.old work) work
-        (replied buffer.new result.value)
-        (lent chip.new spare.new directory.new cache.new result.work) result.work }
-    ensures noted_2 { Noted (geometry g) (lent chip.new spare.new directory.new cache.new result.work)
-        census.new filter.new }
-{
-    let at = translate(work, g, l, chip, spare, census, directory, cache, filter);
-    let translated = at.work;
-    let place = decode(physical(at.value as usize, cache));
-    read_place(translated, g, place, chip, buffer)
-}
+    // Read logical page l.
+    pub fn read(&mut self, l: u32, buffer: &mut [u32]) -> Reply
+        requires { ReadyFor l (under self.old) (held self.old) (read_bound (under self.old)) self.old.work.counts
+            × (length buffer.old ≡ self.old.flash.g.w) }
+        ensures does { NodeDoes (read_steps (under self.old) l buffer.old) self.old (replied buffer.new (reply result)) self.new }
+        ensures chip_kept { self.new.flash.chip.ghost_name ≡ self.old.flash.chip.ghost_name }
+        ensures spare_kept { self.new.flash.spare.ghost_name ≡ self.old.flash.spare.ghost_name }
+        ensures census_kept { self.new.flash.census.ghost_name ≡ self.old.flash.census.ghost_name }
+        ensures directory_kept { self.new.directory.ghost_name ≡ self.old.directory.ghost_name }
+        ensures cache_kept { self.new.cache.ghost_name ≡ self.old.cache.ghost_name }
+        ensures filter_kept { self.new.filter.ghost_name ≡ self.old.filter.ghost_name }
+    {
+        let i = self.translate(l);
+        let place = decode(self.physical(i));
+        self.read_place(place, buffer)
+    }
 
-// With room in the open block: the next page is programmed with l's new words, the old one marked, and the entry at rank i set.
-// No other page is cached then than before, so that what was a filter of the cache still is one.
-fn place(
-    work: Work,
-    g: Geometry,
-    l: u32,
-    i: usize,
-    chip: &mut [u32],
-    spare: &mut [u32],
-    census: &mut [u32],
-    cache: &mut [u32],
-    buffer: &[u32],
-) -> Work
-    requires writing_ready { WritingReady (geometry g) i chip.old spare.old cache.old buffer.now work }
-    requires census { Census (geometry g) spare.old census.old }
-    ensures does_placing { DoesPlacing (placing (geometry g) l i buffer.now)
-        chip.old spare.old cache.old work (replied buffer.now 0)
-        chip.new spare.new cache.new result }
-    ensures census_2 { Census (geometry g) spare.new census.new }
-    ensures by_index { (filter : List ℕ) → Filter cache.old work.rec.used filter
-        → Filter cache.new result.rec.used filter }
-{
-    let programmed = program_next(work, g, Region::Data, l, chip, spare, census, buffer);
-    let old = decode(physical(i, cache));
-    mark_old(g, old, spare, census);
-    set_entry(i, programmed.value, cache);
-    programmed.work
-}
+    // With room in the open block: the next page is programmed with l's new words, the old one marked, and the entry at rank i set.
+    // No other page is cached then than before, so that what was a filter of the cache still is one.
+    fn place(&mut self, l: u32, i: usize, buffer: &[u32])
+        requires { WritingReady (under self.old) i self.old.flash.chip.now self.old.flash.spare.now self.old.cache.now buffer.now self.old.work }
+        ensures { NodeDoes (placing (under self.old) l i buffer.now) self.old (replied buffer.now 0) self.new }
+    {
+        let q = self
+            .flash
+            .program_next(&mut self.work, Region::Data, l, buffer);
+        let old = decode(self.physical(i));
+        self.flash.mark_old(old);
+        set_entry(i, q, self.cache);
+    }
 
-// Write logical page l.
-pub fn write(
-    work: Work,
-    g: Geometry,
-    l: u32,
-    chip: &mut [u32],
-    spare: &mut [u32],
-    census: &mut [u32],
-    directory: &mut [u32],
-    cache: &mut [u32],
-    filter: &mut [u64; FILTER_WORDS],
-    buffer: &[u32],
-) -> Handed
-    requires ready_for { ReadyFor l (geometry g) (lent chip.old spare.old directory.old cache.old work) (write_bound (geometry g)) work.counts
-        × (length buffer.now ≡ g.w) }
-    requires noted { Noted (geometry g) (lent chip.old spare.old directory.old cache.old work) census.old filter.old }
-    ensures does_all { DoesAll (write_steps (geometry g) l buffer.now)
-        (lent chip.old spare.old directory.old cache.old work) work
-        (replied buffer.now result.value)
-        (lent chip.new spare.new directory.new cache.new result.work) result.work }
-    ensures noted_2 { Noted (geometry g) (lent chip.new spare.new directory.new cache.new result.work)
-        census.new filter.new }
-{
-    let at = translate(work, g, l, chip, spare, census, directory, cache, filter);
-    let translated = at.work;
-    let i = at.value as usize;
-    let room = make_room(translated, g, chip, spare, census, directory, cache, filter);
-    let written = place(room, g, l, i, chip, spare, census, cache, buffer);
-    Handed {
-        value: DONE,
-        work: written,
+    // Write logical page l.
+    pub fn write(&mut self, l: u32, buffer: &[u32]) -> Reply
+        requires { ReadyFor l (under self.old) (held self.old) (write_bound (under self.old)) self.old.work.counts
+            × (length buffer.now ≡ self.old.flash.g.w) }
+        ensures does { NodeDoes (write_steps (under self.old) l buffer.now) self.old (replied buffer.now (reply result)) self.new }
+        ensures chip_kept { self.new.flash.chip.ghost_name ≡ self.old.flash.chip.ghost_name }
+        ensures spare_kept { self.new.flash.spare.ghost_name ≡ self.old.flash.spare.ghost_name }
+        ensures census_kept { self.new.flash.census.ghost_name ≡ self.old.flash.census.ghost_name }
+        ensures directory_kept { self.new.directory.ghost_name ≡ self.old.directory.ghost_name }
+        ensures cache_kept { self.new.cache.ghost_name ≡ self.old.cache.ghost_name }
+        ensures filter_kept { self.new.filter.ghost_name ≡ self.old.filter.ghost_name }
+    {
+        let i = self.translate(l);
+        self.make_room();
+        self.place(l, i, buffer);
+        Reply::Done
     }
 }
