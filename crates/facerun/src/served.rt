@@ -30,9 +30,8 @@ pub fn serve_all(
         (state chip.new spare.new directory.new cache.new result.rec)
         words.new answers.new census.new filter.new }
 {
-    let mut i = 0;
     let mut cur = first;
-    while i < requests.len() {
+    for i in 0..requests.len() {
         cur = serve(
             cur,
             i,
@@ -47,7 +46,6 @@ pub fn serve_all(
             words,
             answers,
         );
-        i += 1;
     }
     cur
 }

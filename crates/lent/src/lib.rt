@@ -8,6 +8,10 @@ ghost use Rattle.lent.specs.Model.{counts, entry};
 ghost use Rattle.lent.specs.DoesLaws.{one_read, one_program, one_erase};
 ghost use Rattle.lent.specs.Shapes.{RoomToCount};
 
+pub mod reply;
+
+use crate::reply::Reply;
+
 // No page; the word of an erased page, in the chip and in the spare; the other two states.
 pub const NONE: u32 = 4294967295;
 
@@ -74,6 +78,13 @@ pub struct Work {
 #[derive(Clone, Copy)]
 pub struct Handed {
     pub value: u32,
+    pub work: Work,
+}
+
+// What a request's steps hand back beside that.
+#[derive(Clone, Copy)]
+pub struct Answered {
+    pub reply: Reply,
     pub work: Work,
 }
 

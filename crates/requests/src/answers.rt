@@ -1,7 +1,8 @@
-// Read and write: what a call does once its tests have passed. The reply's number is handed back.
+// Read and write: what a call does once its tests have passed. The reply is handed back.
 ghost use Rattle.std.specs.Prelude.{◌≡◌, List, ℕ, length};
 ghost use Rattle.scope.specs.Requests.{replied, read_place, read_steps, write_steps};
 ghost use Rattle.lent.specs.Model.{geometry, entry};
+ghost use Rattle.lent.specs.Reply.{reply};
 ghost use Rattle.lent.specs.Shapes.{DoesByChip};
 ghost use Rattle.promises.specs.Bounds.{read_bound, write_bound};
 ghost use Rattle.promises.specs.Write.{placing};
@@ -14,28 +15,25 @@ ghost use Rattle.requests.specs.Answering.{PlaceReady, WritingReady, DoesPlacing
 use crate::room::make_room;
 use crate::translation::translate;
 use entries::{physical, set_entry};
-use lent::{Entry, FILTER_WORDS, Geometry, Handed, Region, Work, decode};
+use lent::reply::Reply;
+use lent::{Answered, Entry, FILTER_WORDS, Geometry, Region, Work, decode};
 use steps::chip::{mark_old, program_next, read_page};
 
-const DONE: u32 = 0;
-
-const UNWRITTEN: u32 = 1;
-
 // The page at a place is read into the buffer; nowhere, nothing.
-fn read_place(work: Work, g: Geometry, place: Entry, chip: &[u32], buffer: &mut [u32]) -> Handed
+fn read_place(work: Work, g: Geometry, place: Entry, chip: &[u32], buffer: &mut [u32]) -> Answered
     requires { PlaceReady (geometry g) (entry place) chip.now buffer.old work.counts }
     ensures { DoesByChip (read_place (geometry g) buffer.old (entry place))
-        chip.now work (replied buffer.new result.value) result.work }
+        chip.now work (replied buffer.new (reply result.reply)) result.work }
 {
     let Entry::Place(p) = place else {
-        return Handed {
-            value: UNWRITTEN,
+        return Answered {
+            reply: Reply::Unwritten,
             work,
         };
     };
     let read = read_page(work, g, p, chip, buffer);
-    Handed {
-        value: DONE,
+    Answered {
+        reply: Reply::Done,
         work: read,
     }
 }
@@ -52,13 +50,13 @@ pub fn read(
     cache: &mut [u32],
     filter: &mut [u64; FILTER_WORDS],
     buffer: &mut [u32],
-) -> Handed
+) -> Answered
     requires ready_for { ReadyFor l (geometry g) (lent chip.old spare.old directory.old cache.old work) (read_bound (geometry g)) work.counts
         × (length buffer.old ≡ g.w) }
     requires noted { Noted (geometry g) (lent chip.old spare.old directory.old cache.old work) census.old filter.old }
     ensures does_all { DoesAll (read_steps (geometry g) l buffer.old)
         (lent chip.old spare.old directory.old cache.old work) work
-        (replied buffer.new result.value)
+        (replied buffer.new (reply result.reply))
         (lent chip.new spare.new directory.new cache.new result.work) result.work }
     ensures noted_2 { Noted (geometry g) (lent chip.new spare.new directory.new cache.new result.work)
         census.new filter.new }
@@ -110,13 +108,13 @@ pub fn write(
     cache: &mut [u32],
     filter: &mut [u64; FILTER_WORDS],
     buffer: &[u32],
-) -> Handed
+) -> Answered
     requires ready_for { ReadyFor l (geometry g) (lent chip.old spare.old directory.old cache.old work) (write_bound (geometry g)) work.counts
         × (length buffer.now ≡ g.w) }
     requires noted { Noted (geometry g) (lent chip.old spare.old directory.old cache.old work) census.old filter.old }
     ensures does_all { DoesAll (write_steps (geometry g) l buffer.now)
         (lent chip.old spare.old directory.old cache.old work) work
-        (replied buffer.now result.value)
+        (replied buffer.now (reply result.reply))
         (lent chip.new spare.new directory.new cache.new result.work) result.work }
     ensures noted_2 { Noted (geometry g) (lent chip.new spare.new directory.new cache.new result.work)
         census.new filter.new }
@@ -126,8 +124,8 @@ pub fn write(
     let i = at.value as usize;
     let room = make_room(translated, g, chip, spare, census, directory, cache, filter);
     let written = place(room, g, l, i, chip, spare, census, cache, buffer);
-    Handed {
-        value: DONE,
+    Answered {
+        reply: Reply::Done,
         work: written,
     }
 }

@@ -4,6 +4,7 @@ use Rattle.std.proofs.Common.{arith}
 use Rattle.std.proofs.lemmas.List.{length-map}
 use Rattle.lent.specs.declared.Record.{Record}
 use Rattle.lent.specs.Model.{Lists, together}
+use Rattle.lent.specs.Reply.{tested}
 use Rattle.scope.specs.Geometry.{Geometry}
 use Rattle.scope.specs.Lent.{State}
 use Rattle.scope.specs.Replies.{DONE, Size, right_sizes}
@@ -38,9 +39,9 @@ module _ {g : Geometry} {asked : List Asked} {a : Running} {s : State} {words an
           noted = λ x. served.noted (ran.noted x);
         }
 
-    pub ran_ready : Tested g (length asked) a s words answers census filter → b.answer ≡ DONE
+    pub ran_ready : Tested g (length asked) a s words answers census filter → tested b.answer ≡ DONE
         → Serving g i b s₁ words₁ answers₁ census₁ filter₁
-    ran_ready tested = runs_ready g (map request asked) tested h ran.runs ran.noted
+    ran_ready admits = runs_ready g (map request asked) admits h ran.runs ran.noted
 
 -- The same with lent requests, which have no odd word.
 pub ran_answers : {g : Geometry} {asked : List Asked} {others : List Size} {a b : Running} {s s₁ : State} {x : Lists}

@@ -4,6 +4,7 @@ use Rattle.std.specs.Prelude.{ℕ, ◌+◌, ◌/◌, ◌≤◌, ◌<◌, ◌^◌
 use Rattle.std.proofs.Common.{sym, subst, ◌∙◌, arith}
 use Rattle.lent.specs.declared.Record.{Record}
 use Rattle.lent.specs.Model.{Lists, together}
+use Rattle.lent.specs.Reply.{tested}
 use Rattle.scope.specs.Geometry.{Geometry}
 use Rattle.scope.specs.Lent.{State, Request}
 use Rattle.scope.specs.Replies.{DONE, Size}
@@ -23,21 +24,19 @@ use Rattle.wording.specs.Asked.{half_as_many, words_at, request_at}
 pub record Turned (g : Geometry) (ws : List ℕ) (n i : ℕ) (a : Running) (s : State) (words answers census filter : List ℕ)
     (b : Running) (s' : State) (words' answers' census' filter' : List ℕ) : Type 0 where
   pub all : n ≡ length ws / 2
-  pub so_far : i ≤ n
-  pub countable : n < 2 ^ 64
   pub tested : Tested g n a s words answers census filter
   pub runs : Runs (serve_records g (requests_of ws) i) a s words answers b s' words' answers'
   pub noted : Noted g s census filter → Noted g s' census' filter'
 
 module _ {g : Geometry} {ws : List ℕ} {n : ℕ} {a : Running} {s : State} {words answers census filter : List ℕ} where
-  pub start : n ≡ length ws / 2 → n < 2 ^ 64 → Tested g n a s words answers census filter
+  pub start : n ≡ length ws / 2 → Tested g n a s words answers census filter
       → Turned g ws n 0 a s words answers census filter a s words answers census filter
-  start e few tested =
-      record { all = e; so_far = omega arith; countable = few; tested = tested; runs = runs_none g (requests_of ws); noted = λ x. x }
+  start e admits =
+      record { all = e; tested = admits; runs = runs_none g (requests_of ws); noted = λ x. x }
 
   module _ {i : ℕ} {b : Running} {s₁ : State} {words₁ answers₁ census₁ filter₁ : List ℕ}
       (before : Turned g ws n i a s words answers census filter b s₁ words₁ answers₁ census₁ filter₁) (h : i < n) where
-    pub ready : b.answer ≡ DONE → Serving g i b s₁ words₁ answers₁ census₁ filter₁
+    pub ready : tested b.answer ≡ DONE → Serving g i b s₁ words₁ answers₁ census₁ filter₁
     ready = runs_ready g (requests_of ws) before.tested h before.runs before.noted
 
     pub turn : {q : Request} {c : Running} {s₂ : State} {words₂ answers₂ census₂ filter₂ : List ℕ} → q ≡ words_at ws i
@@ -46,23 +45,12 @@ module _ {g : Geometry} {ws : List ℕ} {n : ℕ} {a : Running} {s : State} {wor
     turn {c = c} {s₂} {words₂} {answers₂} taken served =
         record {
           all = before.all;
-          so_far = omega arith;
-          countable = before.countable;
           tested = before.tested;
           runs = runs_more g (requests_of ws) i before.runs
               (subst (λ (q : Request). Runs (serve_record g i q) b s₁ words₁ answers₁ c s₂ words₂ answers₂)
               (taken ∙ sym (request_at ws i (omega (arith, before.all)))) served.runs);
           noted = λ x. served.noted (before.noted x);
         }
-
-  pub turned : {i : ℕ} {b : Running} {s' : State} {words' answers' census' filter' : List ℕ}
-      → Turned g ws n i a s words answers census filter b s' words' answers' census' filter' → n ≤ i
-      → Runs (serve_records g (requests_of ws) (length ws / 2)) a s words answers b s' words' answers'
-  turned {i} {b} {s'} {words'} {answers'} t h =
-      subst (λ (k : ℕ). Runs (serve_records g (requests_of ws) k) a s words answers b s' words' answers') last t.runs
-    where
-      last : i ≡ length ws / 2
-      last = omega (arith, t.all, t.so_far)
 
 -- ---- the run
 

@@ -1,5 +1,4 @@
 -- `wordrun::serve_words`: the requests before i are served.
-use Prim.Native.Nat.{◌-◌}
 use Rattle.lent.specs.Model.{geometry, state}
 use Rattle.wordrun.specs.Run.{Turned}
 use Rattle.wordrun.proofs.serve_words.Given as goal
@@ -10,6 +9,3 @@ invariant-loop-i l =
     l.initial.cur (state l.initial.chip l.initial.spare l.initial.directory l.initial.cache l.initial.cur.rec)
     l.initial.words l.initial.answers l.initial.census l.initial.filter
     l.cur (state l.chip l.spare l.directory l.cache l.cur.rec) l.words l.answers l.census l.filter
-
-abbrev pub decreases-loop-i : goal.decreases-loop-i
-decreases-loop-i l = l.n - l.i
