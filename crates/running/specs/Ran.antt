@@ -1,6 +1,6 @@
 -- The parts of a run put together: the requests one after the other, that each can be served where the run was admitted, and that begin,
 -- the requests and finish are the call of the definitions. For whoever goes through the requests.
-use Rattle.std.specs.Prelude.{ℕ, suc, ◌+◌, ◌*◌, ◌<◌, ◌≡◌, refl, Bool, cond, List, map, eqb, leb, length, get_or}
+use Rattle.std.specs.Prelude.{ℕ, suc, ◌+◌, ◌*◌, ◌<◌, ◌≡◌, refl, Bool, cond, List, eqb, leb, length, get_or}
 use Rattle.std.proofs.Common.{sym, ap, subst, ◌∙◌, arith, eqb-true, eq-eqb, ne_eqb, leb-true}
 use Rattle.std.proofs.Math.Bool.{true, false}
 use Rattle.std.proofs.Math.Numerals.{add-one}
@@ -17,8 +17,6 @@ use Rattle.scope.specs.Operations.{Counts, give, ◌>>=◌}
 use Rattle.scope.specs.Replies.{DONE, Size, first_applying, right_sizes}
 use Rattle.scope.specs.Calls.{state_sizes, state_tests, RunReplied, run_replied, no_request, serve_record, serve_records, run}
 use Rattle.geometry.specs.Sizes.{piece_inside}
-use Rattle.replies.specs.declared.Request.{Request as Asked}
-use Rattle.replies.specs.Model.{request}
 use Rattle.running.specs.declared.Running.{Running}
 use Rattle.scope.specs.Holding.{Answers}
 use Rattle.replies.specs.Answers.{does_answers, refuses, admits}
@@ -120,12 +118,12 @@ runs_ready g requests {n} {i} {a} {b} {s} {s'} {words} {answers} admits h ran no
       answer_fits = omega (arith, ap (λ (r : RunReplied). length r.answers) did.value, kept.answers_long, start.answers_long);
     }
 
--- ---- lent requests
+-- ---- a walk through the requests
 
--- The first n of a lent slice of requests, as a walk through them says it.
-pub record Ran (g : Geometry) (asked : List Asked) (n : ℕ) (a : Running) (s : State) (words answers census filter : List ℕ)
+-- The first n requests, as a walk through them says it.
+pub record Ran (g : Geometry) (requests : List Request) (n : ℕ) (a : Running) (s : State) (words answers census filter : List ℕ)
     (b : Running) (s' : State) (words' answers' census' filter' : List ℕ) : Type 0 where
-  pub runs : Runs (serve_records g (map request asked) n) a s words answers b s' words' answers'
+  pub runs : Runs (serve_records g requests n) a s words answers b s' words' answers'
   pub noted : Noted g s census filter → Noted g s' census' filter'
 
 -- ---- the whole

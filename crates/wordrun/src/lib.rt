@@ -5,12 +5,11 @@
 ghost use Rattle.std.specs.Prelude.{◌/◌, ◌%◌, length};
 ghost use Rattle.lent.specs.Model.{geometry, state, words as lent-words};
 ghost use Rattle.lent.specs.Reply.{reply};
-ghost use Rattle.scope.specs.Calls.{run_replied, serve_records, run};
+ghost use Rattle.scope.specs.Calls.{run_replied, run};
 ghost use Rattle.scope.specs.Boundary.{requests_of, tf_run};
 ghost use Rattle.scope.specs.Holding.{Answers, Gives};
 ghost use Rattle.replies.specs.Sizes.{beside_run};
-ghost use Rattle.running.specs.Serve.{Runs};
-ghost use Rattle.running.specs.Ran.{Tested};
+ghost use Rattle.running.specs.Ran.{Tested, Ran};
 
 use lent::{CENSUS_WORDS, FILTER_WORDS, Geometry, Record};
 use replies::Out;
@@ -35,11 +34,11 @@ fn serve_words(
 ) -> Running
     requires { Tested (geometry g) (length requests.now / 2) first
         (state chip.old spare.old directory.old cache.old first.rec) words.old answers.old census.old filter.old }
-    ensures { Runs (serve_records (geometry g) (requests_of requests.now) (length requests.now / 2)) first
+    ensures { Ran (geometry g) (requests_of requests.now) (length requests.now / 2) first
         (state chip.old spare.old directory.old cache.old first.rec)
-        words.old answers.old result
+        words.old answers.old census.old filter.old result
         (state chip.new spare.new directory.new cache.new result.rec)
-        words.new answers.new }
+        words.new answers.new census.new filter.new }
 {
     let n = requests.len() / REQUEST_WORDS;
     let mut cur = first;
