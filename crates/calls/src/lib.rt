@@ -5,16 +5,18 @@
 
 ghost use Rattle.std.specs.Prelude.{length};
 ghost use Rattle.lent.specs.Model.{geometry, state};
+ghost use Rattle.lent.specs.Reply.{reply};
 ghost use Rattle.scope.specs.Calls.{format, check, read, write};
 ghost use Rattle.scope.specs.Requests.{replied};
 ghost use Rattle.scope.specs.Boundary.{call_sizes};
 ghost use Rattle.scope.specs.Holding.{Answers};
 
-use admission::{check_answer, single_answer};
+use admission::{test_for_check, test_single};
+use lent::reply::Reply;
 use lent::{CENSUS_WORDS, FILTER_WORDS, Geometry, Record, Work};
 use replies::counting::{NO_COUNTS, put_counts, put_none};
-use replies::tests::{DONE, lengths_right, size_answer};
-use replies::{KIND_READ, KIND_WRITE, Out, Request};
+use replies::tests::{lengths_right, test_sizes};
+use replies::{Kind, Out, Request};
 use requests::answers;
 
 // The old state isn't tested.
@@ -31,12 +33,12 @@ pub fn format(
     ensures { Answers
         (format (geometry g) (call_sizes record_words (length counts.old))
         (state chip.old spare.old directory.old cache.old rec))
-        counts.old result.answer
+        counts.old (reply result.answer)
         (state chip.new spare.new directory.new cache.new result.rec)
         counts.new }
 {
     let right = lengths_right(record_words, counts.len());
-    let answer = size_answer(
+    let sizes = test_sizes(
         g,
         right,
         chip.len(),
@@ -44,16 +46,18 @@ pub fn format(
         directory.len(),
         cache.len(),
     );
-    if answer != DONE {
+    if let Err(refusal) = sizes {
         put_none(counts);
-        return Out { answer, rec };
+        return Out {
+            answer: Reply::Refused(refusal),
+            rec,
+        };
     }
     let fresh = formatting::format(g, chip, spare, directory, cache);
     put_counts(counts, fresh.counts);
-    let new = fresh.rec;
     Out {
-        answer: DONE,
-        rec: new,
+        answer: Reply::Done,
+        rec: fresh.rec,
     }
 }
 
@@ -67,18 +71,18 @@ pub fn check(
     directory: &[u32],
     cache: &[u32],
     counts: &mut [u32],
-) -> u32
+) -> Reply
     ensures { Answers
         (check (geometry g) (call_sizes record_words (length counts.old))
         (state chip.now spare.now directory.now cache.now rec))
-        counts.old result
+        counts.old (reply result)
         (state chip.now spare.now directory.now cache.now rec)
         counts.new }
 {
     let right = lengths_right(record_words, counts.len());
-    let answer = check_answer(rec, right, g, chip, spare, directory, cache);
+    let tests = test_for_check(rec, right, g, chip, spare, directory, cache);
     put_none(counts);
-    answer
+    tests.into()
 }
 
 // Fills the page buffer where the page was written.
@@ -97,18 +101,18 @@ pub fn read(
     ensures { Answers
         (read (geometry g) (call_sizes record_words (length counts.old)) page buffer.old
         (state chip.old spare.old directory.old cache.old rec))
-        counts.old (replied buffer.new result.answer)
+        counts.old (replied buffer.new (reply result.answer))
         (state chip.new spare.new directory.new cache.new result.rec)
         counts.new }
 {
     let mut census = [0u32; CENSUS_WORDS];
     let mut filter = [0u64; FILTER_WORDS];
-    let answer = single_answer(
+    let tests = test_single(
         rec,
         record_words,
         g,
         Request {
-            kind: KIND_READ,
+            kind: Kind::Read.into(),
             page,
         },
         buffer.len(),
@@ -120,9 +124,12 @@ pub fn read(
         &mut census,
         &mut filter,
     );
-    if answer != DONE {
+    if let Err(refusal) = tests {
         put_none(counts);
-        return Out { answer, rec };
+        return Out {
+            answer: Reply::Refused(refusal),
+            rec,
+        };
     }
     let work = Work {
         rec,
@@ -141,10 +148,9 @@ pub fn read(
         buffer,
     );
     put_counts(counts, done.work.counts);
-    let new = done.work.rec;
     Out {
-        answer: done.value,
-        rec: new,
+        answer: done.reply,
+        rec: done.work.rec,
     }
 }
 
@@ -164,18 +170,18 @@ pub fn write(
     ensures { Answers
         (write (geometry g) (call_sizes record_words (length counts.old)) page buffer.now
         (state chip.old spare.old directory.old cache.old rec))
-        counts.old (replied buffer.now result.answer)
+        counts.old (replied buffer.now (reply result.answer))
         (state chip.new spare.new directory.new cache.new result.rec)
         counts.new }
 {
     let mut census = [0u32; CENSUS_WORDS];
     let mut filter = [0u64; FILTER_WORDS];
-    let answer = single_answer(
+    let tests = test_single(
         rec,
         record_words,
         g,
         Request {
-            kind: KIND_WRITE,
+            kind: Kind::Write.into(),
             page,
         },
         buffer.len(),
@@ -187,9 +193,12 @@ pub fn write(
         &mut census,
         &mut filter,
     );
-    if answer != DONE {
+    if let Err(refusal) = tests {
         put_none(counts);
-        return Out { answer, rec };
+        return Out {
+            answer: Reply::Refused(refusal),
+            rec,
+        };
     }
     let work = Work {
         rec,
@@ -208,9 +217,8 @@ pub fn write(
         buffer,
     );
     put_counts(counts, written.work.counts);
-    let new = written.work.rec;
     Out {
-        answer: written.value,
-        rec: new,
+        answer: written.reply,
+        rec: written.work.rec,
     }
 }

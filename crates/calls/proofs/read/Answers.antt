@@ -1,5 +1,7 @@
 -- `calls::read` meets its contract.
+use mathlib.Core.Path.{ap}
 use Rattle.lent.specs.Model.{geometry, counts}
+use Rattle.lent.specs.Reply.{tested, refused_not_done}
 use Rattle.promises.specs.Bounds.{read_bound}
 use Rattle.scope.specs.Requests.{read_steps}
 use Rattle.scope.specs.Calls.{read}
@@ -7,19 +9,19 @@ use Rattle.admission.specs.Room.{read_few}
 use Rattle.calls.specs.Single.{single_ready, single_refused, single_served}
 use Rattle.calls.proofs.read.Goals as goal
 
-pub returns-then-answer-ne-DONE : goal.returns-then-answer-ne-DONE
+pub returns-in-Err : goal.returns-in-Err
 unfolding read
-returns-then-answer-ne-DONE c = let a = c.args in
-    single_refused a.buffer.now c.single_answer-answer.ensures (read_steps (geometry a.g) a.page a.buffer.now)
-    c.if-answer-ne-DONE.true c.put_none.ensures
+returns-in-Err c = let a = c.args in
+    single_refused a.buffer.now (rw (c.into.ensures, c.in-Err.is) at c.test_single-tests.ensures) (read_steps (geometry a.g) a.page a.buffer.now)
+    (refused_not_done c.in-Err.refusal) c.put_none.ensures
 
 pub read-done-requires : goal.read-done-requires
 read-done-requires c = let a = c.args in
-    let ready = single_ready a.buffer.now c.single_answer-answer.ensures (read_bound (geometry a.g)) read_few c.if-answer-ne-DONE.false in
+    let ready = single_ready a.buffer.now (rw c.into.ensures at c.test_single-tests.ensures) (read_bound (geometry a.g)) read_few (ap tested c.in_default.is) in
     record { ready_for = ready.0; noted = ready.1 }
 
 pub returns : goal.returns
 unfolding read
 returns c = let a = c.args in
-    single_served a.buffer.now c.single_answer-answer.ensures (read_steps (geometry a.g) a.page a.buffer.now)
-    (counts c.read-done.result.work.counts) c.if-answer-ne-DONE.false c.read-done.ensures.does_all c.put_counts.ensures
+    single_served a.buffer.now (rw c.into.ensures at c.test_single-tests.ensures) (read_steps (geometry a.g) a.page a.buffer.now)
+    (counts c.read-done.result.work.counts) (ap tested c.in_default.is) c.read-done.ensures.does_all c.put_counts.ensures

@@ -1,4 +1,4 @@
--- `tests::size_answer` meets its contract.
+-- `tests::test_sizes` meets its contract.
 use mathlib.Core.Path.{◌≡◌}
 use mathlib.Core.Bool.{true}
 use borrow.Author.Tests.{not-true, not-false}
@@ -10,7 +10,7 @@ use Rattle.flash.specs.Tests.{refused, passed}
 use Rattle.geometry.specs.Sizes.{sizes}
 use Rattle.replies.specs.Tests.{geometry_refused, length_refused, other_refused, size_admitted}
 use Rattle.flash.specs.Cases.{not_of_false, not_of_true}
-use Rattle.replies.proofs.tests.size_answer.Goals as goal
+use Rattle.replies.proofs.tests.test_sizes.Goals as goal
 
 pub returns-then-not-accepts : goal.returns-then-not-accepts
 returns-then-not-accepts c = geometry_refused (geometry c.args.g) (let a = c.args in right_sizes (sizes (geometry a.g) a.chip a.spare a.directory a.cache)) c.args.others (refused c.accepts.ensures (not_of_false c.if-not-accepts.true))
