@@ -8,16 +8,12 @@ ghost use Rattle.scope.specs.Cache.{entry_at, without};
 use crate::runs::store_three;
 use lent::ENTRY_WORDS;
 
-// The first n words move back by an entry, over those that stood there. From the last one down, so that the compiler sees a move.
+// The first n words move back by an entry, over those that stood there.
 fn shift_back(s: &mut [u32], n: usize)
     requires { n + entry_words ≤ length s.old }
     ensures { s.new ≡ sets s.old entry_words (take n s.old) }
 {
-    let mut i = n;
-    while 0 < i {
-        i -= 1;
-        s[i + ENTRY_WORDS] = s[i];
-    }
+    s.copy_within(0..n, ENTRY_WORDS);
 }
 
 // An entry in front, in the place of the one at rank i.
