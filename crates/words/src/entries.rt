@@ -41,18 +41,10 @@ pub fn among_four(cache: &[u32], i: usize, l: u32) -> usize
     requires { (i + 4) * entry_words ≤ length cache.now }
     ensures { result ≡ lowest 4 (λ k. eqb (logical_at (i + k) cache.now) l) }
 {
-    let at = i * ENTRY_WORDS;
-    if cache[at] == l {
-        return 0;
-    }
-    if cache[at + ENTRY_WORDS] == l {
-        return 1;
-    }
-    if cache[at + 2 * ENTRY_WORDS] == l {
-        return 2;
-    }
-    if cache[at + 3 * ENTRY_WORDS] == l {
-        return 3;
+    for k in 0..4 {
+        if cache[(i + k) * ENTRY_WORDS] == l {
+            return k;
+        }
     }
     4
 }
@@ -71,11 +63,10 @@ pub fn rank_of(cache: &[u32], used: usize, n: usize, l: u32) -> usize
         }
         i += 4;
     }
-    while i < used {
-        if cache[i * ENTRY_WORDS] == l {
-            return i;
+    for rank in i..used {
+        if cache[rank * ENTRY_WORDS] == l {
+            return rank;
         }
-        i += 1;
     }
     n
 }

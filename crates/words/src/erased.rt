@@ -20,10 +20,8 @@ fn sweep(words: &[u32], at: usize, n: usize, bits: u32) -> u32
     ensures { eqb result erased ≡ (eqb bits erased && all n (λ i. is_erased_word words.now (at + i))) }
 {
     let mut left = bits;
-    let mut i = 0;
-    while i < n {
-        left = left & words[at + i];
-        i += 1;
+    for i in 0..n {
+        left &= words[at + i];
     }
     left
 }

@@ -18,10 +18,8 @@ pub fn count_state(spare: &[u32], first: usize, n: usize, state: u32) -> usize
     ensures { result ≡ count n (λ i. eqb (state_of (first + i) spare.now) state) }
 {
     let mut k = 0;
-    let mut i = 0;
-    while i < n {
+    for i in 0..n {
         k += bit(state_at(spare, first + i), state);
-        i += 1;
     }
     k
 }
