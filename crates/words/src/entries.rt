@@ -56,6 +56,7 @@ pub fn rank_of(cache: &[u32], used: usize, n: usize, l: u32) -> usize
     ensures { (result ≤ n) × (result ≡ lowest n (λ i. ltb i used && eqb (logical_at i cache.now) l)) }
 {
     let mut i = 0;
+    // Kept: (b) `position` over the entries, one a turn, takes 1.7 times as long over 300 of them.
     while i + 4 <= used {
         let k = among_four(cache, i, l);
         if k < 4 {

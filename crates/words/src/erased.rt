@@ -31,12 +31,11 @@ pub fn only_erased(words: &[u32]) -> bool
     ensures { result ≡ only_erased words.now }
 {
     let mut bits = ERASED;
-    let mut i = 0;
-    while STRETCH <= words.len() - i {
-        bits = sweep(words, i, STRETCH, bits);
-        i += STRETCH;
+    for k in 0..words.len() / STRETCH {
+        bits = sweep(words, k * STRETCH, STRETCH, bits);
     }
-    sweep(words, i, words.len() - i, bits) == ERASED
+    let rest = words.len() % STRETCH;
+    sweep(words, words.len() - rest, rest, bits) == ERASED
 }
 
 // How far the words from `at` on are erased, by whole steps: behind there may be some more.
@@ -44,12 +43,12 @@ pub fn erased_run(words: &[u32], at: usize) -> usize
     requires { at ≤ length words.now }
     ensures { ErasedRun words.now at result }
 {
-    let mut end = at;
-    while STEP <= words.len() - end {
+    let steps = (words.len() - at) / STEP;
+    for k in 0..steps {
+        let end = at + k * STEP;
         if sweep(words, end, STEP, ERASED) != ERASED {
             return end;
         }
-        end += STEP;
     }
-    end
+    at + steps * STEP
 }
