@@ -7,4 +7,4 @@ use Rattle.scope.specs.Counting.{count}
 use Rattle.words.proofs.census.count_equal.Given as goal
 
 abbrev pub invariant-loop-i : goal.invariant-loop-i
-invariant-loop-i l = (l.i ≤ l.n) × (l.k ≡ count l.i (λ j. eqb (get_or l.census (l.first + j) 0) l.x))
+invariant-loop-i l = l.k ≡ count l.i (λ j. eqb (get_or l.census (l.first + j) 0) l.x)

@@ -9,4 +9,4 @@ abbrev pub sizes : List ℕ → ℕ → ℕ → ℕ
 sizes census first i = get_or census (first + i) 0
 
 abbrev pub invariant-loop-i : goal.invariant-loop-i
-invariant-loop-i l = (l.i ≤ l.n) × BestSoFar (sizes l.census l.first) l.limit l.n l.i l.best.at l.best.size
+invariant-loop-i l = BestSoFar (sizes l.census l.first) l.limit l.n l.i l.best.at l.best.size

@@ -7,4 +7,4 @@ use lib.ListN.{get_or}
 use Rattle.words.proofs.census.lowest_equal.Given as goal
 
 abbrev pub invariant-loop-i : goal.invariant-loop-i
-invariant-loop-i l = (l.i ≤ l.n) × ((k : ℕ) → k < l.i → eqb (get_or l.census (l.first + k) 0) l.x ≡ false)
+invariant-loop-i l = (k : ℕ) → k < l.i → eqb (get_or l.census (l.first + k) 0) l.x ≡ false

@@ -25,7 +25,7 @@ loop-i-preserved c = let a = c.args in (
 )
 
 pub loop-rank-init : goal.loop-rank-init
-loop-rank-init c = c.loop-i.invariant
+loop-rank-init c = c.loop-i.invariant.1
 
 pub returns-then-cache-rank : goal.returns-then-cache-rank
 returns-then-cache-rank c = let a = c.args in
@@ -33,17 +33,15 @@ returns-then-cache-rank c = let a = c.args in
       omega arith,
       first_match a.cache.now a.used a.l i a.n (omega arith) (omega arith)
           (entry_has a.cache.now a.l i (i * entry_words) refl (omega arith) c.if-cache-rank.true)
-          c.loop-rank.invariant.1,
+          c.loop-rank.invariant,
     )
 
 pub loop-rank-preserved : goal.loop-rank-preserved
 loop-rank-preserved c = let a = c.args in
-    let i = c.loop-rank.rank in (
-      omega arith,
-      below_more _ _ c.loop-rank.invariant.1
-          (match_missed a.cache.now a.used a.l i (entry_differs a.cache.now a.l i (i * entry_words) refl (omega arith) c.if-cache-rank.false)),
-    )
+    let i = c.loop-rank.rank in
+    below_more _ _ c.loop-rank.invariant
+    (match_missed a.cache.now a.used a.l i (entry_differs a.cache.now a.l i (i * entry_words) refl (omega arith) c.if-cache-rank.false))
 
 pub returns : goal.returns
 returns c = let a = c.args in
-    (omega arith, sym (no_match a.cache.now a.used a.l a.n (λ i h. c.loop-rank.invariant.1 i (omega arith))))
+    (omega arith, sym (no_match a.cache.now a.used a.l a.n (λ i h. c.loop-rank.invariant i (omega (arith, c.loop-i.invariant.0)))))

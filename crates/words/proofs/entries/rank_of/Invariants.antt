@@ -12,4 +12,4 @@ abbrev pub decreases-loop-i : goal.decreases-loop-i
 decreases-loop-i l = l.used - l.i
 
 abbrev pub invariant-loop-rank : goal.invariant-loop-rank
-invariant-loop-rank l = (l.rank ≤ l.used) × ((k : ℕ) → k < l.rank → matches l.cache l.used l.l k ≡ false)
+invariant-loop-rank l = (k : ℕ) → k < l.rank → matches l.cache l.used l.l k ≡ false

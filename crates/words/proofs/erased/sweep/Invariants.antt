@@ -5,4 +5,4 @@ use Rattle.words.specs.Erased.{Swept}
 use Rattle.words.proofs.erased.sweep.Given as goal
 
 abbrev pub invariant-loop-i : goal.invariant-loop-i
-invariant-loop-i l = (l.i ≤ l.n) × Swept l.words l.at l.bits l.i l.left
+invariant-loop-i l = Swept l.words l.at l.bits l.i l.left

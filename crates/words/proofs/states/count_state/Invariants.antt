@@ -7,4 +7,4 @@ use Rattle.scope.specs.Lent.{state_of}
 use Rattle.words.proofs.states.count_state.Given as goal
 
 abbrev pub invariant-loop-i : goal.invariant-loop-i
-invariant-loop-i l = (l.i ≤ l.n) × (l.k ≡ count l.i (λ j. eqb (state_of (l.first + j) l.spare) l.state))
+invariant-loop-i l = l.k ≡ count l.i (λ j. eqb (state_of (l.first + j) l.spare) l.state)
