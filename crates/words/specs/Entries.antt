@@ -1,8 +1,7 @@
 -- Entries of three words: the first n words moved back by three, and what stands in front of them then.
-use Rattle.std.specs.Prelude.{ℕ, suc, ◌+◌, ◌-◌, ◌*◌, ◌≤◌, ◌<◌, ◌≡◌, refl, Bool, true, false, ◌&&◌, List, [], ◌∷◌, ◌++◌, length, get_or, set, take, drop, eqb, ltb}
-use Rattle.std.proofs.Common.{sym, ap, ◌∙◌, append_assoc, add-one, arith, length-set, drop-cons, drop_at, length-take-le, lt-ltb, le-ltb, eq-eqb, ne_eqb}
+use Rattle.std.specs.Prelude.{ℕ, suc, ◌+◌, ◌-◌, ◌*◌, ◌≤◌, ◌<◌, ◌≡◌, refl, Bool, true, false, ◌&&◌, List, [], ◌∷◌, ◌++◌, length, get_or, take, drop, eqb, ltb}
+use Rattle.std.proofs.Common.{sym, ap, ◌∙◌, append_assoc, add-one, arith, drop-cons, drop_at, length-take-le, lt-ltb, le-ltb, eq-eqb, ne_eqb}
 use Rattle.std.proofs.Math.Bool.{and-false}
-use Rattle.std.proofs.Math.Nat.{sub-zero}
 use Rattle.std.proofs.Math.Numerals.{add-two}
 use Rattle.std.proofs.lemmas.List.Edits.{sets, sets-eq}
 use Rattle.std.proofs.Math.Seq.{length-sets}
@@ -10,8 +9,7 @@ use Rattle.scope.specs.Counting.{lowest}
 use Rattle.scope.specs.Lent.{none, entry_words, logical_at}
 use Rattle.flash.specs.Cases.{below?, true_and}
 use Rattle.flash.specs.Searching.{lowest_is, lowest_unique}
-use Rattle.flash.specs.Stores.{getD_sets_outside}
-use Rattle.words.specs.Runs.{set_before, get_d_any}
+use Rattle.words.specs.Runs.{get_d_any}
 use Rattle.words.specs.Searches.{lowest_fails, lowest_before}
 
 -- Three words stored in front of the moved ones: all that was there, without the three words behind the first n.

@@ -1,5 +1,5 @@
 -- `words::census::count_equal` meets its contract. The invariant: k of the first i numbers are x.
-use Prim.Native.Nat.{◌+◌, ◌≤◌}
+use Prim.Native.Nat.{◌+◌}
 use mathlib.Core.Path.{◌≡◌}
 use lib.Dec.{eqb}
 use lib.ListN.{get_or}

@@ -3,14 +3,10 @@ use Prim.Native.Nat.{ℕ}
 use mathlib.Core.Path.{◌≡◌, subst}
 use native.Mathlib.Omega.{arith}
 use lib.Dec.{ltb}
-use Rattle.words.specs.Searches.{fewest_le, BestSoFar, best_of_none, best_of_more, best_of_all}
+use Rattle.words.specs.Searches.{fewest_le, BestSoFar, best_of_more, best_of_all}
 use Rattle.scope.specs.Counting.{fewest}
 use Rattle.words.proofs.census.fewest_below.Invariants.{sizes}
 use Rattle.words.proofs.census.fewest_below.Goals as goal
-
-pub loop-i-init : goal.loop-i-init
-loop-i-init c = let a = c.args in
-    best_of_none (sizes a.census.now a.first) a.limit a.n
 
 pub loop-i-preserved : goal.loop-i-preserved
 loop-i-preserved c = let a = c.args in

@@ -1,5 +1,5 @@
 -- `words::census::fewest_below` meets its contract. The invariant: the best of the first i numbers.
-use Prim.Native.Nat.{ℕ, ◌+◌, ◌≤◌}
+use Prim.Native.Nat.{ℕ, ◌+◌}
 use mathlib.Core.List.{List}
 use lib.ListN.{get_or}
 use Rattle.words.specs.Searches.{BestSoFar}

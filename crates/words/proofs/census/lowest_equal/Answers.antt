@@ -10,9 +10,6 @@ use Rattle.words.specs.Searches.{lowest_fails}
 use Rattle.flash.specs.Searching.{lowest_unique}
 use Rattle.words.proofs.census.lowest_equal.Goals as goal
 
-pub loop-i-init : goal.loop-i-init
-loop-i-init c = λ k h. absurd (omega arith)
-
 pub returns-then-census-first : goal.returns-then-census-first
 returns-then-census-first c = let a = c.args in (
   omega arith,

@@ -1,7 +1,6 @@
 -- `words::entries::among_four` meets its contract. The loop's invariant: none of the first k entries has the logical page.
-use Prim.Native.Nat.{ℕ, ◌+◌, ◌*◌}
+use Prim.Native.Nat.{◌+◌, ◌*◌}
 use mathlib.Core.Path.{refl, sym}
-use mathlib.Core.Bool.{Bool}
 use native.Mathlib.Omega.{arith}
 use lib.Dec.{eqb}
 use borrow.Author.Count.{below_more}
@@ -10,9 +9,6 @@ use Rattle.flash.specs.Searching.{lowest_unique}
 use Rattle.words.specs.Searches.{lowest_fails}
 use Rattle.words.specs.Entries.{entry_has, entry_differs}
 use Rattle.words.proofs.entries.among_four.Goals as goal
-
-pub loop-k-init : goal.loop-k-init
-loop-k-init c = λ j h. absurd (omega arith)
 
 pub returns-then-cache-i : goal.returns-then-cache-i
 returns-then-cache-i c = let a = c.args in

@@ -7,9 +7,6 @@ use Rattle.scope.specs.Lent.{entry_words}
 use Rattle.words.specs.Entries.{entry_has, entry_differs, match_missed, first_match, match_further, none_further, no_match}
 use Rattle.words.proofs.entries.rank_of.Goals as goal
 
-pub loop-i-init : goal.loop-i-init
-loop-i-init c = (omega arith, λ k h. absurd (omega arith))
-
 pub returns-then-k-lt4 : goal.returns-then-k-lt4
 returns-then-k-lt4 c = let a = c.args in (
   omega arith,
@@ -23,9 +20,6 @@ loop-i-preserved c = let a = c.args in (
   none_further a.cache.now a.l c.loop-i.i 4 c.among_four-k.result c.among_four-k.ensures
       a.used c.loop-i.invariant.1 c.if-k-lt4.false,
 )
-
-pub loop-rank-init : goal.loop-rank-init
-loop-rank-init c = c.loop-i.invariant.1
 
 pub returns-then-cache-rank : goal.returns-then-cache-rank
 returns-then-cache-rank c = let a = c.args in

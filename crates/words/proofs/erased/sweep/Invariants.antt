@@ -1,6 +1,5 @@
 -- `erased::sweep` meets its contract. The loop's invariant: what is left are the bits that `bits` and the first i of the words have in
 -- common.
-use Prim.Native.Nat.{◌≤◌}
 use Rattle.words.specs.Erased.{Swept}
 use Rattle.words.proofs.erased.sweep.Given as goal
 

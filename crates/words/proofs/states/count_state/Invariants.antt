@@ -1,5 +1,5 @@
 -- `words::states::count_state` meets its contract. The invariant: k pages of the first i have the state.
-use Prim.Native.Nat.{◌+◌, ◌≤◌}
+use Prim.Native.Nat.{◌+◌}
 use mathlib.Core.Path.{◌≡◌}
 use lib.Dec.{eqb}
 use Rattle.scope.specs.Counting.{count}
