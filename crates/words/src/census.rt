@@ -34,6 +34,7 @@ pub fn lowest_equal(census: &[u32], first: usize, n: usize, x: u32) -> usize
 }
 
 // The block with the smallest number so far, and that number; n and the limit where none was found.
+// Kept: (d) an Option of the two would be matched at each turn, where the limit makes it one comparison.
 #[derive(Drop)]
 struct Best {
     at: usize,

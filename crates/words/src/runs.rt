@@ -1,4 +1,4 @@
-// Runs of words filled, copied and stored. Each loop is one that the compiler turns into wide stores, and none tests an index twice.
+// Runs of words filled, copied and stored. The compiler makes a memset, a memcpy, a memmove or wide stores of each.
 ghost use Rattle.std.specs.Prelude.{◌≡◌, ◌⊎◌, [], ◌∷◌, ◌+◌, ◌≤◌, length, take, drop, replicate};
 ghost use Rattle.std.proofs.lemmas.List.Edits.{sets};
 ghost use Rattle.scope.specs.Lent.{erased};
