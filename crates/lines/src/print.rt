@@ -6,16 +6,16 @@ ghost use Rattle.lines.specs.Digits.{last_digit, digits, separator, numbers, Put
 pub fn put_answer(out: &mut [u8; 64], reply: u32, counts: [u32; 3]) -> usize
     ensures { Prints out.old (numbers reply counts []) out.new result }
 {
-    let numbers = [reply, counts[0], counts[1], counts[2]];
-    put_line(out, &numbers)
+    let [reads, programs, erases] = counts;
+    put_line(out, &[reply, reads, programs, erases])
 }
 
 // A read that is DONE: the first word too.
 pub fn put_word(out: &mut [u8; 64], reply: u32, counts: [u32; 3], word: u32) -> usize
     ensures { Prints out.old (numbers reply counts (word ∷ [])) out.new result }
 {
-    let numbers = [reply, counts[0], counts[1], counts[2], word];
-    put_line(out, &numbers)
+    let [reads, programs, erases] = counts;
+    put_line(out, &[reply, reads, programs, erases, word])
 }
 
 // Puts the numbers, a space between any two, and a newline; answers how many bytes that is.
@@ -24,10 +24,8 @@ pub fn put_line(out: &mut [u8], numbers: &[u32]) -> usize
     ensures { Prints out.old numbers.now out.new result }
 {
     let mut at = 0;
-    let mut i = 0;
-    while i < numbers.len() {
-        at = put_next(out, at, i, numbers[i]);
-        i += 1;
+    for (i, n) in numbers.iter().enumerate() {
+        at = put_next(out, at, i, *n);
     }
     out[at] = b'\n';
     at + 1

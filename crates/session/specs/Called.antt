@@ -1,5 +1,5 @@
 -- What the program prints of a call in words is what the definitions print: the laws that the proofs of `serve` cite.
-use Rattle.std.specs.Prelude.{ℕ, ◌<◌, ◌≡◌, refl, ◌≢◌, List, [], ◌∷◌, length, get_or, take, replicate}
+use Rattle.std.specs.Prelude.{ℕ, ◌<◌, ◌≡◌, refl, ◌≢◌, List, [], ◌∷◌, length, get_or, take, replicate, None}
 use Rattle.std.proofs.Common.{arith, sym, ap, ap₂, ◌∙◌, subst, eq-eqb, ne_eqb}
 use Rattle.scope.specs.SmallRecord.{SmallRecord, record_words}
 use Rattle.scope.specs.Lent.{State, with_small}
@@ -13,7 +13,6 @@ use Rattle.scope.specs.Holding.{Answers, Gives}
 use Rattle.scope.specs.Laws.SmallRecord.{record_stored}
 use Rattle.scope.specs.Tables.Play.{Line, W, R, made, first_word, printed}
 use Rattle.scope.specs.Tables.Session.{G}
-use Rattle.lines.specs.declared.Parsed.TheVariants.{Other}
 use Rattle.lines.specs.Digits.{numbers, Prints}
 use Rattle.session.specs.Serves.{answered, shown, Serves}
 
@@ -87,5 +86,5 @@ unfolding first_word
 no_word page x h = rw (ne_eqb x.reply DONE h)
 
 -- Another line prints nothing and changes nothing.
-pub other_serves : (s : State) (out : List ℕ) → Serves (shown Other s) s out out 0
+pub other_serves : (s : State) (out : List ℕ) → Serves (shown None s) s out out 0
 other_serves s out = record { puts = record { stored = refl; ends = refl }; left = refl; within = omega arith; counted = refl }
