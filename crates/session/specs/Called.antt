@@ -6,12 +6,12 @@ use Rattle.scope.specs.Lent.{State, with_small}
 use Rattle.scope.specs.Operations.{Step, Outcome, counted}
 use Rattle.scope.specs.Requests.{Replied}
 use Rattle.scope.specs.Replies.{DONE, Size, right_sizes}
-use Rattle.scope.specs.Calls.{read, write}
+use Rattle.scope.specs.Calls.{format, read, write}
 use Rattle.scope.specs.Boundary.{counts_words, call_sizes, words_of_counts, put_counts, Words, InWords, from_words, to_words, word_sizes}
-use Rattle.scope.specs.Boundary.{in_words, tf_read, tf_write}
+use Rattle.scope.specs.Boundary.{in_words, tf_format, tf_read, tf_write}
 use Rattle.scope.specs.Holding.{Answers, Gives}
 use Rattle.scope.specs.Laws.SmallRecord.{record_stored}
-use Rattle.scope.specs.Tables.Play.{Line, W, R, made, first_word, printed}
+use Rattle.scope.specs.Tables.Play.{computed, Line, W, R, formatted, made, first_word, printed}
 use Rattle.scope.specs.Tables.Session.{G}
 use Rattle.lines.specs.Digits.{numbers, Prints}
 use Rattle.session.specs.Serves.{answered, shown, Serves}
@@ -49,6 +49,25 @@ as_printed l o {counts = counts} three a =
   where
     written : put_counts counts (counted o.did) ≡ words_of_counts (counted o.did)
     written = rw (eq-eqb _ _ three)
+
+-- The program's arrays before its first call, and the state that its format leaves: the one that 01's session begins from.
+abbrev unwritten : Words
+unwritten =
+    record {
+      chip = replicate 24 0;
+      spare = replicate 24 0;
+      directory = replicate 2 0;
+      cache = replicate 3 0;
+      small = replicate 6 0;
+      counts = replicate 3 0;
+    }
+
+pub format_begins : (w : Words) (x : ℕ) → Gives (tf_format G unwritten) x w → from_words w ≡ formatted G
+unfolding computed tf_format
+format_begins w x gives = sym (gives_answers (λ (zs : List Size). format G zs) unwritten w x refl refl gives).after ∙ same
+  where
+    same : (format G (call_sizes record_words counts_words) (from_words unwritten)).after ≡ formatted G
+    same = refl
 
 -- The call in words that a line asks for.
 abbrev called : Line → Words → InWords Replied

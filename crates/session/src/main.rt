@@ -8,11 +8,10 @@
 
 mod serve;
 
-use crate::serve::{C, D, L, Node, P, T, W};
+use crate::serve::Node;
 use lines::Line;
 use std::io;
 use std::io::Read;
-use trianglefire::{ENTRY_WORDS, RECORD_WORDS, SPARE_WORDS, tf_format};
 
 // Prints what the line asks for, which ends here.
 fn answer(to: &impl Print, node: &mut Node, line: Line) -> io::Result<()> {
@@ -34,6 +33,7 @@ fn step(to: &impl Print, node: &mut Node, line: Line, byte: u8) -> io::Result<Li
 fn run(from: &mut impl Read, to: &impl Print, node: &mut Node) -> io::Result<()> {
     let mut line = Line::Start;
     let mut buffer = [0u8; 65536];
+    // Kept: a count that no input reaches, since every loop is proved to end.
     for _ in 0..u64::MAX {
         let n = from.read(&mut buffer)?;
         if n == 0 {
@@ -47,27 +47,5 @@ fn run(from: &mut impl Read, to: &impl Print, node: &mut Node) -> io::Result<()>
 }
 
 fn main(rt: HostRuntime) -> io::Result<()> {
-    let mut node = Node {
-        chip: [0; 24],
-        spare: [0; 12 * SPARE_WORDS],
-        directory: [0; 2],
-        cache: [0; ENTRY_WORDS],
-        record: [0; RECORD_WORDS],
-    };
-    let mut counts = [0u32; 3];
-    tf_format(
-        P,
-        W,
-        D,
-        T,
-        L,
-        C,
-        &mut node.chip,
-        &mut node.spare,
-        &mut node.directory,
-        &mut node.cache,
-        &mut node.record,
-        &mut counts,
-    );
-    run(&mut rt.stdin(), &rt, &mut node)
+    run(&mut rt.stdin(), &rt, &mut Node::formatted())
 }

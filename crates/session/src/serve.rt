@@ -1,34 +1,37 @@
 // A line served: the call that it asks for is made, and what the program prints for it is put into lent bytes. The contracts say that
 // these bytes, and the state after, are those of document 01's definitions (specs/Serves.antt).
-ghost use Rattle.scope.specs.Tables.Play.{Line};
+ghost use Rattle.std.specs.Prelude.{◌≡◌};
+ghost use Rattle.scope.specs.Tables.Play.{Line, formatted};
+ghost use Rattle.scope.specs.Tables.Session.{G};
 ghost use Rattle.session.specs.Serves.{answered, shown, Serves};
 
 use lines::Request;
 use lines::print::{put_answer, put_word};
 use std::marker::Model;
-use trianglefire::{ENTRY_WORDS, RECORD_WORDS, SPARE_WORDS, tf_read, tf_write};
+use trianglefire::{ENTRY_WORDS, RECORD_WORDS, SPARE_WORDS, tf_format, tf_read, tf_write};
 
 // G: P = 2, W = 2, D = 3, T = 3, L = 3, C = 1.
-pub const P: u32 = 2;
+// Kept: six constants, as the calls for C take six numbers; of a struct each call would name the fields again.
+const P: u32 = 2;
 
-pub const W: u32 = 2;
+const W: u32 = 2;
 
-pub const D: u32 = 3;
+const D: u32 = 3;
 
-pub const T: u32 = 3;
+const T: u32 = 3;
 
-pub const L: u32 = 3;
+const L: u32 = 3;
 
-pub const C: u32 = 1;
+const C: u32 = 1;
 
 // The words of its 12 pages, of their spare, of its two translation pages' directory, of its one entry, and of the small record.
 #[derive(Drop)]
 pub struct Node {
-    pub chip: [u32; 24],
-    pub spare: [u32; 12 * SPARE_WORDS],
-    pub directory: [u32; 2],
-    pub cache: [u32; ENTRY_WORDS],
-    pub record: [u32; RECORD_WORDS],
+    chip: [u32; 24],
+    spare: [u32; 12 * SPARE_WORDS],
+    directory: [u32; 2],
+    cache: [u32; ENTRY_WORDS],
+    record: [u32; RECORD_WORDS],
 }
 
 // A node is seen as its state.
@@ -42,6 +45,35 @@ impl Model for Node {
 }
 
 impl Node {
+    // A node that is formatted.
+    pub fn formatted() -> Node
+        ensures { result ≡ formatted G }
+    {
+        let mut node = Node {
+            chip: [0; 24],
+            spare: [0; 12 * SPARE_WORDS],
+            directory: [0; 2],
+            cache: [0; ENTRY_WORDS],
+            record: [0; RECORD_WORDS],
+        };
+        let mut counts = [0u32; 3];
+        tf_format(
+            P,
+            W,
+            D,
+            T,
+            L,
+            C,
+            &mut node.chip,
+            &mut node.spare,
+            &mut node.directory,
+            &mut node.cache,
+            &mut node.record,
+            &mut counts,
+        );
+        node
+    }
+
     // Puts what is printed for a line; answers how many bytes that is, 0 for another line. Five numbers take at most 55 bytes.
     pub fn serve(&mut self, asked: Option<Request>, out: &mut [u8; 64]) -> usize
         ensures { Serves (shown asked self.old) self.new out.old out.new result }
