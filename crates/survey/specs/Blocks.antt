@@ -1,8 +1,8 @@
 -- Rule 3 of the n blocks of P pages from block `first` on, in numbers, and how counts of erased pages decide it.
 use Prim.Native.Nat.{ℕ, ◌+◌, ◌-◌, ◌*◌, ◌≤◌, ◌<◌}
-use Rattle.std.specs.Prelude.{◌≡◌, refl, cond, ◌&&◌, ◌||◌, List, ltb, leb}
+use Rattle.std.specs.Prelude.{◌≡◌, ◌≢◌, ◌⊎◌, refl, cond, ◌&&◌, ◌||◌, List, ltb, leb}
 use Rattle.std.proofs.Math.Path.{sym, subst}
-use Rattle.std.proofs.Common.{ap, ap₂, ◌∙◌, add_assoc, add-zero, mul-one, mul-le-mul_left, add-one, eqb-true, eq-eqb, ne_eqb, lt-ltb, le-ltb}
+use Rattle.std.proofs.Common.{⊎_elim, ap, ap₂, ◌∙◌, add_assoc, add-zero, mul-one, mul-le-mul_left, add-one, eqb-true, eq-eqb, ne_eqb, lt-ltb, le-ltb}
 use Rattle.std.proofs.Math.Bool.{Bool, true, false, not}
 use Rattle.std.proofs.Math.Nat.{suc-mul}
 use native.Mathlib.Omega.{arith}
@@ -135,6 +135,13 @@ module _ (P first : ℕ) (spare : List ℕ) (opened : ℕ) where
   -- What block n adds to the total.
   abbrev pub adds : ℕ → ℕ
   adds n = cond (eqb (first + n) opened) 0 (erased_in P spare (first + n))
+
+  pub added : (n found e : ℕ) → found ≡ erased_in P spare (first + n)
+      → ((first + n ≡ opened) × (e ≡ 0)) ⊎ ((first + n ≢ opened) × (e ≡ found)) → e ≡ adds n
+  added n found e is =
+      ⊎_elim
+      (λ h. rw (eq-eqb (first + n) opened h.0) h.1)
+      (λ h. rw (ne_eqb (first + n) opened h.0) (h.1 ∙ is))
 
   -- What others-fit says of block n.
   block : ℕ → Bool
