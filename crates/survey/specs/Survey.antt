@@ -1,20 +1,20 @@
 -- Rules 1 and 3 of the n blocks of P pages from block `first` on, in one walk over the blocks, which counts the valid pages on its way.
 -- Nothing is asked of the slices but that they reach as far as these blocks.
-use Rattle.std.specs.Prelude.{ℕ, ◌+◌, ◌*◌, ◌≤◌, ◌<◌, ◌≡◌, Bool, true, false, not, ◌&&◌, ◌||◌, List, Option, Some, None, MatchOption, eqb, length}
+use Rattle.std.specs.Prelude.{ℕ, ◌+◌, ◌*◌, ◌≤◌, ◌<◌, ◌≡◌, Bool, true, false, ◌&&◌, ◌||◌, List, Option, Some, None, MatchOption, eqb, length}
 use Rattle.std.proofs.Common.{sym, ap, ◌∙◌, add-mul, zero-mul, suc-mul, mul-le-mul_right, add-one, arith}
 use Rattle.scope.specs.Counting.{all, count}
-use Rattle.scope.specs.Geometry.{Geometry, blocks}
+use Rattle.scope.specs.Geometry.{Geometry}
 use Rattle.scope.proofs.Decided.{pages_fit_decided, blocks_fit_decided}
 use Rattle.scope.specs.Laws.Decides.{Decides, by_and}
-use Rattle.scope.specs.Lent.{spare_words, chip_size, spare_size, is_valid}
-use Rattle.scope.specs.Regions.{Region, Data, Translation, owners, first_block, region_blocks, region_pages}
+use Rattle.scope.specs.Lent.{spare_words, is_valid}
+use Rattle.scope.specs.Regions.{Region, owners, first_block, region_blocks, region_pages}
 use Rattle.scope.specs.SmallRecord.{SmallRecord, open_block, next_offset}
 use Rattle.scope.specs.Sound.{PagesFit, BlocksFit}
 use Rattle.flash.specs.Cases.{and_true, true_and, clash}
 use Rattle.flash.specs.Counting.{count_add, count_same, count_le}
 use Rattle.flash.specs.Owners.{valid_in}
-use Rattle.flash.specs.Tests.{all_same, all_add, all_upto, and_passed, decides_by}
-use Rattle.survey.specs.Blocks.{rule_3, rule_3_region, SoFar, so_far_none, so_far_more, stops_here, so_far_all, adds, others_fit, besides}
+use Rattle.flash.specs.Tests.{all_same, all_add, all_upto, decides_by}
+use Rattle.survey.specs.Blocks.{rule_3, rule_3_region, SoFar, so_far_none, so_far_more, stops_here, adds, others_fit, besides}
 use Rattle.survey.specs.Pages.{rule_1, rule_1_region}
 use Rattle.survey.specs.Pages as Pages
 use Rattle.survey.specs.declared.pages.Block.{Block}
@@ -26,25 +26,11 @@ pub record PagesAndBlocks (g : Geometry) (r : Region) (chip spare : List ℕ) (s
   pub pages : PagesFit g r chip spare
   pub blocks : BlocksFit g r spare (open_block r small) (next_offset r small)
 
--- The slices reach as far as the region's blocks do; those of a whole chip reach as far as either region's.
+-- The slices reach as far as the region's blocks do.
 pub record Reaches (g : Geometry) (r : Region) (chip spare census : List ℕ) : Type 0 where
   pub in_chip : (first_block g r + region_blocks g r) * g.P * g.W ≤ length chip
   pub in_spare : (first_block g r + region_blocks g r) * g.P * spare_words ≤ length spare
   pub in_census : first_block g r + region_blocks g r ≤ length census
-
-pub whole_reaches : (g : Geometry) (r : Region) (chip spare census : List ℕ) → length chip ≡ chip_size g → length spare ≡ spare_size g
-    → blocks g ≤ length census → Reaches g r chip spare census
-whole_reaches g r chip spare census chip_fits spare_fits census_fits =
-    let in_pages = mul-le-mul_right g.P (on_chip r) in
-    record {
-      in_chip = omega (arith, mul-le-mul_right g.W in_pages, chip_fits);
-      in_spare = omega (arith, in_pages, spare_fits);
-      in_census = omega (arith, on_chip r, census_fits);
-    }
-  where
-    on_chip : (r : Region) → first_block g r + region_blocks g r ≤ blocks g
-    on_chip Data = omega arith
-    on_chip Translation = omega arith
 
 -- What a walk found: None where what it tests does not hold, else a count, and what the census then has.
 pub record Held (Holds : Type 0) (count : ℕ) (Numbered : Type 0) (valid : ℕ) : Type 0 where
@@ -144,7 +130,7 @@ module _ (W limit P first : ℕ) (chip spare : List ℕ) (opened : ℕ) where
         counted = sym (count_block i ∙ omega (arith, w.counted, l.valid_are));
       }
 
-  -- The walk stops at a block that breaks one of the rules, or ends.
+  -- The walk stops at a block that breaks one of the rules.
   abbrev pub rules : ℕ → Bool
   rules n = others_fit P first spare opened n && besides P first spare opened n && all (n * P) page_fits
 
@@ -157,16 +143,6 @@ module _ (W limit P first : ℕ) (chip spare : List ℕ) (opened : ℕ) where
 
   pub blocks_stop : (i n e : ℕ) → i < n → e ≡ adds P first spare opened i → eqb e P || eqb e 0 ≡ false → rules n ≡ true → ⊥
   blocks_stop i n e h is fails p = clash p (sym (ap (λ (b : Bool). b && all (n * P) page_fits) (stops_here P first spare opened i n e h is fails)))
-
-  pub walked_all : (i n total valid : ℕ) → i ≤ n → n ≤ i → Walked i total valid
-      → (not (eqb total 0) ≡ rules n) × (valid ≡ count (n * P) page_valid)
-  walked_all i n total valid h k w =
-      let is : i ≡ n = omega arith in
-      let fits : all (n * P) page_fits ≡ true = ap (λ (m : ℕ). all (m * P) page_fits) (sym is) ∙ w.fit in
-      let others : Bool = others_fit P first spare opened n && besides P first spare opened n in (
-        so_far_all P first spare opened i n total h k w.so_far ∙ sym (ap (λ (b : Bool). others && b) fits ∙ and_passed others),
-        w.counted ∙ ap (λ (m : ℕ). count (m * P) page_valid) is,
-      )
 
   -- The valid pages so far are no more than the pages.
   pub few_valid : (i total valid : ℕ) → Walked i total valid → valid ≤ i * P
