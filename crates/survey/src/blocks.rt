@@ -29,7 +29,7 @@ impl Area<'_> {
             && count_state(self.spare, first + offset, rest, ERASED) == rest
     }
 
-    // It is one of the blocks.
+    // The same of any numbers: the open block is one of these, and the offset no more than its pages.
     fn opens_at(&self, opened: usize, offset: usize) -> bool
         ensures { result ≡ (leb self.now.first opened && ltb opened (self.now.first + self.now.n) && leb offset self.now.p
             && open_fits self.now.p self.now.spare.now opened offset) }

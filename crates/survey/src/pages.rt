@@ -101,7 +101,7 @@ impl Area<'_> {
 
     // Block b, where the rule holds of each of its pages. Most blocks are wholly erased, and one sweep tells, or have no erased page, and
     // the counts tell; only where they are neither, as the open block, each page is looked at.
-    pub fn look(&self, b: usize) -> Option<Block>
+    pub(crate) fn look(&self, b: usize) -> Option<Block>
         requires { b < self.now.first + self.now.n }
         ensures { MatchOption result (all self.now.p (λ i. rule_1 self.now.w self.now.limit self.now.chip.now self.now.spare.now (b * self.now.p + i)) ≡ false)
             (Looked self.now.w self.now.limit self.now.chip.now self.now.spare.now (b * self.now.p) self.now.p) }
@@ -127,7 +127,7 @@ impl Area<'_> {
 
 impl Block {
     // Its number in the census.
-    pub fn number(&self) -> u32
+    pub(crate) fn number(&self) -> u32
         requires { (self.now.valid < 65536) × (self.now.erased < 65536) }
         ensures { result ≡ self.now.valid + 256 * self.now.erased }
     {
