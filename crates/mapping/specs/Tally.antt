@@ -12,7 +12,7 @@ use Rattle.words.specs.Runs.{get_d_any}
 use Rattle.words.specs.States.{count_next}
 use Rattle.mapping.specs.Named.{owns, is_none, none_owned, past_owned, place_some}
 use Rattle.mapping.specs.declared.tally.Tally.{Tally}
-use Rattle.mapping.specs.declared.tally.Run.{Run}
+use Rattle.mapping.specs.declared.part.Run.{Run}
 
 -- How far a count may go: further than any slice is long.
 abbrev pub most_counted : ℕ

@@ -17,7 +17,6 @@ use Rattle.mapping.specs.Named.{owns, is_none, none_owned}
 use Rattle.mapping.specs.Stored.{stored_nowhere, stored_place}
 use Rattle.mapping.specs.Tally.{Tallied, TalliedWord, TalliedWords, word_none, word_good, tallied_start, tallied_more}
 use Rattle.mapping.specs.declared.tally.Tally.{Tally}
-use Rattle.mapping.specs.declared.places.Reached.{Reached}
 
 -- The words from `at` on that hold the places of the logical pages from `from` on: W of them, or as many as L leaves.
 abbrev pub held_words : Geometry → List ℕ → ℕ → ℕ → List ℕ
@@ -108,11 +107,11 @@ TalliedBetween g chip spare directory t u s r =
     (λ i. stored_none g chip directory (t * g.W + i))
     (λ i. stored_good g chip spare directory (t * g.W + i))
 
--- Translation page t is counted, and perhaps some behind it.
-pub record TalliedFrom (g : Geometry) (chip spare directory : List ℕ) (t : ℕ) (s : Tally) (r : Reached) : Type 0 where
-  pub goes_on : t < r.next
-  pub ends : r.next ≤ M g
-  pub counted : TalliedBetween g chip spare directory t r.next s r.sum
+-- Translation page t is counted, and perhaps some behind it, up to the page that comes next.
+pub record TalliedFrom (g : Geometry) (chip spare directory : List ℕ) (t : ℕ) (s r : Tally) (next : ℕ) : Type 0 where
+  pub goes_on : t < next
+  pub ends : next ≤ M g
+  pub counted : TalliedBetween g chip spare directory t next s r
 
 module _ (g : Geometry) (ok : Accepted g) (small : 0 + g.D * g.P ≤ most_pages) (chip spare directory : List ℕ) (t : ℕ) where
   -- What the pages from t to u store where none of them exists.
