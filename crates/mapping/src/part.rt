@@ -85,11 +85,15 @@ impl Part<'_> {
         let end = self.owners.first + self.owners.n;
         let fours = self.run_of_fours(i);
         let mut found = fours.found;
-        let mut at = fours.at;
-        while at < self.words.len() && (self.words[at] as usize) < end {
+        for at in fours.at..self.words.len() {
+            if end <= self.words[at] as usize {
+                return Run { at, found };
+            }
             found += self.good_at(at);
-            at += 1;
         }
-        Run { at, found }
+        Run {
+            at: self.words.len(),
+            found,
+        }
     }
 }

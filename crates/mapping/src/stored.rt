@@ -26,19 +26,13 @@ impl Flash<'_> {
     {
         let w = self.g.w as usize;
         let page = l as usize;
-        let t = page / w;
-        if self.directory.len() <= t {
-            return NONE;
-        }
-        let e = lent::decode(self.directory[t]);
+        let word = self.directory.get(page / w).copied().unwrap_or(NONE);
+        let e = lent::decode(word);
         let Entry::Place(q) = e else {
             return NONE;
         };
-        let at = (q as usize) * w + page % w;
-        if self.chip.len() <= at {
-            return NONE;
-        }
-        self.chip[at]
+        let at = q as usize * w + page % w;
+        self.chip.get(at).copied().unwrap_or(NONE)
     }
 }
 

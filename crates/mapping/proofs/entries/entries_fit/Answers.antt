@@ -16,7 +16,7 @@ use Rattle.flash.specs.Tests.{decides_by}
 use Rattle.lent.specs.Model.{geometry}
 use Rattle.words.specs.Erased.{only_erased, is_erased_word}
 use Rattle.words.specs.Filter.{Filter}
-use Rattle.mapping.specs.Entries.{used_fit, behind, too_many, entries_by_parts}
+use Rattle.mapping.specs.Entries.{used_fit, too_many, entries_by_parts}
 use Rattle.mapping.specs.Seen.{seen_filter}
 use Rattle.mapping.proofs.entries.entries_fit.Goals.{then-used-g, else-used-g}
 use Rattle.mapping.proofs.entries.entries_fit.Goals as goal

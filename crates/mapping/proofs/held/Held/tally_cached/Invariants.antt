@@ -1,5 +1,5 @@
 -- `held::Held::tally_cached` meets its contract: the places before rank i are counted.
-use Prim.Native.Nat.{◌*◌, ◌≤◌}
+use Prim.Native.Nat.{◌*◌}
 use Rattle.mapping.specs.Tally.{nothing, Tallied}
 use Rattle.mapping.specs.Translated.{cached_none, cached_good}
 use Rattle.mapping.proofs.held.Held.tally_cached.Given as goal

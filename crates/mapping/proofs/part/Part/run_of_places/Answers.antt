@@ -18,5 +18,5 @@ loop-at-preserved c = let s = c.args.self.now in
     let inside = c.loop-at-test.true in
     run_more c.args.i c.loop-at.at c.loop-at.found c.good_at-found.result (length s.words.now) _ _ c.loop-at.invariant inside
     (place_some s.owners.first s.owners.n (get_or s.words.now c.loop-at.at none) s.owners.few
-    (omega (arith, get_d_any s.words.now c.loop-at.at 0 none inside, c.if-self-at.true)))
+    (omega (arith, get_d_any s.words.now c.loop-at.at 0 none inside, c.if-end-self.false)))
     c.good_at-found.ensures
