@@ -1,10 +1,8 @@
 // What flash holds for every logical page, counted in one pass over the translation pages.
-ghost use Rattle.std.specs.Prelude.{◌≡◌, ◌+◌, ◌≤◌, length};
+ghost use Rattle.std.specs.Prelude.{◌≡◌, length};
 ghost use Rattle.scope.specs.Geometry.{Accepted};
 ghost use Rattle.scope.specs.Lent.{chip_size, spare_size, directory_size};
 ghost use Rattle.lent.specs.Model.{geometry};
-ghost use Rattle.words.specs.Erased.{only_erased};
-ghost use Rattle.mapping.specs.PastL.{behind_words};
 ghost use Rattle.mapping.specs.Translated.{NamesOnChip};
 
 use crate::owners::Owners;
@@ -16,7 +14,7 @@ use words::erased::{erased_run, only_erased};
 
 // The map on flash and the spare, in lists of their lengths; the pages that the directory names are on the chip.
 #[derive(Clone, Copy)]
-pub struct Held<'a> {
+pub(crate) struct Held<'a> {
     pub g: Geometry,
     pub chip: &'a [u32],
     pub spare: &'a [u32],
@@ -29,7 +27,7 @@ pub struct Held<'a> {
 }
 
 impl<'a> Held<'a> {
-    ghost use Rattle.std.specs.Prelude.{◌*◌, ◌<◌};
+    ghost use Rattle.std.specs.Prelude.{◌+◌, ◌*◌, ◌≤◌, ◌<◌};
     ghost use Rattle.scope.specs.Geometry.{M};
     ghost use Rattle.scope.specs.Lent.{entry_words};
     ghost use Rattle.scope.specs.Laws.Decides.{Decides};
@@ -83,7 +81,7 @@ impl<'a> Held<'a> {
     }
 
     // What flash stores, for every logical page: the words below L of the pages that the directory names.
-    pub fn tally_stored(&self) -> Tally
+    pub(crate) fn tally_stored(&self) -> Tally
         ensures { Tallied nothing result self.now.g.l
             (stored_none (geometry self.now.g) self.now.chip.now self.now.directory.now)
             (stored_good (geometry self.now.g) self.now.chip.now self.now.spare.now self.now.directory.now) }
@@ -97,7 +95,7 @@ impl<'a> Held<'a> {
     }
 
     // The places of the first `used` entries.
-    pub fn tally_cached(&self, cache: &[u32], used: usize) -> Tally
+    pub(crate) fn tally_cached(&self, cache: &[u32], used: usize) -> Tally
         requires { (used * entry_words ≤ length cache.now) × (used ≤ 4096) }
         ensures { Tallied nothing result used (cached_none cache.now)
             (cached_good (self.now.g.d * self.now.g.p) cache.now self.now.spare.now) }
@@ -115,7 +113,7 @@ impl<'a> Held<'a> {
     }
 
     // What they hide: the words of flash for their logical pages.
-    pub fn tally_hidden(&self, cache: &[u32], used: usize) -> Tally
+    pub(crate) fn tally_hidden(&self, cache: &[u32], used: usize) -> Tally
         requires { (used * entry_words ≤ length cache.now) × (used ≤ 4096) }
         ensures { Tallied nothing result used
             (hidden_none (geometry self.now.g) self.now.chip.now self.now.directory.now cache.now)
@@ -140,7 +138,7 @@ impl<'a> Held<'a> {
     }
 
     // The words past L are none: the last translation page alone has any.
-    pub fn none_past(&self) -> bool
+    pub(crate) fn none_past(&self) -> bool
         ensures { Decides result (PastL (geometry self.now.g) self.now.chip.now self.now.directory.now) }
     {
         let last = self.directory.len() - 1;
@@ -151,16 +149,6 @@ impl<'a> Held<'a> {
         let w = self.g.w as usize;
         let page = q as usize * w;
         let n = self.g.l as usize - last * w;
-        none_behind(self.chip, page, n, w)
+        only_erased(&self.chip[page + n..page + w])
     }
-}
-
-// The w words of the page that starts at `page`, but for the first n of them, are none.
-fn none_behind(chip: &[u32], page: usize, n: usize, w: usize) -> bool
-    requires { (n ≤ w) × (page + w ≤ length chip.now) }
-    ensures { result ≡ only_erased (behind_words chip.now page n w) }
-{
-    let at = page + n;
-    let end = page + w;
-    only_erased(&chip[at..end])
 }

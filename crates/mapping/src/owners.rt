@@ -11,7 +11,7 @@ const PAIR: u64 = 4294967296;
 
 // The n pages from `first` on: their states and owners stand in the spare.
 #[derive(Clone, Copy)]
-pub struct Owners<'a> {
+pub(crate) struct Owners<'a> {
     pub spare: &'a [u32],
     pub first: usize,
     pub n: usize,
@@ -25,7 +25,7 @@ impl Owners<'_> {
 
     // 1 where page `at` is one of these, valid and owned by k, else 0. No branch hangs on what is read: which words of a full chip are
     // stale, nobody can guess.
-    pub fn owned(&self, k: u32, at: usize) -> usize
+    pub(crate) fn owned(&self, k: u32, at: usize) -> usize
         requires { at < self.now.first + self.now.n }
         ensures { result ≡ cond (owns self.now.first self.now.n self.now.spare.now k at) 1 0 }
     {

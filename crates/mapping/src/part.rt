@@ -6,7 +6,7 @@ use crate::owners::Owners;
 
 // Words of a map for the owners from `from` on, each of which should name its owner's page. Neither are more than a chip has pages.
 #[derive(Clone, Copy)]
-pub struct Part<'a> {
+pub(crate) struct Part<'a> {
     pub words: &'a [u32],
     pub from: usize,
     pub owners: Owners<'a>,
@@ -16,7 +16,7 @@ pub struct Part<'a> {
 // How far a run of words reaches, and how many of them count: of words that name pages those that name the page of their owner, of others
 // those that are none.
 #[derive(Drop)]
-pub struct Run {
+pub(crate) struct Run {
     pub at: usize,
     pub found: usize,
 }
@@ -77,7 +77,7 @@ impl Part<'_> {
     }
 
     // The run from word i on of words that all name pages.
-    pub fn run_of_places(&self, i: usize) -> Run
+    pub(crate) fn run_of_places(&self, i: usize) -> Run
         requires { i ≤ length self.now.words.now }
         ensures counted { RunCounted i result.at (length self.now.words.now) (word_none self.now.words.now) 0 (good self.now) result.found }
         ensures stops { result.at < length self.now.words.now → past self.now ≤ get_or self.now.words.now result.at none }

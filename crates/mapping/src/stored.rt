@@ -12,7 +12,7 @@ use lent::{ENTRY_WORDS, Entry, Geometry, NONE};
 // The directory and the chip with the pages that it names. Any words whatever stand in them, so the directory's word is bounded before
 // it is followed.
 #[derive(Clone, Copy)]
-pub struct Flash<'a> {
+pub(crate) struct Flash<'a> {
     pub g: Geometry,
     pub chip: &'a [u32],
     pub directory: &'a [u32],
@@ -21,7 +21,7 @@ pub struct Flash<'a> {
 
 impl Flash<'_> {
     // The word of l's translation page, or none where the page doesn't exist.
-    pub fn stored(&self, l: u32) -> u32
+    pub(crate) fn stored(&self, l: u32) -> u32
         ensures { result ≡ stored (geometry self.now.g) self.now.chip.now self.now.directory.now l }
     {
         let w = self.g.w as usize;

@@ -12,14 +12,14 @@ use words::erased::erased_run;
 use words::states::bit;
 
 #[derive(Clone, Copy, Default)]
-pub struct Tally {
+pub(crate) struct Tally {
     pub nones: usize,
     pub good: usize,
 }
 
 impl Tally {
     // Counts a word, x, whose owner is k. A page comes first: where there are many words they name pages.
-    pub fn add_word(&mut self, owners: &Owners, x: u32, k: u32)
+    pub(crate) fn add_word(&mut self, owners: &Owners, x: u32, k: u32)
         requires room { Room self.old 1 }
         ensures { TalliedWord self.old self.new (is_none x) (owns owners.now.first owners.now.n owners.now.spare.now k x) }
     {
@@ -33,7 +33,7 @@ impl Tally {
 
     // Counts all words of a part. The words of a full chip name pages, one after the other: a run of them is counted apart from those that
     // name none, so that its loops hold little and the compiler keeps all of it in registers.
-    pub fn add_words(&mut self, part: &Part)
+    pub(crate) fn add_words(&mut self, part: &Part)
         requires room { Room self.old (length part.now.words.now) }
         ensures { Tallied self.old self.new (length part.now.words.now) (word_none part.now.words.now) (good part.now) }
     {

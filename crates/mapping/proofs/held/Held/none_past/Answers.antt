@@ -15,12 +15,14 @@ returns-in_default c = let s = c.args.self.now in
     (ap entry (sym c.in_default.is) ∙ c.decode-e.ensures
     ∙ read_here s.directory.now (length s.directory.now - 1) (omega (arith, s.directory_len, s.accepted.M_from)))
 
-pub none_behind-requires : goal.none_behind-requires
-none_behind-requires c = let s = c.args.self.now in (
-  holds_at_most (geometry s.g) s.accepted s.chip.now s.directory.now (length s.directory.now) s.directory_len,
-  read_on_chip (geometry s.g) s.chip.now s.directory.now (length s.directory.now - 1) _ s.chip_len s.directory_len s.names_on_chip
-      (omega (arith, s.directory_len, s.accepted.M_from)) (ap entry (sym c.in-Place.is) ∙ c.decode-e.ensures),
-)
+pub slice_bounds-only_erased-end : goal.slice_bounds-only_erased-end
+slice_bounds-only_erased-end c = let s = c.args.self.now in
+    omega (
+      arith,
+      holds_at_most (geometry s.g) s.accepted s.chip.now s.directory.now (length s.directory.now) s.directory_len,
+      read_on_chip (geometry s.g) s.chip.now s.directory.now (length s.directory.now - 1) _ s.chip_len s.directory_len s.names_on_chip
+          (omega (arith, s.directory_len, s.accepted.M_from)) (ap entry (sym c.in-Place.is) ∙ c.decode-e.ensures),
+    )
 
 pub returns : goal.returns
 returns c = let s = c.args.self.now in
@@ -29,4 +31,4 @@ returns c = let s = c.args.self.now in
     (e ∙ read_here s.directory.now (length s.directory.now - 1) (omega (arith, s.directory_len, s.accepted.M_from)))
     (read_on_chip (geometry s.g) s.chip.now s.directory.now (length s.directory.now - 1) _ s.chip_len s.directory_len s.names_on_chip
     (omega (arith, s.directory_len, s.accepted.M_from)) e)
-    c.none_behind.result c.none_behind.ensures
+    c.only_erased.result c.only_erased.ensures
