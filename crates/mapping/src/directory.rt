@@ -12,7 +12,6 @@ ghost use Rattle.mapping.specs.Maps.{map_names};
 
 use crate::owners::Owners;
 use crate::part::Part;
-use crate::tally::Tally;
 use lent::Geometry;
 
 // Whether the words of a map, one for each owner of the n pages from `first` on, are none or name a valid page of their own, and of these there
@@ -28,8 +27,7 @@ pub fn map_names<'a>(first: usize, n: usize, valid: usize, spare: &'a [u32], map
         from: 0,
         owners,
     };
-    let mut sum = Tally::default();
-    sum.add_words(&part);
+    let sum = part.tally();
     sum.nones + sum.good == map.len() && sum.good == valid
 }
 

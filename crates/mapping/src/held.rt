@@ -54,11 +54,12 @@ impl<'a> Held<'a> {
             return;
         }
         let end = at + n;
-        sum.add_words(&Part {
+        let part = Part {
             words: &self.chip[at..end],
             from,
             owners,
-        });
+        };
+        sum.add(part.tally());
     }
 
     // Counts what translation page t stores, for as many logical pages as it holds; where there is no such page, so many nones as it and

@@ -1,8 +1,12 @@
-// A part of a map, and the runs of its words that name pages.
+// A part of a map and the counts of its words, by runs of those that name pages and of those that don't.
 ghost use Rattle.std.specs.Prelude.{◌+◌, ◌≤◌, length};
 ghost use Rattle.scope.specs.Geometry.{most_pages};
 
 use crate::owners::Owners;
+use crate::tally::Tally;
+use lent::NONE;
+use words::erased::erased_run;
+use words::states::bit;
 
 // Words of a map for the owners from `from` on, each of which should name its owner's page. Neither are more than a chip has pages.
 #[derive(Clone, Copy)]
@@ -25,7 +29,7 @@ impl Part<'_> {
     ghost use Rattle.std.specs.Prelude.{◌≡◌, true, cond, ◌<◌, get_or};
     ghost use Rattle.scope.specs.Counting.{count};
     ghost use Rattle.scope.specs.Lent.{none};
-    ghost use Rattle.mapping.specs.Tally.{RunCounted, Places, word_none};
+    ghost use Rattle.mapping.specs.Tally.{nothing, Tallied, RunCounted, NonesRun, Places, word_none};
     ghost use Rattle.mapping.specs.Part.{past, good};
 
     // 1 where word `at`, which names a page, names that of its owner, else 0.
@@ -77,7 +81,7 @@ impl Part<'_> {
     }
 
     // The run from word i on of words that all name pages.
-    pub(crate) fn run_of_places(&self, i: usize) -> Run
+    fn run_of_places(&self, i: usize) -> Run
         requires { i ≤ length self.now.words.now }
         ensures counted { RunCounted i result.at (length self.now.words.now) (word_none self.now.words.now) 0 (good self.now) result.found }
         ensures stops { result.at < length self.now.words.now → past self.now ≤ get_or self.now.words.now result.at none }
@@ -95,5 +99,41 @@ impl Part<'_> {
             at: self.words.len(),
             found,
         }
+    }
+
+    // The run from word i on of words that name none: word i itself, whatever it is, and those behind it that are none. They are swept,
+    // not looked at: a fresh chip's directory has nothing else.
+    fn run_of_nones(&self, i: usize) -> Run
+        requires { i < length self.now.words.now }
+        ensures { NonesRun self.now.words.now i result }
+    {
+        let nowhere = bit(self.words[i], NONE);
+        let behind = i + 1;
+        let at = erased_run(self.words, behind);
+        Run {
+            at,
+            found: nowhere + (at - behind),
+        }
+    }
+
+    // The counts of all its words. The words of a full chip name pages, one after the other: a run of them is counted apart from those that
+    // name none, so that its loops hold little and the compiler keeps all of it in registers; of a copy, whose fields no loop reads anew.
+    pub(crate) fn tally(&self) -> Tally
+        ensures { Tallied nothing result (length self.now.words.now) (word_none self.now.words.now) (good self.now) }
+    {
+        let part = *self;
+        let mut sum = Tally::default();
+        let mut i = 0;
+        while i < part.words.len() {
+            let run = part.run_of_places(i);
+            sum.good += run.found;
+            i = run.at;
+            if i < part.words.len() {
+                let rest = part.run_of_nones(i);
+                sum.nones += rest.found;
+                i = rest.at;
+            }
+        }
+        sum
     }
 }
