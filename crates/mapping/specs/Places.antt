@@ -5,12 +5,12 @@ use Rattle.std.specs.Prelude.{ℕ, ◌+◌, ◌*◌, ◌≤◌, ◌<◌, ◌≡�
 use Rattle.std.proofs.Common.{zero-mul, arith, sym, ap, ◌∙◌, subst, ltb-true, lt-ltb, eqb-true, eq-eqb}
 use Rattle.scope.specs.Counting.{count}
 use Rattle.scope.specs.Geometry.{Geometry, Accepted}
-use Rattle.scope.specs.Laws.Decides.{Decides}
+use Rattle.scope.specs.Laws.Decides.{Decides, by_same}
 use Rattle.scope.specs.Lent.{State, decode, logical_at, physical_at}
 use Rattle.scope.specs.Regions.{Data}
-use Rattle.scope.specs.Sound.{OwnersDiffer, Names, EntriesFit, rank_of, stored, current}
+use Rattle.scope.specs.Sound.{OwnersDiffer, Names, EntriesFit, PlacesHold, PastL, rank_of, stored, current}
 use Rattle.flash.specs.Bounded.{accepted_bounded, region_few}
-use Rattle.flash.specs.Cases.{on, and_true, true_and}
+use Rattle.flash.specs.Cases.{on, clash, and_true, true_and}
 use Rattle.flash.specs.Counting.{count_same, count_split, count_into}
 use Rattle.flash.specs.Tests.{same_test}
 use Rattle.flash.specs.Owners.{OwnersFit, valid_in}
@@ -24,6 +24,17 @@ use Rattle.mapping.specs.declared.tally.Tally.{Tally}
 abbrev pub CurrentPlaces : Geometry → State → Type 0
 CurrentPlaces g s =
     OwnersDiffer g Data s.spare × ((l : ℕ) → l < g.L → Names g Data s.spare l (decode (current g s l)))
+
+-- Where the first fails the rules do; where it holds the second tells.
+module _ {a : Bool} (g : Geometry) (s : State) (first : Decides a (CurrentPlaces g s)) where
+  pub first_fails : a ≡ false → Decides a (OwnersDiffer g Data s.spare × PlacesHold g s)
+  first_fails p = record { holds = λ q. clash q p; passes = λ x. first.passes (x.0, x.1.current_place) }
+
+  pub second_tells : {b : Bool} → a ≡ true → Decides b (PastL g s.chip s.directory)
+      → Decides b (OwnersDiffer g Data s.spare × PlacesHold g s)
+  second_tells p second =
+      let both = first.holds p in
+      by_same (λ x. (both.0, record { current_place = both.1; past_L = x })) (λ f. f.1.past_L) second
 
 module _ (g : Geometry) (s : State) (fits : EntriesFit g s.cache s.small.used) where
   abbrev rank : ℕ → ℕ
