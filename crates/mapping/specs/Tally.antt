@@ -1,4 +1,4 @@
--- What the counts of src/tally.rt say, of one word and of a list of words.
+-- What the counts of src/tally.rt and src/part.rt say, of one word and of a list of words.
 use Rattle.std.specs.Prelude.{ℕ, ◌+◌, ◌-◌, ◌≤◌, ◌<◌, ◌≡◌, refl, Bool, false, cond, List, length, get_or}
 use Rattle.std.proofs.Common.{arith, add-one, ap, ◌∙◌, eq-eqb}
 use Rattle.scope.specs.Counting.{count}

@@ -89,6 +89,7 @@ impl<'a> Held<'a> {
     {
         let mut sum = Tally::default();
         let mut t = 0;
+        // Kept: (d) a turn passes as many pages as its run has: no range steps so.
         while t < self.directory.len() {
             t = self.tally_from(&mut sum, t);
         }

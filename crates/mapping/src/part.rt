@@ -73,6 +73,7 @@ impl Part<'_> {
     {
         let mut found = 0;
         let mut at = i;
+        // Kept: (d) a turn takes four words or ends the run, and their place tells the owners: an iterator would need the place beside it.
         while at + 4 <= self.words.len() && self.four_places(at) {
             found += self.four_good(at);
             at += 4;
@@ -124,6 +125,7 @@ impl Part<'_> {
         let part = *self;
         let mut sum = Tally::default();
         let mut i = 0;
+        // Kept: (d) a turn goes as far as its runs do: no range steps so.
         while i < part.words.len() {
             let run = part.run_of_places(i);
             sum.good += run.found;
