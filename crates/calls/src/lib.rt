@@ -17,7 +17,8 @@ use lent::{CENSUS_WORDS, FILTER_WORDS, Geometry, Record, Work};
 use replies::counting::{NO_COUNTS, put_counts, put_none};
 use replies::tests::{lengths_right, test_sizes};
 use replies::{Kind, Out, Request};
-use requests::answers;
+use requests::node::Node;
+use steps::flash::Flash;
 
 // The old state isn't tested.
 pub fn format(
@@ -135,22 +136,24 @@ pub fn read(
         rec,
         counts: NO_COUNTS,
     };
-    let done = answers::read(
-        work,
+    let flash = Flash {
         g,
-        page,
         chip,
         spare,
-        &mut census,
+        census: &mut census,
+    };
+    let mut node = Node {
+        work,
+        flash,
         directory,
         cache,
-        &mut filter,
-        buffer,
-    );
-    put_counts(counts, done.work.counts);
+        filter: &mut filter,
+    };
+    let answer = node.read(page, buffer);
+    put_counts(counts, node.work.counts);
     Out {
-        answer: done.reply,
-        rec: done.work.rec,
+        answer,
+        rec: node.work.rec,
     }
 }
 
@@ -204,21 +207,23 @@ pub fn write(
         rec,
         counts: NO_COUNTS,
     };
-    let written = answers::write(
-        work,
+    let flash = Flash {
         g,
-        page,
         chip,
         spare,
-        &mut census,
+        census: &mut census,
+    };
+    let mut node = Node {
+        work,
+        flash,
         directory,
         cache,
-        &mut filter,
-        buffer,
-    );
-    put_counts(counts, written.work.counts);
+        filter: &mut filter,
+    };
+    let answer = node.write(page, buffer);
+    put_counts(counts, node.work.counts);
     Out {
-        answer: written.reply,
-        rec: written.work.rec,
+        answer,
+        rec: node.work.rec,
     }
 }

@@ -7,9 +7,9 @@ ghost use Rattle.mapping.specs.Translated.{NamesOnChip};
 
 use crate::owners::Owners;
 use crate::part::Part;
-use crate::stored::Flash;
+use crate::stored::Stored;
 use crate::tally::Tally;
-use lent::{ENTRY_WORDS, Entry, Geometry};
+use lent::{ENTRY_WORDS, Geometry};
 use words::erased::{erased_run, only_erased};
 
 // The map on flash and the spare, in lists of their lengths; the pages that the directory names are on the chip.
@@ -71,8 +71,7 @@ impl<'a> Held<'a> {
     {
         let w = self.g.w as usize;
         let from = t * w;
-        let e = lent::decode(self.directory[t]);
-        let Entry::Place(q) = e else {
+        let Some(q) = lent::decode(self.directory[t]) else {
             let next = erased_run(self.directory, t + 1);
             sum.nones += (next * w).min(self.g.l as usize) - from;
             return next;
@@ -121,7 +120,7 @@ impl<'a> Held<'a> {
             (hidden_none (geometry self.now.g) self.now.chip.now self.now.directory.now cache.now)
             (hidden_good (geometry self.now.g) self.now.chip.now self.now.spare.now self.now.directory.now cache.now) }
     {
-        let flash = Flash {
+        let flash = Stored {
             g: self.g,
             chip: self.chip,
             directory: self.directory,
@@ -144,8 +143,7 @@ impl<'a> Held<'a> {
         ensures { Decides result (PastL (geometry self.now.g) self.now.chip.now self.now.directory.now) }
     {
         let last = self.directory.len() - 1;
-        let e = lent::decode(self.directory[last]);
-        let Entry::Place(q) = e else {
+        let Some(q) = lent::decode(self.directory[last]) else {
             return true;
         };
         let w = self.g.w as usize;

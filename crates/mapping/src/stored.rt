@@ -7,19 +7,19 @@ ghost use Rattle.scope.specs.Sound.{stored, UnchangedAgree};
 ghost use Rattle.lent.specs.Model.{geometry};
 ghost use Rattle.mapping.specs.Stored.{parts, agrees};
 
-use lent::{ENTRY_WORDS, Entry, Geometry, NONE};
+use lent::{ENTRY_WORDS, Geometry, NONE};
 
 // The directory and the chip with the pages that it names. Any words whatever stand in them, so the directory's word is bounded before
 // it is followed.
 #[derive(Clone, Copy)]
-pub(crate) struct Flash<'a> {
+pub(crate) struct Stored<'a> {
     pub g: Geometry,
     pub chip: &'a [u32],
     pub directory: &'a [u32],
     pub ghost accepted: { Accepted (geometry g) },
 }
 
-impl Flash<'_> {
+impl Stored<'_> {
     // The word of l's translation page, or none where the page doesn't exist.
     pub(crate) fn stored(&self, l: u32) -> u32
         ensures { result ≡ stored (geometry self.now.g) self.now.chip.now self.now.directory.now l }
@@ -27,8 +27,7 @@ impl Flash<'_> {
         let w = self.g.w as usize;
         let page = l as usize;
         let word = self.directory.get(page / w).copied().unwrap_or(NONE);
-        let e = lent::decode(word);
-        let Entry::Place(q) = e else {
+        let Some(q) = lent::decode(word) else {
             return NONE;
         };
         let at = q as usize * w + page % w;
@@ -37,12 +36,12 @@ impl Flash<'_> {
 }
 
 // The entry at rank i, where it is unchanged, has the place that flash holds.
-fn agrees(flash: &Flash, cache: &[u32], i: usize) -> bool
+fn agrees(held: &Stored, cache: &[u32], i: usize) -> bool
     requires { i * entry_words + entry_words ≤ length cache.now }
-    ensures { result ≡ agrees (geometry flash.now.g) flash.now.chip.now flash.now.directory.now cache.now i }
+    ensures { result ≡ agrees (geometry held.now.g) held.now.chip.now held.now.directory.now cache.now i }
 {
     cache[i * ENTRY_WORDS + 2] != 0
-        || cache[i * ENTRY_WORDS + 1] == flash.stored(cache[i * ENTRY_WORDS])
+        || cache[i * ENTRY_WORDS + 1] == held.stored(cache[i * ENTRY_WORDS])
 }
 
 // Rule 7. At most C steps: the entries in use.
@@ -58,9 +57,9 @@ pub fn unchanged_agree(
     requires used_le_c { used ≤ g.c }
     ensures { Decides result (UnchangedAgree (geometry g) (parts chip.now [] directory.now cache.now used)) }
 {
-    let flash = Flash { g, chip, directory };
+    let held = Stored { g, chip, directory };
     for i in 0..used as usize {
-        if !agrees(&flash, cache, i) {
+        if !agrees(&held, cache, i) {
             return false;
         }
     }
