@@ -87,6 +87,7 @@ pub fn check(
 }
 
 // Fills the page buffer where the page was written.
+// Kept: `read` and `write` stand apart, as a closure for the steps would have the work, the lent lists and both notes in its `pre` and `post`.
 pub fn read(
     rec: Record,
     record_words: usize,
