@@ -133,28 +133,28 @@ pub fn read(
             rec,
         };
     }
-    let work = Work {
+    let mut work = Work {
         rec,
         counts: NO_COUNTS,
     };
-    let flash = Flash {
+    let mut flash = Flash {
         g,
         chip,
         spare,
         census: &mut census,
     };
     let mut node = Node {
-        work,
-        flash,
+        work: &mut work,
+        flash: &mut flash,
         directory,
         cache,
         filter: &mut filter,
     };
     let answer = node.read(page, buffer);
-    put_counts(counts, node.work.counts);
+    put_counts(counts, work.counts);
     Out {
         answer,
-        rec: node.work.rec,
+        rec: work.rec,
     }
 }
 
@@ -204,27 +204,27 @@ pub fn write(
             rec,
         };
     }
-    let work = Work {
+    let mut work = Work {
         rec,
         counts: NO_COUNTS,
     };
-    let flash = Flash {
+    let mut flash = Flash {
         g,
         chip,
         spare,
         census: &mut census,
     };
     let mut node = Node {
-        work,
-        flash,
+        work: &mut work,
+        flash: &mut flash,
         directory,
         cache,
         filter: &mut filter,
     };
     let answer = node.write(page, buffer);
-    put_counts(counts, node.work.counts);
+    put_counts(counts, work.counts);
     Out {
         answer,
-        rec: node.work.rec,
+        rec: work.rec,
     }
 }
