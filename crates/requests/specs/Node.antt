@@ -5,7 +5,10 @@ use Rattle.std.proofs.Common.{sym, ◌∙◌}
 use Rattle.scope.specs.Geometry.{Geometry}
 use Rattle.scope.specs.Lent.{State}
 use Rattle.scope.specs.Operations.{Step}
+use Rattle.lent.specs.declared.Geometry.{Geometry as Numbers}
 use Rattle.lent.specs.declared.Record.{Record}
+use Rattle.words.specs.Filter.{filter_of}
+use Rattle.words.specs.Noted.{Noted}
 use Rattle.lent.specs.Model.{geometry, state}
 use Rattle.lent.specs.Ready.{DoesAll}
 use Rattle.steps.specs.Flash.{SameFlash, same_lent, then_same}
@@ -23,6 +26,16 @@ pub held_is : {chip spare directory cache : List ℕ} {r : Record} (n : Node) �
     → directory ≡ n.directory.now → cache ≡ n.cache.now → r ≡ n.work.now.rec
     → held n ≡ state chip spare directory cache r
 held_is n a b c d e = λ i. sym (λ j. state (a j) (b j) (c j) (d j) (e j)) i
+
+-- The notes that it finds there.
+pub node_noted : {g : Numbers} {chip spare directory cache census filter : List ℕ} {r : Record} (n : Node) → n.flash.now.g ≡ g
+    → spare ≡ n.flash.now.spare.now → census ≡ n.flash.now.census.now → cache ≡ n.cache.now → r ≡ n.work.now.rec → filter ≡ n.filter.now
+    → Noted (geometry g) (state chip spare directory cache r) census filter
+node_noted n e a b c d f =
+    record {
+      counted = rw (← e, a, b) n.flash.now.counted;
+      filtered = rw (c, d, f) (filter_of n.filtered);
+    }
 
 -- The geometry and the slices are those before.
 pub record SameLists {N : Type 0} (work work' flash flash' directory directory' cache cache' filter filter' : N) : Type 0 where

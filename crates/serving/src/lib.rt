@@ -10,20 +10,22 @@ ghost use Rattle.lent.specs.Reply.{reply, tested};
 ghost use Rattle.scope.specs.Calls.{serve};
 ghost use Rattle.scope.specs.Replies.{DONE};
 ghost use Rattle.admission.specs.Room.{most_cost};
-ghost use Rattle.words.specs.Noted.{Noted};
 ghost use Rattle.running.specs.Serve.{Serving, Served};
-ghost use Rattle.lent.specs.Ready.{DoesAll, ReadyFor};
+ghost use Rattle.lent.specs.Ready.{ReadyFor};
+ghost use Rattle.requests.specs.Node.{under, held, NodeDoes};
 ghost use Rattle.replies.specs.Model.{request, kind};
 ghost use Rattle.replies.specs.Sizes.{beside_run};
 ghost use Rattle.running.specs.Ends.{Begun, Finished};
 
 use admission::test_state;
-use lent::{Answered, CENSUS_WORDS, FILTER_WORDS, Geometry, Record, Work};
+use lent::reply::Reply;
+use lent::{CENSUS_WORDS, FILTER_WORDS, Geometry, Record, Work};
 use replies::counting::{NO_COUNTS, put_counts};
 use replies::tests::{run_lengths_right, test_request};
 use replies::{Kind, Out, Request};
-use requests::answers::{read, write};
+use requests::node::Node;
 use running::Running;
+use steps::flash::Flash;
 
 // The tests of a run of n requests, with the lengths of all that it lends. `record_words` is as in crate calls; `odd_words` are the request words
 // that C lends beyond whole requests.
@@ -58,38 +60,23 @@ pub fn begin(
 }
 
 // The steps of a request that has passed its tests.
-fn serve_request(
-    work: Work,
-    g: Geometry,
-    asked: Kind,
-    q: Request,
-    chip: &mut [u32],
-    spare: &mut [u32],
-    directory: &mut [u32],
-    cache: &mut [u32],
-    census: &mut [u32; CENSUS_WORDS],
-    filter: &mut [u64; FILTER_WORDS],
-    buffer: &mut [u32],
-) -> Answered
+fn serve_request(node: &mut Node, asked: Kind, q: Request, buffer: &mut [u32]) -> Reply
     requires asked { kind asked ≡ q.kind }
-    requires ready_for { ReadyFor q.page (geometry g) (state chip.old spare.old directory.old cache.old work.rec) most_cost work.counts
-        × (length buffer.old ≡ g.w) }
-    requires noted { Noted (geometry g) (state chip.old spare.old directory.old cache.old work.rec) census.old filter.old }
-    ensures does_all { DoesAll (serve (geometry g) (request q) buffer.old)
-        (state chip.old spare.old directory.old cache.old work.rec) work
-        (replied buffer.new (reply result.reply))
-        (state chip.new spare.new directory.new cache.new result.work.rec) result.work }
-    ensures still_noted { Noted (geometry g)
-        (state chip.new spare.new directory.new cache.new result.work.rec)
-        census.new filter.new }
+    requires ready_for { ReadyFor q.page (under node.old) (held node.old) most_cost node.old.work.now.counts
+        × (length buffer.old ≡ node.old.flash.now.g.w) }
+    ensures does { NodeDoes (serve (under node.old) (request q) buffer.old) node.old (replied buffer.new (reply result)) node.new }
+    ensures work_kept { node.new.work.ghost_name ≡ node.old.work.ghost_name }
+    ensures flash_kept { node.new.flash.ghost_name ≡ node.old.flash.ghost_name }
+    ensures chip_kept { node.new.flash.now.chip.ghost_name ≡ node.old.flash.now.chip.ghost_name }
+    ensures spare_kept { node.new.flash.now.spare.ghost_name ≡ node.old.flash.now.spare.ghost_name }
+    ensures census_kept { node.new.flash.now.census.ghost_name ≡ node.old.flash.now.census.ghost_name }
+    ensures directory_kept { node.new.directory.ghost_name ≡ node.old.directory.ghost_name }
+    ensures cache_kept { node.new.cache.ghost_name ≡ node.old.cache.ghost_name }
+    ensures filter_kept { node.new.filter.ghost_name ≡ node.old.filter.ghost_name }
 {
     match asked {
-        Kind::Read => read(
-            work, g, q.page, chip, spare, census, directory, cache, filter, buffer,
-        ),
-        Kind::Write => write(
-            work, g, q.page, chip, spare, census, directory, cache, filter, buffer,
-        ),
+        Kind::Read => node.read(q.page, buffer),
+        Kind::Write => node.write(q.page, buffer),
     }
 }
 
@@ -129,26 +116,29 @@ pub fn serve(
     let w = g.w as usize;
     let from = i * w;
     let to = from + w;
-    let counts = cur.counts;
-    let rec = cur.rec;
-    let done = serve_request(
-        Work { rec, counts },
+    let mut work = Work {
+        rec: cur.rec,
+        counts: cur.counts,
+    };
+    let mut flash = Flash {
         g,
-        asked,
-        q,
         chip,
         spare,
+        census,
+    };
+    let mut node = Node {
+        work: &mut work,
+        flash: &mut flash,
         directory,
         cache,
-        census,
         filter,
-        &mut words[from..to],
-    );
-    answers[i] = done.reply.into();
+    };
+    let done = serve_request(&mut node, asked, q, &mut words[from..to]);
+    answers[i] = done.into();
     Running {
         answer: cur.answer,
-        counts: done.work.counts,
-        rec: done.work.rec,
+        counts: work.counts,
+        rec: work.rec,
     }
 }
 

@@ -1,8 +1,11 @@
 -- `serving::serve` meets its contract.
 use Prim.Native.Nat.{◌+◌, ◌*◌, ◌-◌}
-use mathlib.Core.Path.{◌≡◌, refl, sym, ◌∙◌}
+use mathlib.Core.Path.{◌≡◌, refl, sym, ap, ◌∙◌}
+use borrow.Author.Rules.{rules}
 use native.Mathlib.Omega.{arith}
-use Rattle.lent.specs.Model.{geometry, small}
+use Rattle.lent.specs.Model.{geometry, small, counts}
+use Rattle.lent.specs.DoesLaws.{does_ends}
+use Rattle.requests.specs.Node.{held_is, node_noted}
 use Rattle.lent.specs.Reply.{refused_not_done}
 use Rattle.scope.specs.Calls.{serve_record}
 use Rattle.words.specs.Runs.{length_part}
@@ -45,10 +48,15 @@ returns c = let a = c.args in
     let admitted = is_done a.cur.answer (sym c.is_err.ensures.value ∙ c.if-is_err.false) in
     let serving = c.requires admitted in
     let at : a.i * a.g.w + a.g.w - a.i * a.g.w ≡ a.g.w = omega arith in
+    let node = c.serve_request-done.new.node in
+    let served = c.serve_request-done.ensures.does in
     record {
       runs = rw c.into-2.ensures
           (request_served (geometry a.g) a.i (request a.q) a.cur _ a.words.now a.answers.now
           admitted serving.part_fits refl at
-          c.in-Ok.ensures.first c.serve_request-done.ensures.does_all c.serve_request-done.auto.buffer);
-      noted = λ _. c.serve_request-done.ensures.still_noted;
+          c.in-Ok.ensures.first
+          (does_ends served.does
+          (held_is node (search rules) (search rules) (search rules) (search rules) (search rules)) (ap counts (sym (search rules))))
+          c.serve_request-done.auto.buffer);
+      noted = λ _. node_noted node served.same.0.geometry_kept (search rules) (search rules) (search rules) (search rules) (search rules);
     }
