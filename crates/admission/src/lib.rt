@@ -3,25 +3,24 @@
 // both. They are no part of the state: a call keeps them on its stack, as long as it lasts.
 #![tactic(auto)]
 
-ghost use Rattle.std.specs.Prelude.{◌≡◌, ◌≤◌, length};
+ghost use Rattle.std.specs.Prelude.{◌≤◌, length, OnOk};
 ghost use Rattle.lent.specs.Model.{geometry, state};
+ghost use Rattle.lent.specs.Reply.{tested};
 ghost use Rattle.lent.specs.Notes.{census_words};
 ghost use Rattle.scope.specs.Boundary.{call_sizes};
-ghost use Rattle.scope.specs.Replies.{DONE};
 ghost use Rattle.replies.specs.Model.{request};
 ghost use Rattle.admission.specs.Tested.{StateTested};
 ghost use Rattle.words.specs.Noted.{Noted};
 ghost use Rattle.admission.specs.SingleTested.{SingleTested};
 
+use lent::reply::Refusal;
 use lent::{CENSUS_WORDS, FILTER_WORDS, Geometry, Record};
 use replies::Request;
-use replies::tests::{DONE, page_lengths_right, request_answer, size_answer};
+use replies::tests::{page_lengths_right, test_request, test_sizes};
 use soundness::sound::is_sound;
 
-const DAMAGED: u32 = 4;
-
 // These, and DAMAGED. The census has a place for each block of any chip.
-pub fn state_answer(
+pub fn test_state(
     rec: Record,
     others: bool,
     g: Geometry,
@@ -31,34 +30,31 @@ pub fn state_answer(
     cache: &[u32],
     census: &mut [u32],
     filter: &mut [u64; FILTER_WORDS],
-) -> u32
+) -> Result<(), Refusal>
     requires { census_words ≤ length census.old }
     ensures state_tested { StateTested (geometry g)
-        (state chip.now spare.now directory.now cache.now rec) others result }
-    ensures noted { result ≡ DONE → Noted (geometry g)
+        (state chip.now spare.now directory.now cache.now rec) others (tested result) }
+    ensures noted { OnOk result (Noted (geometry g)
         (state chip.now spare.now directory.now cache.now rec)
-        census.new filter.new }
+        census.new filter.new) }
 {
-    let sizes = size_answer(
+    test_sizes(
         g,
         others,
         chip.len(),
         spare.len(),
         directory.len(),
         cache.len(),
-    );
-    if sizes != DONE {
-        return sizes;
-    }
+    )?;
     if !is_sound(g, chip, spare, directory, cache, rec, census, filter) {
-        return DAMAGED;
+        return Err(Refusal::Damaged);
     }
-    DONE
+    Ok(())
 }
 
 // The same, for a check, which needs no notes. Their text stands twice so that `is_sound` is called from two places, and the compiler leaves
 // it a function of its own: put into another, its loops lack registers and take a fifth longer.
-pub fn check_answer(
+pub fn test_for_check(
     rec: Record,
     others: bool,
     g: Geometry,
@@ -66,24 +62,21 @@ pub fn check_answer(
     spare: &[u32],
     directory: &[u32],
     cache: &[u32],
-) -> u32
+) -> Result<(), Refusal>
     ensures { StateTested (geometry g)
-        (state chip.now spare.now directory.now cache.now rec) others result }
+        (state chip.now spare.now directory.now cache.now rec) others (tested result) }
 {
     let mut census = [0u32; CENSUS_WORDS];
     let mut filter = [0u64; FILTER_WORDS];
-    let sizes = size_answer(
+    test_sizes(
         g,
         others,
         chip.len(),
         spare.len(),
         directory.len(),
         cache.len(),
-    );
-    if sizes != DONE {
-        return sizes;
-    }
-    if !is_sound(
+    )?;
+    let sound = is_sound(
         g,
         chip,
         spare,
@@ -92,14 +85,12 @@ pub fn check_answer(
         rec,
         &mut census,
         &mut filter,
-    ) {
-        return DAMAGED;
-    }
-    DONE
+    );
+    if sound { Ok(()) } else { Err(Refusal::Damaged) }
 }
 
 // All tests of a single request: the state's, with the lengths of what else it lends, and then its own.
-pub fn single_answer(
+pub fn test_single(
     rec: Record,
     record_words: usize,
     g: Geometry,
@@ -112,16 +103,14 @@ pub fn single_answer(
     cache: &[u32],
     census: &mut [u32],
     filter: &mut [u64; FILTER_WORDS],
-) -> u32
+) -> Result<(), Refusal>
     requires { census_words ≤ length census.old }
     ensures { SingleTested (geometry g) (call_sizes record_words counts) (request q) buffer
-        (state chip.now spare.now directory.now cache.now rec) result
+        (state chip.now spare.now directory.now cache.now rec) (tested result)
         census.new filter.new }
 {
     let right = page_lengths_right(g, record_words, buffer, counts);
-    let answer = state_answer(rec, right, g, chip, spare, directory, cache, census, filter);
-    if answer != DONE {
-        return answer;
-    }
-    request_answer(rec, g, q)
+    test_state(rec, right, g, chip, spare, directory, cache, census, filter)?;
+    test_request(rec, g, q)?;
+    Ok(())
 }

@@ -5,17 +5,20 @@
 
 ghost use Rattle.std.specs.Prelude.{length};
 ghost use Rattle.lent.specs.Model.{geometry, state};
+ghost use Rattle.lent.specs.Reply.{reply};
 ghost use Rattle.scope.specs.Calls.{format, check, read, write};
 ghost use Rattle.scope.specs.Requests.{replied};
 ghost use Rattle.scope.specs.Boundary.{call_sizes};
 ghost use Rattle.scope.specs.Holding.{Answers};
 
-use admission::{check_answer, single_answer};
+use admission::{test_for_check, test_single};
+use lent::reply::Reply;
 use lent::{CENSUS_WORDS, FILTER_WORDS, Geometry, Record, Work};
 use replies::counting::{NO_COUNTS, put_counts, put_none};
-use replies::tests::{DONE, lengths_right, size_answer};
-use replies::{KIND_READ, KIND_WRITE, Out, Request};
-use requests::answers;
+use replies::tests::{lengths_right, test_sizes};
+use replies::{Kind, Out, Request};
+use requests::node::Node;
+use steps::flash::Flash;
 
 // The old state isn't tested.
 pub fn format(
@@ -31,12 +34,12 @@ pub fn format(
     ensures { Answers
         (format (geometry g) (call_sizes record_words (length counts.old))
         (state chip.old spare.old directory.old cache.old rec))
-        counts.old result.answer
+        counts.old (reply result.answer)
         (state chip.new spare.new directory.new cache.new result.rec)
         counts.new }
 {
     let right = lengths_right(record_words, counts.len());
-    let answer = size_answer(
+    let sizes = test_sizes(
         g,
         right,
         chip.len(),
@@ -44,16 +47,18 @@ pub fn format(
         directory.len(),
         cache.len(),
     );
-    if answer != DONE {
+    if let Err(refusal) = sizes {
         put_none(counts);
-        return Out { answer, rec };
+        return Out {
+            answer: Reply::Refused(refusal),
+            rec,
+        };
     }
     let fresh = formatting::format(g, chip, spare, directory, cache);
     put_counts(counts, fresh.counts);
-    let new = fresh.rec;
     Out {
-        answer: DONE,
-        rec: new,
+        answer: Reply::Done,
+        rec: fresh.rec,
     }
 }
 
@@ -67,21 +72,22 @@ pub fn check(
     directory: &[u32],
     cache: &[u32],
     counts: &mut [u32],
-) -> u32
+) -> Reply
     ensures { Answers
         (check (geometry g) (call_sizes record_words (length counts.old))
         (state chip.now spare.now directory.now cache.now rec))
-        counts.old result
+        counts.old (reply result)
         (state chip.now spare.now directory.now cache.now rec)
         counts.new }
 {
     let right = lengths_right(record_words, counts.len());
-    let answer = check_answer(rec, right, g, chip, spare, directory, cache);
+    let tests = test_for_check(rec, right, g, chip, spare, directory, cache);
     put_none(counts);
-    answer
+    tests.into()
 }
 
 // Fills the page buffer where the page was written.
+// Kept: `read` and `write` stand apart, as a closure for the steps would have the work, the lent lists and both notes in its `pre` and `post`.
 pub fn read(
     rec: Record,
     record_words: usize,
@@ -97,18 +103,18 @@ pub fn read(
     ensures { Answers
         (read (geometry g) (call_sizes record_words (length counts.old)) page buffer.old
         (state chip.old spare.old directory.old cache.old rec))
-        counts.old (replied buffer.new result.answer)
+        counts.old (replied buffer.new (reply result.answer))
         (state chip.new spare.new directory.new cache.new result.rec)
         counts.new }
 {
     let mut census = [0u32; CENSUS_WORDS];
     let mut filter = [0u64; FILTER_WORDS];
-    let answer = single_answer(
+    let tests = test_single(
         rec,
         record_words,
         g,
         Request {
-            kind: KIND_READ,
+            kind: Kind::Read.into(),
             page,
         },
         buffer.len(),
@@ -120,31 +126,35 @@ pub fn read(
         &mut census,
         &mut filter,
     );
-    if answer != DONE {
+    if let Err(refusal) = tests {
         put_none(counts);
-        return Out { answer, rec };
+        return Out {
+            answer: Reply::Refused(refusal),
+            rec,
+        };
     }
-    let work = Work {
+    let mut work = Work {
         rec,
         counts: NO_COUNTS,
     };
-    let done = answers::read(
-        work,
+    let mut flash = Flash {
         g,
-        page,
         chip,
         spare,
-        &mut census,
+        census: &mut census,
+    };
+    let mut node = Node {
+        work: &mut work,
+        flash: &mut flash,
         directory,
         cache,
-        &mut filter,
-        buffer,
-    );
-    put_counts(counts, done.work.counts);
-    let new = done.work.rec;
+        filter: &mut filter,
+    };
+    let answer = node.read(page, buffer);
+    put_counts(counts, work.counts);
     Out {
-        answer: done.value,
-        rec: new,
+        answer,
+        rec: work.rec,
     }
 }
 
@@ -164,18 +174,18 @@ pub fn write(
     ensures { Answers
         (write (geometry g) (call_sizes record_words (length counts.old)) page buffer.now
         (state chip.old spare.old directory.old cache.old rec))
-        counts.old (replied buffer.now result.answer)
+        counts.old (replied buffer.now (reply result.answer))
         (state chip.new spare.new directory.new cache.new result.rec)
         counts.new }
 {
     let mut census = [0u32; CENSUS_WORDS];
     let mut filter = [0u64; FILTER_WORDS];
-    let answer = single_answer(
+    let tests = test_single(
         rec,
         record_words,
         g,
         Request {
-            kind: KIND_WRITE,
+            kind: Kind::Write.into(),
             page,
         },
         buffer.len(),
@@ -187,30 +197,34 @@ pub fn write(
         &mut census,
         &mut filter,
     );
-    if answer != DONE {
+    if let Err(refusal) = tests {
         put_none(counts);
-        return Out { answer, rec };
+        return Out {
+            answer: Reply::Refused(refusal),
+            rec,
+        };
     }
-    let work = Work {
+    let mut work = Work {
         rec,
         counts: NO_COUNTS,
     };
-    let written = answers::write(
-        work,
+    let mut flash = Flash {
         g,
-        page,
         chip,
         spare,
-        &mut census,
+        census: &mut census,
+    };
+    let mut node = Node {
+        work: &mut work,
+        flash: &mut flash,
         directory,
         cache,
-        &mut filter,
-        buffer,
-    );
-    put_counts(counts, written.work.counts);
-    let new = written.work.rec;
+        filter: &mut filter,
+    };
+    let answer = node.write(page, buffer);
+    put_counts(counts, work.counts);
     Out {
-        answer: written.value,
-        rec: new,
+        answer,
+        rec: work.rec,
     }
 }

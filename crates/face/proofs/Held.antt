@@ -11,7 +11,9 @@ use denote.Ref.{Bor, MutBor}
 use denote.Triple.Clauses.{Clauses}
 use Rattle.lent.specs.declared.Geometry.{Geometry as Numbers}
 use Rattle.lent.specs.declared.Record.{Record}
+use Rattle.lent.specs.declared.reply.Reply.{Reply}
 use Rattle.lent.specs.Model.{geometry, state}
+use Rattle.lent.specs.Reply.{reply}
 use Rattle.scope.specs.SmallRecord.{record_words}
 use Rattle.scope.specs.Lent.{State}
 use Rattle.scope.specs.Replies.{Size}
@@ -41,7 +43,7 @@ abbrev sizes : MutBor (List ℕ) → List Size
 sizes counts = call_sizes record_words (length counts.now)
 
 module _ (g : Numbers) (rec rec' : MutBor Record)
-    (chip spare directory cache counts chip' spare' directory' cache' counts' : MutBor (List ℕ)) (r : ℕ) where
+    (chip spare directory cache counts chip' spare' directory' cache' counts' : MutBor (List ℕ)) (r : Reply) where
   abbrev lent : State
   lent = state chip.now spare.now directory.now cache.now rec.now
 
@@ -52,19 +54,19 @@ module _ (g : Numbers) (rec rec' : MutBor Record)
       HeldTo format'.ended format_symbol.code (code_of format_symbol.name) format_contract κs
       (rec, (g, (chip, (spare, (directory, (cache, (counts, tt))))))) r
       (rec', (g, (chip', (spare', (directory', (cache', (counts', tt)))))))
-      (ContractAllows (geometry g) (Format (sizes counts)) (by_number r) (AsNumbers lent counts.now left counts'.now))
+      (ContractAllows (geometry g) (Format (sizes counts)) (by_number (reply r)) (AsNumbers lent counts.now left counts'.now))
   format_held κs =
       record {
         meets = λ m. format_met.met m.𝓤 m.𝓛 m.𝓜 m.𝓡;
         asks_nothing = λ m x. refl;
-        Told = Answers (format (geometry g) (sizes counts) lent) counts.now r left counts'.now;
+        Told = Answers (format (geometry g) (sizes counts) lent) counts.now (reply r) left counts'.now;
         tells_it = λ m x. refl;
         gives = format_made (geometry g) (sizes counts) lent;
       }
 
 -- Nothing but the counts is lent to be changed.
 module _ (g : Numbers) (rec rec' : Bor Record) (chip spare directory cache : Bor (List ℕ)) (counts : MutBor (List ℕ))
-    (chip' spare' directory' cache' : Bor (List ℕ)) (counts' : MutBor (List ℕ)) (r : ℕ) where
+    (chip' spare' directory' cache' : Bor (List ℕ)) (counts' : MutBor (List ℕ)) (r : Reply) where
   abbrev looked_at : State
   looked_at = state chip.now spare.now directory.now cache.now rec.now
 
@@ -72,12 +74,12 @@ module _ (g : Numbers) (rec rec' : Bor Record) (chip spare directory cache : Bor
       HeldTo check'.ended check_symbol.code (code_of check_symbol.name) check_contract κs
       (rec, (g, (chip, (spare, (directory, (cache, (counts, tt))))))) r
       (rec', (g, (chip', (spare', (directory', (cache', (counts', tt)))))))
-      (ContractAllows (geometry g) (Check (sizes counts)) (by_number r) (AsNumbers looked_at counts.now looked_at counts'.now))
+      (ContractAllows (geometry g) (Check (sizes counts)) (by_number (reply r)) (AsNumbers looked_at counts.now looked_at counts'.now))
   check_held κs =
       record {
         meets = λ m. check_met.met m.𝓤 m.𝓛 m.𝓜 m.𝓡;
         asks_nothing = λ m x. refl;
-        Told = Answers (check (geometry g) (sizes counts) looked_at) counts.now r looked_at counts'.now;
+        Told = Answers (check (geometry g) (sizes counts) looked_at) counts.now (reply r) looked_at counts'.now;
         tells_it = λ m x. refl;
         gives = check_made (geometry g) (sizes counts) looked_at;
       }

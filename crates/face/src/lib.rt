@@ -6,11 +6,13 @@
 
 ghost use Rattle.std.specs.Prelude.{length};
 ghost use Rattle.lent.specs.Model.{geometry, state};
+ghost use Rattle.lent.specs.Reply.{reply};
 ghost use Rattle.scope.specs.Calls.{format, check};
 ghost use Rattle.scope.specs.SmallRecord.{record_words};
 ghost use Rattle.scope.specs.Boundary.{call_sizes};
 ghost use Rattle.scope.specs.Holding.{Answers};
 
+use lent::reply::Reply;
 use lent::{Geometry, RECORD_WORDS, Record};
 
 // The old state isn't tested.
@@ -22,11 +24,11 @@ pub fn format(
     directory: &mut [u32],
     cache: &mut [u32],
     counts: &mut [u32],
-) -> u32
+) -> Reply
     ensures { Answers
         (format (geometry g) (call_sizes record_words (length counts.old))
         (state chip.old spare.old directory.old cache.old rec.old))
-        counts.old result
+        counts.old (reply result)
         (state chip.new spare.new directory.new cache.new rec.new)
         counts.new }
 {
@@ -45,11 +47,11 @@ pub fn check(
     directory: &[u32],
     cache: &[u32],
     counts: &mut [u32],
-) -> u32
+) -> Reply
     ensures { Answers
         (check (geometry g) (call_sizes record_words (length counts.old))
         (state chip.now spare.now directory.now cache.now rec.now))
-        counts.old result
+        counts.old (reply result)
         (state chip.now spare.now directory.now cache.now rec.now)
         counts.new }
 {

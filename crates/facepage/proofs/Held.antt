@@ -11,7 +11,9 @@ use denote.Ref.{Bor, MutBor}
 use denote.Triple.Clauses.{Clauses}
 use Rattle.lent.specs.declared.Geometry.{Geometry as Numbers}
 use Rattle.lent.specs.declared.Record.{Record}
+use Rattle.lent.specs.declared.reply.Reply.{Reply}
 use Rattle.lent.specs.Model.{geometry, state}
+use Rattle.lent.specs.Reply.{reply}
 use Rattle.scope.specs.SmallRecord.{record_words}
 use Rattle.scope.specs.Lent.{State}
 use Rattle.scope.specs.Replies.{Size}
@@ -38,7 +40,7 @@ abbrev write_contract : (m : World) → Clauses m.𝓤 write'.ended
 write_contract m = write'.clauses m.𝓛 m.𝓜.mem m.𝓡.returns
 
 module _ (g : Numbers) (rec rec' : MutBor Record)
-    (chip spare directory cache counts chip' spare' directory' cache' counts' : MutBor (List ℕ)) (r page : ℕ) where
+    (chip spare directory cache counts chip' spare' directory' cache' counts' : MutBor (List ℕ)) (r : Reply) (page : ℕ) where
   -- A record of numbers has all its words.
   abbrev sizes : List Size
   sizes = call_sizes record_words (length counts.now)
@@ -54,12 +56,12 @@ module _ (g : Numbers) (rec rec' : MutBor Record)
         HeldTo read'.ended read_symbol.code (code_of read_symbol.name) read_contract κs
         (rec, (g, (page, (chip, (spare, (directory, (cache, (buffer, (counts, tt))))))))) r
         (rec', (g, (page, (chip', (spare', (directory', (cache', (buffer', (counts', tt)))))))))
-        (ContractAllows (geometry g) (ReadPage sizes page buffer.now) (by_page (replied buffer'.now r)) (AsNumbers lent counts.now left counts'.now))
+        (ContractAllows (geometry g) (ReadPage sizes page buffer.now) (by_page (replied buffer'.now (reply r))) (AsNumbers lent counts.now left counts'.now))
     read_held κs =
         record {
           meets = λ m. read_met.met m.𝓤 m.𝓛 m.𝓜 m.𝓡;
           asks_nothing = λ m x. refl;
-          Told = Answers (read (geometry g) sizes page buffer.now lent) counts.now (replied buffer'.now r) left counts'.now;
+          Told = Answers (read (geometry g) sizes page buffer.now lent) counts.now (replied buffer'.now (reply r)) left counts'.now;
           tells_it = λ m x. refl;
           gives = read_made (geometry g) sizes lent page buffer.now;
         }
@@ -70,12 +72,12 @@ module _ (g : Numbers) (rec rec' : MutBor Record)
         HeldTo write'.ended write_symbol.code (code_of write_symbol.name) write_contract κs
         (rec, (g, (page, (chip, (spare, (directory, (cache, (buffer, (counts, tt))))))))) r
         (rec', (g, (page, (chip', (spare', (directory', (cache', (buffer', (counts', tt)))))))))
-        (ContractAllows (geometry g) (WritePage sizes page buffer.now) (by_page (replied buffer.now r)) (AsNumbers lent counts.now left counts'.now))
+        (ContractAllows (geometry g) (WritePage sizes page buffer.now) (by_page (replied buffer.now (reply r))) (AsNumbers lent counts.now left counts'.now))
     write_held κs =
         record {
           meets = λ m. write_met.met m.𝓤 m.𝓛 m.𝓜 m.𝓡;
           asks_nothing = λ m x. refl;
-          Told = Answers (write (geometry g) sizes page buffer.now lent) counts.now (replied buffer.now r) left counts'.now;
+          Told = Answers (write (geometry g) sizes page buffer.now lent) counts.now (replied buffer.now (reply r)) left counts'.now;
           tells_it = λ m x. refl;
           gives = write_made (geometry g) sizes lent page buffer.now;
         }

@@ -4,12 +4,14 @@
 
 ghost use Rattle.std.specs.Prelude.{length};
 ghost use Rattle.lent.specs.Model.{geometry, state};
+ghost use Rattle.lent.specs.Reply.{reply};
 ghost use Rattle.scope.specs.Requests.{replied};
 ghost use Rattle.scope.specs.Calls.{read, write};
 ghost use Rattle.scope.specs.SmallRecord.{record_words};
 ghost use Rattle.scope.specs.Boundary.{call_sizes};
 ghost use Rattle.scope.specs.Holding.{Answers};
 
+use lent::reply::Reply;
 use lent::{Geometry, RECORD_WORDS, Record};
 
 // Fills the page buffer where the page was written.
@@ -23,11 +25,11 @@ pub fn read(
     cache: &mut [u32],
     buffer: &mut [u32],
     counts: &mut [u32],
-) -> u32
+) -> Reply
     ensures { Answers
         (read (geometry g) (call_sizes record_words (length counts.old)) page buffer.old
         (state chip.old spare.old directory.old cache.old rec.old))
-        counts.old (replied buffer.new result)
+        counts.old (replied buffer.new (reply result))
         (state chip.new spare.new directory.new cache.new rec.new)
         counts.new }
 {
@@ -59,11 +61,11 @@ pub fn write(
     cache: &mut [u32],
     buffer: &[u32],
     counts: &mut [u32],
-) -> u32
+) -> Reply
     ensures { Answers
         (write (geometry g) (call_sizes record_words (length counts.old)) page buffer.now
         (state chip.old spare.old directory.old cache.old rec.old))
-        counts.old (replied buffer.now result)
+        counts.old (replied buffer.now (reply result))
         (state chip.new spare.new directory.new cache.new rec.new)
         counts.new }
 {

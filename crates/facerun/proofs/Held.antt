@@ -10,7 +10,9 @@ use denote.Ref.{Bor, MutBor}
 use denote.Triple.Clauses.{Clauses}
 use Rattle.lent.specs.declared.Geometry.{Geometry as Numbers}
 use Rattle.lent.specs.declared.Record.{Record}
+use Rattle.lent.specs.declared.reply.Reply.{Reply}
 use Rattle.lent.specs.Model.{geometry, state}
+use Rattle.lent.specs.Reply.{reply}
 use Rattle.scope.specs.SmallRecord.{record_words}
 use Rattle.scope.specs.Lent.{State}
 use Rattle.scope.specs.Replies.{Size}
@@ -32,7 +34,7 @@ abbrev run_contract : (m : World) → Clauses m.𝓤 run'.ended
 run_contract m = run'.clauses m.𝓛 m.𝓜.mem m.𝓡.returns
 
 module _ (g : Numbers) (rec rec' : MutBor Record)
-    (chip spare directory cache counts chip' spare' directory' cache' counts' : MutBor (List ℕ)) (r : ℕ) (requests requests' : Bor (List Request))
+    (chip spare directory cache counts chip' spare' directory' cache' counts' : MutBor (List ℕ)) (r : Reply) (requests requests' : Bor (List Request))
     (words words' answers answers' : MutBor (List ℕ)) where
   -- A record of numbers has all its words.
   abbrev sizes : List Size
@@ -48,12 +50,12 @@ module _ (g : Numbers) (rec rec' : MutBor Record)
       HeldTo run'.ended run_symbol.code (code_of run_symbol.name) run_contract κs
       (rec, (g, (requests, (chip, (spare, (directory, (cache, (words, (answers, (counts, tt)))))))))) r
       (rec', (g, (requests', (chip', (spare', (directory', (cache', (words', (answers', (counts', tt))))))))))
-      (ContractAllows (geometry g) (Run sizes (map request requests.now) words.now answers.now) (by_run (run_replied words'.now answers'.now r)) (AsNumbers lent counts.now left counts'.now))
+      (ContractAllows (geometry g) (Run sizes (map request requests.now) words.now answers.now) (by_run (run_replied words'.now answers'.now (reply r))) (AsNumbers lent counts.now left counts'.now))
   run_held κs =
       record {
         meets = λ m. run_met.met m.𝓤 m.𝓛 m.𝓜 m.𝓡;
         asks_nothing = λ m x. refl;
-        Told = Answers (run (geometry g) sizes (map request requests.now) words.now answers.now lent) counts.now (run_replied words'.now answers'.now r) left counts'.now;
+        Told = Answers (run (geometry g) sizes (map request requests.now) words.now answers.now lent) counts.now (run_replied words'.now answers'.now (reply r)) left counts'.now;
         tells_it = λ m x. refl;
         gives = run_made (geometry g) sizes lent (map request requests.now) words.now answers.now;
       }

@@ -7,6 +7,7 @@ mod served;
 
 ghost use Rattle.std.specs.Prelude.{map, length};
 ghost use Rattle.lent.specs.Model.{geometry, state};
+ghost use Rattle.lent.specs.Reply.{reply};
 ghost use Rattle.scope.specs.Calls.{run_replied, run};
 ghost use Rattle.scope.specs.SmallRecord.{record_words};
 ghost use Rattle.scope.specs.Boundary.{call_sizes};
@@ -14,6 +15,7 @@ ghost use Rattle.scope.specs.Holding.{Answers};
 ghost use Rattle.replies.specs.Model.{request};
 
 use crate::served::serve_all;
+use lent::reply::Reply;
 use lent::{CENSUS_WORDS, FILTER_WORDS, Geometry, RECORD_WORDS, Record};
 use replies::Request;
 use serving::{begin, finish};
@@ -30,11 +32,11 @@ pub fn run(
     words: &mut [u32],
     answers: &mut [u32],
     counts: &mut [u32],
-) -> u32
+) -> Reply
     ensures { Answers
         (run (geometry g) (call_sizes record_words (length counts.old)) (map request requests.now) words.old answers.old
         (state chip.old spare.old directory.old cache.old rec.old))
-        counts.old (run_replied words.new answers.new result)
+        counts.old (run_replied words.new answers.new (reply result))
         (state chip.new spare.new directory.new cache.new rec.new)
         counts.new }
 {

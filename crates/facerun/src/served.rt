@@ -1,7 +1,8 @@
 // The requests of a run, one after the other. Nothing is tested here: `begin` has the number of the requests and tests before the first
 // is served, and each request is the callee's to test, so that the walk is there for any slice, an empty one too.
-ghost use Rattle.std.specs.Prelude.{length};
+ghost use Rattle.std.specs.Prelude.{map, length};
 ghost use Rattle.lent.specs.Model.{geometry, state};
+ghost use Rattle.replies.specs.Model.{request};
 ghost use Rattle.running.specs.Ran.{Tested, Ran};
 
 use lent::{CENSUS_WORDS, FILTER_WORDS, Geometry};
@@ -24,15 +25,14 @@ pub fn serve_all(
 ) -> Running
     requires { Tested (geometry g) (length requests.now) first
         (state chip.old spare.old directory.old cache.old first.rec) words.old answers.old census.old filter.old }
-    ensures { Ran (geometry g) requests.now (length requests.now) first
+    ensures { Ran (geometry g) (map request requests.now) (length requests.now) first
         (state chip.old spare.old directory.old cache.old first.rec)
         words.old answers.old census.old filter.old result
         (state chip.new spare.new directory.new cache.new result.rec)
         words.new answers.new census.new filter.new }
 {
-    let mut i = 0;
     let mut cur = first;
-    while i < requests.len() {
+    for i in 0..requests.len() {
         cur = serve(
             cur,
             i,
@@ -47,7 +47,6 @@ pub fn serve_all(
             words,
             answers,
         );
-        i += 1;
     }
     cur
 }

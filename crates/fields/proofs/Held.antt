@@ -9,14 +9,14 @@ use denote.Ref.{Bor}
 use denote.MutBor.{MutBor}
 use denote.Triple.Clauses.{Clauses}
 use lib.ListN.{length}
+use Rattle.std.specs.Prelude.{Result}
 use Rattle.lent.specs.declared.Geometry.{Geometry}
 use Rattle.lent.specs.Model.{geometry}
 use Rattle.settings.specs.Settings.{versions, read as read_settings, numbers_words}
 use Rattle.settings.proofs.Laws.Calls.{six_words_read}
 use Rattle.settings.specs.Kept.{ReadMade, WriteMade}
 use Rattle.held.specs.Held.{code_of, HeldTo}
-use Rattle.fields.specs.declared.read.Settings.{Settings}
-use Rattle.fields.specs.declared.write.Writing.{Writing}
+use Rattle.fields.specs.declared.refusal.Refusal.{Refusal}
 use Rattle.fields.specs.Model.{settings, writing}
 use Rattle.fields.specs.contracts.read.read
 use Rattle.fields.proofs.read.read.Symbol as read_symbol
@@ -33,7 +33,7 @@ abbrev write_contract : (m : World) → Clauses m.𝓤 write.ended
 write_contract m = write.clauses m.𝓛 m.𝓜.mem m.𝓡.returns
 
 -- What is read by value is what the call for C gives in any six words.
-pub read_held : (bytes bytes' : Bor (List ℕ)) (r : Settings) (κs : Lfts 1) →
+pub read_held : (bytes bytes' : Bor (List ℕ)) (r : Result Geometry Refusal) (κs : Lfts 1) →
     HeldTo read.ended read_symbol.code (code_of read_symbol.name) read_contract κs (bytes, tt) r (bytes', tt)
     ((numbers : List ℕ) → length numbers ≡ numbers_words → ReadMade bytes.now numbers (settings r).answer (settings r).left)
 read_held bytes bytes' r κs =
@@ -45,7 +45,7 @@ read_held bytes bytes' r κs =
       gives = λ h numbers six. h ∙ sym (six_words_read bytes.now numbers six);
     }
 
-pub write_held : (g : Geometry) (place place' : MutBor (List ℕ)) (r : Writing) (κs : Lfts 1) →
+pub write_held : (g : Geometry) (place place' : MutBor (List ℕ)) (r : Result (Unit {0}) Refusal) (κs : Lfts 1) →
     HeldTo write.ended write_symbol.code (code_of write_symbol.name) write_contract κs (g, (place, tt)) r (g, (place', tt))
     (WriteMade (geometry g) place.now (writing r) place'.now)
 write_held g place place' r κs =

@@ -1,94 +1,75 @@
 -- The reader's parts put together: the row of a version, what may follow its fields, and the whole record.
-use Rattle.std.specs.Prelude.{ℕ, zero, suc, ◌≤◌, ◌≡◌, refl, Bool, true, false, cond, List, [], ◌∷◌, eqb, length, get_or, drop}
-use Rattle.std.proofs.Common.{sym, ◌∙◌, subst, inl, inr, arith, length-drop, eqb-true, eq-eqb, ne_eqb}
+use Rattle.std.specs.Prelude.{ℕ, zero, suc, ◌≡◌, refl, true, false, List, [], ◌∷◌, map, length, get_or, Option, Some, None, ok_or, Ok, Err}
+use Rattle.std.specs.Borrow.{Bor}
+use Rattle.std.proofs.Common.{sym, ◌∙◌, arith}
 use Rattle.std.proofs.Math.Path.{ap}
-use Rattle.std.proofs.Math.Option.{Option, none, some}
-use Rattle.std.proofs.lemmas.Bool.{eqb-false}
-use Rattle.scope.specs.Geometry.{Geometry, accepted}
-use Rattle.settings.specs.Fields.{Numbers, VERSION, AFTER, GEOMETRY, ACCEPTED, fields_read, whole_fields}
-use Rattle.settings.specs.Settings.{Version, version_field, version_1, versions, version_of, last_tag, may_follow, numbers_of, answered, refused, by_version, by_table, ended, read}
+use Rattle.std.proofs.Math.Option.{Option as Row}
+use Rattle.lent.specs.declared.Geometry.{Geometry as GeometryOf}
+use Rattle.lent.specs.Model.{geometry}
+use Rattle.scope.specs.Geometry.{accepted}
+use Rattle.settings.specs.Fields.{Reading, Numbers, Refused, AFTER, GEOMETRY, ACCEPTED, fields_read, whole_fields}
+use Rattle.settings.specs.Settings.{Version, version_field, versions, version_of, last_tag, may_follow, numbers_of, answered, refused, by_version, by_table, ended, read}
+use Rattle.fields.specs.declared.Field.{Field as FieldOf}
 use Rattle.fields.specs.declared.Version.{Version as VersionOf}
-use Rattle.fields.specs.declared.Row.{Row as RowOf}
-use Rattle.fields.specs.declared.cursor.Cursor.{Cursor}
-use Rattle.fields.specs.declared.cursor.Refusal.{Refusal}
-use Rattle.fields.specs.declared.cursor.Next.TheVariants.{Number as NextIs, Refused as NoNext}
-use Rattle.fields.specs.Model.{rows, version, read_to, IsRowOf, row, AllSized, refusal, NextRead}
+use Rattle.fields.specs.declared.refusal.Refusal.{Refusal}
+use Rattle.fields.specs.declared.refusal.Refusal.TheVariants.{Version as UnknownVersion}
+use Rattle.fields.specs.Model.{field, version, row, refusal, Next}
 
 -- The last tag of a table, and so of one with six rows.
-last_tag_of_rows : (n : ℕ) (tags sizes : List ℕ) (k : ℕ) → length tags ≡ suc k → length tags ≡ length sizes
-    → last_tag n (rows tags sizes) ≡ get_or tags k 0
-unfolding rows last_tag
-last_tag_of_rows n [] sizes k e l = absurd (omega (arith, e))
-last_tag_of_rows n (t ∷ tags) [] k e l = absurd (omega (arith, l))
-last_tag_of_rows n (t ∷ []) (s ∷ []) zero e l = refl
-last_tag_of_rows n (t ∷ []) (s ∷ []) (suc k) e l = absurd (omega (arith, e))
-last_tag_of_rows n (t ∷ []) (s ∷ s' ∷ sizes) k e l = absurd (omega (arith, l))
-last_tag_of_rows n (t ∷ t' ∷ tags) (s ∷ sizes) zero e l = absurd (omega (arith, e))
-last_tag_of_rows n (t ∷ t' ∷ tags) (s ∷ sizes) (suc k) e l = last_tag_of_rows t (t' ∷ tags) sizes k (omega (arith, e)) (omega (arith, l))
+last_tag_of_rows : (n : ℕ) (fs : List FieldOf) (k : ℕ) (d : FieldOf) → length fs ≡ suc k → last_tag n (map field fs) ≡ (get_or fs k d).tag
+unfolding last_tag
+last_tag_of_rows n [] k d e = absurd (omega (arith, e))
+last_tag_of_rows n (f ∷ []) zero d e = refl
+last_tag_of_rows n (f ∷ []) (suc k) d e = absurd (omega (arith, e))
+last_tag_of_rows n (f ∷ f' ∷ fs) zero d e = absurd (omega (arith, e))
+last_tag_of_rows n (f ∷ f' ∷ fs) (suc k) d e = last_tag_of_rows f.tag (f' ∷ fs) k d (omega (arith, e))
 
-pub nothing_follows : (v : Version) (bytes : List ℕ) (at : ℕ) → v.more ≡ false → at ≤ length bytes
-    → eqb at (length bytes) ≡ may_follow v (drop at bytes)
-nothing_follows v bytes at m h = rw m (same (eqb at n) refl)
-  where
-    n : ℕ
-    n = length bytes
+pub fields_follow : (v : VersionOf) (bytes : List ℕ) (d : FieldOf) → v.more ≡ true → length v.fields ≡ 6
+    → whole_fields (get_or v.fields 5 d).tag 0 bytes ≡ may_follow (version v) bytes
+fields_follow v bytes d m n =
+    rw m (ap (λ (last : ℕ). whole_fields last 0 bytes) (sym (last_tag_of_rows 0 v.fields 5 d n)))
 
-    left : ℕ
-    left = length (drop at bytes)
-
-    same : (b : Bool) → eqb at n ≡ b → b ≡ eqb left 0
-    same true e = sym (eq-eqb left 0 (omega (arith, length-drop at bytes, eqb-true at n e)))
-    same false e = sym (ne_eqb left 0 (λ z. eqb-false at n e (omega (arith, length-drop at bytes, h, z))))
-
-pub fields_follow : (v : VersionOf) (bytes : List ℕ) → v.more ≡ true → length v.tags ≡ 6 → length v.bytes ≡ 6
-    → whole_fields (get_or v.tags 5 0) 0 bytes ≡ may_follow (version v) bytes
-fields_follow v bytes m t s =
-    rw m (ap (λ (last : ℕ). whole_fields last 0 bytes) (sym (last_tag_of_rows 0 v.tags v.bytes 5 t (t ∙ sym s))))
-
--- The tests behind the last field, in their order.
-module _ (v : Version) (g : Geometry) (rest : List ℕ) where
-  pub other_bytes_refused : may_follow v rest ≡ false → refused AFTER ≡ ended v (read_to g rest)
-  other_bytes_refused f = rw f refl
-
-  module _ (f : may_follow v rest ≡ true) where
-    pub geometry_refused : accepted g ≡ false → refused GEOMETRY ≡ ended v (read_to g rest)
-    geometry_refused a = rw (f, a) refl
-
-    pub all_accepted : accepted g ≡ true → answered ACCEPTED (numbers_of g) ≡ ended v (read_to g rest)
-    all_accepted a = rw (f, a) refl
-
--- The numbers of version 1 have two bytes, and four.
-pub version_1_sized : (v : VersionOf) → version v ≡ version_1 → AllSized (rows v.tags v.bytes)
-version_1_sized v e =
-    subst (λ (w : Version). AllSized w.fields) (sym e)
-    (inr (inl refl), (inr (inl refl), (inr (inl refl), (inr (inl refl), (inr (inr refl), (inr (inl refl), tt))))))
-
--- The row of version 1 is the one that has its number, and no other number has one.
-pub row_of_version_1 : (n : ℕ) (v : VersionOf) → version v ≡ version_1 → IsRowOf n (record { known = eqb n 1; version = v })
-unfolding version_of
-row_of_version_1 n v e =
-    record {
-      is = ap (λ (w : Version). cond (eqb n 1) (some w) none) e;
-      sized = version_1_sized v e;
-    }
-
--- By a row: one that is not known refuses.
-module _ (t : RowOf) (rest : List ℕ) where
-  pub unknown_refused : t.known ≡ false → refused VERSION ≡ by_table (row t) rest
-  unknown_refused k = rw k refl
-
-  pub known_read : t.known ≡ true
-      → ended (version t.version) (fields_read (version t.version).fields (Numbers [] rest)) ≡ by_table (row t) rest
-  known_read k = rw k refl
-
--- The record behind its version's field.
+-- The record behind its version's field, behind the fields of its version, and behind the tests there.
 module _ (bytes : List ℕ) where
-  pub read_by_row : {n : ℕ} {c : Cursor} {t : RowOf} → NextRead bytes 0 version_field (NextIs n c) → IsRowOf n t
-      → by_table (row t) (drop c.at bytes) ≡ read versions bytes
-  unfolding read
-  read_by_row {n} {c} {t} r w =
-      ap (λ (o : Option Version). by_table o (drop c.at bytes)) w.is ∙ ap (by_version versions) (sym (r.is []))
-
-  pub read_refused : {r : Refusal} → NextRead bytes 0 version_field (NoNext r) → refused (refusal r) ≡ read versions bytes
+  pub read_refused : {r : Refusal} → Next bytes version_field (Err r) → refused (refusal r) ≡ read versions bytes
   unfolding read
   read_refused n = ap (by_version versions) (sym (n.is []))
+
+  module _ {n : ℕ} {rest : Bor (List ℕ)} (first : Next bytes version_field (Ok (n, rest))) where
+    by_row : (o : Row Version) → o ≡ version_of versions n → by_table o rest.now ≡ read versions bytes
+    unfolding read
+    by_row o e = ap (λ (o : Row Version). by_table o rest.now) e ∙ ap (by_version versions) (sym (first.is []))
+
+    pub unknown_refused : (o : Option VersionOf) (r : Refusal) → row o ≡ version_of versions n → Err r ≡ ok_or o UnknownVersion
+        → refused (refusal r) ≡ read versions bytes
+    unknown_refused None r known e =
+        let unknown : r ≡ UnknownVersion = cc in
+        ap (λ (r : Refusal). refused (refusal r)) unknown ∙ by_row (row None) known
+    unknown_refused (Some v) r known e = let apart : ⊥ = cc in absurd apart
+
+    -- The row that was found.
+    is_row : (o : Option VersionOf) (v : VersionOf) → row o ≡ version_of versions n → Ok v ≡ ok_or o UnknownVersion
+        → row (Some v) ≡ version_of versions n
+    is_row None v known e = let apart : ⊥ = cc in absurd apart
+    is_row (Some w) v known e = let same : v ≡ w = cc in ap (λ (v : VersionOf). row (Some v)) same ∙ known
+
+    module _ (o : Option VersionOf) (v : VersionOf) (known : row o ≡ version_of versions n) (found : Ok v ≡ ok_or o UnknownVersion) where
+      by_fields : (r : Reading) → fields_read (version v).fields (Numbers [] rest.now) ≡ r → ended (version v) r ≡ read versions bytes
+      by_fields r e = ap (ended (version v)) (sym e) ∙ by_row (row (Some v)) (is_row o v known found)
+
+      pub fields_refused : (r : Refusal) → fields_read (version v).fields (Numbers [] rest.now) ≡ Refused (refusal r)
+          → refused (refusal r) ≡ read versions bytes
+      fields_refused r e = by_fields (Refused (refusal r)) e
+
+      module _ (numbers : List ℕ) (behind : List ℕ) (all : fields_read (version v).fields (Numbers [] rest.now) ≡ Numbers numbers behind) where
+        pub other_bytes_refused : may_follow (version v) behind ≡ false → refused AFTER ≡ read versions bytes
+        other_bytes_refused f = let e = by_fields (Numbers numbers behind) all in rw f at e
+
+        module _ (f : may_follow (version v) behind ≡ true) (g : GeometryOf) (six : numbers_of (geometry g) ≡ numbers) where
+          pub geometry_refused : accepted (geometry g) ≡ false → refused GEOMETRY ≡ read versions bytes
+          geometry_refused a = let e = by_fields (Numbers (numbers_of (geometry g)) behind) (all ∙ ap (λ (l : List ℕ). Numbers l behind) (sym six)) in
+              rw (f, a) at e
+
+          pub all_accepted : accepted (geometry g) ≡ true → answered ACCEPTED (numbers_of (geometry g)) ≡ read versions bytes
+          all_accepted a = let e = by_fields (Numbers (numbers_of (geometry g)) behind) (all ∙ ap (λ (l : List ℕ). Numbers l behind) (sym six)) in
+              rw (f, a) at e

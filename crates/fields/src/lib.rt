@@ -3,21 +3,39 @@
 #![tactic(auto)]
 
 ghost use Rattle.std.specs.Prelude.{◌≡◌};
-ghost use Rattle.settings.specs.Settings.{version_1};
-ghost use Rattle.fields.specs.Model.{version, IsRowOf};
+ghost use Rattle.settings.specs.Settings.{version_1, versions, version_of};
+ghost use Rattle.fields.specs.Model.{size, version, row};
 
 pub mod after;
-pub mod cursor;
+pub mod next;
+pub mod numbers;
 pub mod read;
+pub mod refusal;
 pub mod rows;
 pub mod words;
 pub mod write;
+
+// How many bytes the number of a field has.
+#[derive(Clone, Copy)]
+pub enum Size {
+    One = 1,
+    Two = 2,
+    Four = 4,
+}
+
+impl Size {
+    pub(crate) fn bytes(self) -> usize
+        ensures { result ≡ size self }
+    {
+        self as usize
+    }
+}
 
 // A field by its version: its tag, and how many bytes its number has.
 #[derive(Clone, Copy)]
 pub struct Field {
     pub tag: u8,
-    pub bytes: usize,
+    pub size: Size,
 }
 
 // The bytes of a field before its number: a tag of one, a length of two.
@@ -26,19 +44,19 @@ pub const HEAD_BYTES: usize = 3;
 // How many numbers a geometry has, and so how many fields a version has behind its own.
 pub const NUMBERS: usize = 6;
 
-// A version: its number, the tags of its fields with the sizes of their numbers, and whether fields of higher tags may follow.
+// A version: its number, its fields in their order, and whether fields of higher tags may follow.
 #[derive(Clone, Copy)]
 pub struct Version {
     pub number: u8,
-    pub tags: [u8; 6],
-    pub bytes: [usize; 6],
+    pub fields: [Field; NUMBERS],
     pub more: bool,
 }
 
 // The field of a version's number, with which every record begins.
-pub const VERSION_TAG: u8 = 1;
-
-pub const VERSION_BYTES: usize = 1;
+pub const VERSION_FIELD: Field = Field {
+    tag: 1,
+    size: Size::One,
+};
 
 // The row of version 1.
 pub fn version_1() -> Version
@@ -46,25 +64,42 @@ pub fn version_1() -> Version
 {
     Version {
         number: 1,
-        tags: [2, 3, 4, 5, 6, 7],
-        bytes: [2, 2, 2, 2, 4, 2],
+        fields: [
+            Field {
+                tag: 2,
+                size: Size::Two,
+            },
+            Field {
+                tag: 3,
+                size: Size::Two,
+            },
+            Field {
+                tag: 4,
+                size: Size::Two,
+            },
+            Field {
+                tag: 5,
+                size: Size::Two,
+            },
+            Field {
+                tag: 6,
+                size: Size::Four,
+            },
+            Field {
+                tag: 7,
+                size: Size::Two,
+            },
+        ],
         more: true,
     }
 }
 
-// A row of the table, if it is known.
-#[derive(Clone, Copy)]
-pub struct Row {
-    pub known: bool,
-    pub version: Version,
-}
-
 // The row that has a number.
-pub fn version_of(number: u32) -> Row
-    ensures { IsRowOf number result }
+pub fn version_of(number: u32) -> Option<Version>
+    ensures { row result ≡ version_of versions number }
 {
-    Row {
-        known: number == 1,
-        version: version_1(),
+    match number {
+        1 => Some(version_1()),
+        _ => None,
     }
 }

@@ -1,57 +1,22 @@
 // The fields of a version, read row by row of its table.
-ghost use Rattle.std.specs.Prelude.{◌≤◌, length};
-ghost use Rattle.fields.specs.Model.{rows, AllSized, NumbersRead};
+ghost use Rattle.std.specs.Prelude.{◌≡◌, []};
+ghost use Rattle.settings.specs.Fields.{Numbers, fields_read};
+ghost use Rattle.fields.specs.Model.{version, after_fields};
 
-use crate::cursor::{Cursor, Next, Refusal, field_at};
-use crate::{Field, NUMBERS, Version};
-use lent::Geometry;
+use crate::next::next;
+use crate::refusal::Refusal;
+use crate::{NUMBERS, Version};
 
-// The numbers of a version's fields, with the cursor behind them; or why they are not there.
-#[derive(Clone, Copy)]
-pub enum Numbers {
-    All(Geometry, Cursor),
-    Refused(Refusal),
-}
-
-// The fields of a version, one after the other.
-pub fn fields_at(bytes: &[u8], from: Cursor, version: Version) -> Numbers
-    requires { AllSized (rows version.tags version.bytes) × (from.at ≤ length bytes.now) }
-    ensures { NumbersRead bytes.now from.at (rows version.tags version.bytes) result }
+// The numbers of a version's fields, one after the other, and the bytes behind them.
+pub fn fields_at(bytes: &[u8], table: Version) -> Result<([u32; NUMBERS], &[u8]), Refusal>
+    ensures { fields_read (version table).fields (Numbers [] bytes.now) ≡ after_fields result }
 {
-    let tags = version.tags;
-    let sizes = version.bytes;
-    let mut numbers: [u32; 6] = [0; 6];
-    let mut cursor = from;
-    let mut i = 0;
-    while i < NUMBERS {
-        let found = field_at(
-            bytes,
-            cursor,
-            Field {
-                tag: tags[i],
-                bytes: sizes[i],
-            },
-        );
-        match found {
-            Next::Number(x, behind) => {
-                numbers[i] = x;
-                cursor = behind;
-            }
-            Next::Refused(refusal) => {
-                return Numbers::Refused(refusal);
-            }
-        }
-        i = i + 1;
+    let mut numbers = [0; NUMBERS];
+    let mut rest = bytes;
+    for (i, f) in table.fields.iter().enumerate() {
+        let (number, behind) = next(rest, *f)?;
+        numbers[i] = number;
+        rest = behind;
     }
-    Numbers::All(
-        Geometry {
-            p: numbers[0],
-            w: numbers[1],
-            d: numbers[2],
-            t: numbers[3],
-            l: numbers[4],
-            c: numbers[5],
-        },
-        cursor,
-    )
+    Ok((numbers, rest))
 }

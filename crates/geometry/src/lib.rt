@@ -19,28 +19,12 @@ pub const MOST_BLOCKS: usize = 1024;
 
 pub const MOST_ENTRIES: usize = 4096;
 
-// A row of the table: x lies from one number to another.
-fn within(from: usize, x: usize, to: usize) -> bool
-    ensures { result ≡ within from x to }
-{
-    if x < from {
-        return false;
-    }
-    x <= to
-}
-
 // The row of D and T, which are 32-bit numbers.
 fn blocks_within(d: usize, t: usize) -> bool
     requires { (d < 4294967296) × (t < 4294967296) }
     ensures { result ≡ (leb 2 d && leb 2 t && leb (d + t) most_blocks) }
 {
-    if d < 2 {
-        return false;
-    }
-    if t < 2 {
-        return false;
-    }
-    d + t <= MOST_BLOCKS
+    2 <= d && 2 <= t && d + t <= MOST_BLOCKS
 }
 
 // The most owners that a region of so many blocks of p pages has room for.
@@ -64,32 +48,25 @@ pub fn translation_pages(g: Geometry) -> usize
     requires { 1 ≤ g.w }
     ensures { result ≡ M (geometry g) }
 {
-    (g.l as usize + (g.w as usize - 1)) / g.w as usize
+    (g.l as usize).div_ceil(g.w as usize)
 }
 
 // Whether the geometry is accepted, row by row.
+#[tactic(auto, unfolding(scope::specs::Geometry::accepted))]
 pub fn accepts(g: Geometry) -> bool
     ensures { result ≡ accepted (geometry g) }
 {
     let p = g.p as usize;
+    let w = g.w as usize;
     let d = g.d as usize;
     let t = g.t as usize;
-    if !within(1, p, MOST_PAGES_IN_BLOCK) {
-        return false;
-    }
-    if !within(1, g.w as usize, MOST_WORDS_IN_PAGE) {
-        return false;
-    }
-    if !blocks_within(d, t) {
-        return false;
-    }
-    if !within(1, g.l as usize, most_owners(d, p)) {
-        return false;
-    }
-    if !words_within(most_owners(t, p), g.w as usize, g.l as usize) {
-        return false;
-    }
-    within(1, g.c as usize, MOST_ENTRIES)
+    let l = g.l as usize;
+    (1..=MOST_PAGES_IN_BLOCK).contains(&p)
+        && (1..=MOST_WORDS_IN_PAGE).contains(&w)
+        && blocks_within(d, t)
+        && (1..=most_owners(d, p)).contains(&l)
+        && words_within(most_owners(t, p), w, l)
+        && (1..=MOST_ENTRIES).contains(&(g.c as usize))
 }
 
 // The pages of the whole chip.
@@ -101,19 +78,14 @@ pub fn chip_pages(g: Geometry) -> usize
 }
 
 // Whether four lengths are those that the state's slices are to have.
+#[tactic(auto, unfolding(scope::specs::Replies::right_sizes))]
 pub fn sizes_right(g: Geometry, chip: usize, spare: usize, directory: usize, cache: usize) -> bool
     requires { Accepted (geometry g) }
     ensures { result ≡ right_sizes (sizes (geometry g) chip spare directory cache) }
 {
     let pages = chip_pages(g);
-    if chip != pages * g.w as usize {
-        return false;
-    }
-    if spare != pages * SPARE_WORDS {
-        return false;
-    }
-    if directory != translation_pages(g) {
-        return false;
-    }
-    cache == g.c as usize * ENTRY_WORDS
+    chip == pages * g.w as usize
+        && spare == pages * SPARE_WORDS
+        && directory == translation_pages(g)
+        && cache == g.c as usize * ENTRY_WORDS
 }

@@ -4,7 +4,7 @@ use native.Mathlib.Omega.{arith}
 use native.Mathlib.Numerals.{add-one}
 use mathlib.Core.Path.{◌≡◌, refl, sym, ap, ◌∙◌, subst}
 use mathlib.Core.List.{List, [], ◌∷◌, ◌++◌, append_assoc}
-use lib.ListN.{length, get_or, take, set, length-append, length-set}
+use lib.ListN.{length, get_or, take, length-append}
 use lib.Seq.{take_all, length-take-le, length-sets}
 use Rattle.lines.specs.Digits.{digits, separator, spaced, newline, line, Puts, Prints}
 use Rattle.lines.specs.Spelled.{ten_digits}
@@ -21,14 +21,7 @@ spaced_next (n ∷ m ∷ numbers) (suc (suc i)) h = rw (spaced_next (m ∷ numbe
 
 pub record Printed (before numbers after : List ℕ) (at i : ℕ) : Type 0 where
   pub puts : Puts before 0 (spaced (take i numbers)) after at
-  pub numbered : i ≤ length numbers
   pub short : at ≤ i * 11
-
-pub keeps_length : {before numbers after : List ℕ} {at i : ℕ} → Printed before numbers after at i → length after ≡ length before
-keeps_length {before} {numbers} {after} {at} {i} p = ap length p.puts.stored ∙ length-sets before 0 (spaced (take i numbers))
-
-pub start : (before numbers : List ℕ) → Printed before numbers before 0 0
-start before numbers = record { puts = record { stored = refl; ends = refl }; numbered = omega arith; short = omega arith }
 
 pub turn : {before numbers after after' : List ℕ} {at at' i : ℕ} → Printed before numbers after at i → i < length numbers
     → get_or numbers i 0 < 4294967296 → Puts after at (separator i ++ digits (get_or numbers i 0)) after' at'
@@ -37,7 +30,6 @@ turn {before} {numbers} {after} {after'} {at} {at'} {i} p h f q =
     rw add-one
     (record {
       puts = rw (spaced_next numbers i h) (puts_then p.puts q);
-      numbered = h;
       short =
           let n = get_or numbers i 0 in
           omega (arith, p.short, q.ends, length-append (separator i) (digits n), separated i, ten_digits n f);
@@ -47,17 +39,20 @@ turn {before} {numbers} {after} {after'} {at} {at'} {i} p h f q =
     separated zero = omega arith
     separated (suc i) = omega arith
 
-pub done : {before numbers after : List ℕ} {at i : ℕ} → Printed before numbers after at i → length numbers ≤ i
-    → length numbers * 11 < length before → Prints before numbers (set after at newline) (at + 1)
+pub done : {before numbers after after' : List ℕ} {at i end : ℕ} → Printed before numbers after at i → i ≤ length numbers
+    → length numbers ≤ i → length numbers * 11 < length before → Puts after at (newline ∷ []) after' end
+    → Prints before numbers after' end
 unfolding line
-done {before} {numbers} {after} {at} {i} p h room =
+done {before} {numbers} {after} {after'} {at} {i} {end} p h h' room q =
     record {
-      puts =
-          puts_then (subst (λ shown. Puts before 0 (spaced shown) after at) (take_all i numbers h) p.puts)
-          (record { stored = refl; ends = refl });
+      puts = puts_then (subst (λ shown. Puts before 0 (spaced shown) after at) (take_all i numbers h') p.puts) q;
       within = within;
-      counted = sym (length-take-le (at + 1) (set after at newline) within);
+      counted = sym (length-take-le end after' within);
     }
   where
-    within : at + 1 ≤ length (set after at newline)
-    within = rw length-set (omega (arith, keeps_length p, p.short, p.numbered))
+    kept : length after' ≡ length before
+    kept = ap length q.stored ∙ length-sets after at (newline ∷ []) ∙ ap length p.puts.stored
+        ∙ length-sets before 0 (spaced (take i numbers))
+
+    within : end ≤ length after'
+    within = omega (arith, kept, q.ends, p.short)

@@ -1,52 +1,51 @@
 -- A line read byte by byte: what each byte makes of what has been read so far. Reads.antt shows that this finds the line's meaning.
-use Rattle.std.specs.Prelude.{ℕ, ◌+◌, ◌*◌, Bool, true, false, cond, eqb, leb}
-use Rattle.std.proofs.Math.Option.{Option, none, some}
-use Rattle.lines.specs.declared.Number.{Number}
-use Rattle.lines.specs.declared.Number.TheVariants.{Empty, Decimal, Bad}
+use Rattle.std.specs.Prelude.{ℕ, ◌+◌, ◌*◌, cond, eqb, leb, Option, Some, None, unwrap_or}
+use Rattle.lines.specs.declared.Kind.{Kind}
+use Rattle.lines.specs.declared.Kind.TheVariants.{Write, Read}
 use Rattle.lines.specs.declared.Line.{Line}
-use Rattle.lines.specs.declared.Line.TheVariants.{Start, Letter, Page, Value, Other as OtherLine}
-use Rattle.lines.specs.declared.Parsed.{Parsed}
-use Rattle.lines.specs.declared.Parsed.TheVariants.{Other}
+use Rattle.lines.specs.declared.Line.TheVariants.{Start, Letter, Page, Value, Other}
+use Rattle.lines.specs.declared.Request.{Request}
 use Rattle.lines.specs.Lines.{space, W, R, is_digit, digit, largest, reading, writing}
 
--- The number that a field holds which ends here.
-abbrev pub number : Number → Option ℕ
-number Empty = none
-number (Decimal n) = some n
-number Bad = none
-
 -- A number with one digit more, where 32 bits hold it.
-abbrev pub extended : ℕ → ℕ → Number
-extended n d = cond (leb (n * 10 + d) largest) (Decimal (n * 10 + d)) Bad
+abbrev pub extended : ℕ → ℕ → Option ℕ
+extended n d = cond (leb (n * 10 + d) largest) (Some (n * 10 + d)) None
 
-abbrev pub digit_added : Number → ℕ → Number
-digit_added Empty d = extended 0 d
-digit_added (Decimal n) d = extended n d
-digit_added Bad d = Bad
-
-abbrev pub digit_fed : Number → ℕ → Number
-digit_fed n b = cond (is_digit b) (digit_added n (digit b)) Bad
+-- The number that a field holds with one byte more: none where the byte is no digit.
+abbrev pub digit_fed : Option ℕ → ℕ → Option ℕ
+digit_fed n b = cond (is_digit b) (extended (unwrap_or n 0) (digit b)) None
 
 abbrev pub first_byte : ℕ → Line
-first_byte b = cond (eqb b W) (Letter true) (cond (eqb b R) (Letter false) OtherLine)
+first_byte b = cond (eqb b W) (Letter Write) (cond (eqb b R) (Letter Read) Other)
 
--- A space after the page: only a W goes on.
-abbrev pub page_ended : Bool → Option ℕ → Line
-page_ended write none = OtherLine
-page_ended write (some page) = cond write (Value page Empty) OtherLine
+-- A space after the page: only a W with a number goes on.
+abbrev pub page_ended : Kind → Option ℕ → Line
+page_ended kind None = Other
+page_ended Write (Some page) = Value page None
+page_ended Read (Some page) = Other
+
+-- A page or a value goes on while it is a number.
+abbrev pub page_fed : Kind → Option ℕ → Line
+page_fed kind None = Other
+page_fed kind (Some n) = Page kind (Some n)
+
+abbrev pub value_fed : ℕ → Option ℕ → Line
+value_fed page None = Other
+value_fed page (Some n) = Value page (Some n)
 
 -- The line with one byte more.
 abbrev pub fed : Line → ℕ → Line
 fed Start b = first_byte b
-fed (Letter write) b = cond (eqb b space) (Page write Empty) OtherLine
-fed (Page write n) b = cond (eqb b space) (page_ended write (number n)) (Page write (digit_fed n b))
-fed (Value page n) b = cond (eqb b space) OtherLine (Value page (digit_fed n b))
-fed OtherLine b = OtherLine
+fed (Letter kind) b = cond (eqb b space) (Page kind None) Other
+fed (Page kind n) b = cond (eqb b space) (page_ended kind n) (page_fed kind (digit_fed n b))
+fed (Value page n) b = value_fed page (digit_fed n b)
+fed Other b = Other
 
 -- What a line asks for that ends here.
-abbrev pub finished : Line → Parsed
-finished Start = Other
-finished (Letter write) = Other
-finished (Page write n) = cond write Other (reading (number n))
-finished (Value page n) = writing (some page) (number n)
-finished OtherLine = Other
+abbrev pub finished : Line → Option Request
+finished Start = None
+finished (Letter kind) = None
+finished (Page Write n) = None
+finished (Page Read n) = reading n
+finished (Value page n) = writing (Some page) n
+finished Other = None

@@ -1,9 +1,8 @@
 -- 01, "A session in full": "lines, with single spaces and 32-bit decimals, `W page value` .. or `R page` .. (other lines are
 -- skipped)". What a line means, as the list of its bytes without the newline.
-use Rattle.std.specs.Prelude.{ℕ, ◌+◌, ◌-◌, ◌*◌, Bool, true, false, cond, ◌&&◌, List, [], ◌∷◌, eqb, leb}
-use Rattle.std.proofs.Math.Option.{Option, none, some}
-use Rattle.lines.specs.declared.Parsed.{Parsed}
-use Rattle.lines.specs.declared.Parsed.TheVariants.{Write, Read, Other}
+use Rattle.std.specs.Prelude.{ℕ, ◌+◌, ◌-◌, ◌*◌, Bool, true, false, cond, ◌&&◌, List, [], ◌∷◌, eqb, leb, Option, Some, None}
+use Rattle.lines.specs.declared.Request.{Request}
+use Rattle.lines.specs.declared.Request.TheVariants.{Write, Read}
 
 -- ASCII: the space, the letters, the digits.
 abbrev pub space : ℕ
@@ -48,10 +47,10 @@ largest = 4294967295
 
 -- "32-bit decimals": digits only, of a number that 32 bits hold; one or more, zeros in front allowed.
 abbrev pub fitting : ℕ → List ℕ → Option ℕ
-fitting n bytes = cond (all_digits bytes && leb (value_after n bytes) largest) (some (value_after n bytes)) none
+fitting n bytes = cond (all_digits bytes && leb (value_after n bytes) largest) (Some (value_after n bytes)) None
 
 abbrev pub decimal : List ℕ → Option ℕ
-decimal [] = none
+decimal [] = None
 decimal (b ∷ bytes) = fitting 0 (b ∷ bytes)
 
 -- That a field is one byte alone.
@@ -60,21 +59,21 @@ is_letter letter [] = false
 is_letter letter (b ∷ []) = eqb b letter
 is_letter letter (b ∷ c ∷ bytes) = false
 
-abbrev pub reading : Option ℕ → Parsed
-reading none = Other
-reading (some page) = Read page
+abbrev pub reading : Option ℕ → Option Request
+reading None = None
+reading (Some page) = Some (Read page)
 
-abbrev pub writing : Option ℕ → Option ℕ → Parsed
-writing none value = Other
-writing (some page) none = Other
-writing (some page) (some value) = Write page value
+abbrev pub writing : Option ℕ → Option ℕ → Option Request
+writing None value = None
+writing (Some page) None = None
+writing (Some page) (Some value) = Some (Write page value)
 
 -- "`W page value`" and "`R page`", by their fields; everything else is another line.
-abbrev pub asked : List ℕ → List (List ℕ) → Parsed
-asked letter [] = Other
-asked letter (page ∷ []) = cond (is_letter R letter) (reading (decimal page)) Other
-asked letter (page ∷ value ∷ []) = cond (is_letter W letter) (writing (decimal page) (decimal value)) Other
-asked letter (page ∷ value ∷ more ∷ others) = Other
+abbrev pub asked : List ℕ → List (List ℕ) → Option Request
+asked letter [] = None
+asked letter (page ∷ []) = cond (is_letter R letter) (reading (decimal page)) None
+asked letter (page ∷ value ∷ []) = cond (is_letter W letter) (writing (decimal page) (decimal value)) None
+asked letter (page ∷ value ∷ more ∷ others) = None
 
-unfoldable pub meaning : List ℕ → Parsed
+unfoldable pub meaning : List ℕ → Option Request
 meaning bytes = asked (fields bytes).first (fields bytes).others

@@ -1,9 +1,10 @@
 -- Laws of bytes put one after the other.
-use Rattle.std.specs.Prelude.{ℕ, zero, suc, ◌+◌, ◌≡◌, refl, ◌≢◌, List, [], ◌∷◌, ◌++◌, length, set}
-use Rattle.std.proofs.Common.{arith, add-zero, suc-add, add-suc, add-one, ap, ◌∙◌, length-append}
+use Rattle.std.specs.Prelude.{ℕ, zero, suc, ◌+◌, ◌/◌, ◌≤◌, ◌≡◌, refl, ◌≢◌, List, [], ◌∷◌, ◌++◌, length, set}
+use Rattle.std.proofs.Common.{arith, add-zero, suc-add, add-suc, ap, ◌∙◌, length-append}
 use Rattle.std.proofs.lemmas.List.Edits.{sets}
 use Rattle.lines.specs.Lines.{space}
-use Rattle.lines.specs.Digits.{separator, Puts}
+use Rattle.lines.specs.Digits.{last_digit, digits, separator, Puts}
+use Rattle.lines.specs.Spelled.{more_digits}
 
 -- Stores one after the other are the stores of the joined list.
 sets_append : (l : List ℕ) (i : ℕ) (xs ys : List ℕ) → sets (sets l i xs) (i + length xs) ys ≡ sets l i (xs ++ ys)
@@ -17,18 +18,13 @@ puts_then {l} {m} {n} {xs} {ys} {at} {mid} {end} p q = record {
   ends = q.ends ∙ omega (arith, p.ends, length-append xs ys);
 }
 
--- Bytes put after one that is stored.
-puts_after : {l n : List ℕ} {at end x : ℕ} {xs : List ℕ} → Puts (set l at x) (at + 1) xs n end → Puts l at (x ∷ xs) n end
-puts_after {l} {n} {at} {end} {x} {xs} p = record {
-  stored = p.stored ∙ ap (λ k. sets (set l at x) k xs) (add-one at);
-  ends = p.ends ∙ omega arith;
-}
+-- The digits of a number that is not one digit.
+pub puts_digits : {l m k : List ℕ} {at mid end : ℕ} (n : ℕ) → 10 ≤ n → Puts l at (digits (n / 10)) m mid
+    → Puts m mid (last_digit n ∷ []) k end → Puts l at (digits n) k end
+puts_digits n h p q = rw (more_digits n h) (puts_then p q)
 
--- The first number of a line, and a later one with the space before it.
-pub puts_first : {l m xs : List ℕ} {at end i : ℕ} → i ≡ 0 → Puts l at xs m end → Puts l at (separator i ++ xs) m end
-puts_first e p = rw e p
-
-pub puts_later : {l m xs : List ℕ} {at end : ℕ} (i : ℕ) → i ≢ 0 → Puts (set l at space) (at + 1) xs m end
-    → Puts l at (separator i ++ xs) m end
-puts_later zero h p = absurd (h refl)
-puts_later (suc i) h p = puts_after p
+-- A later number of a line, with the space before it.
+pub puts_later : {l m k xs : List ℕ} {at mid end : ℕ} (i : ℕ) → i ≢ 0 → Puts l at (space ∷ []) m mid → Puts m mid xs k end
+    → Puts l at (separator i ++ xs) k end
+puts_later zero h p q = absurd (h refl)
+puts_later (suc i) h p q = puts_then p q

@@ -1,7 +1,6 @@
 -- Laws of a number's digits: one by one, how many there are, and that they are read back as the number.
-use Rattle.std.specs.Prelude.{ℕ, zero, suc, ◌+◌, ◌*◌, ◌/◌, ◌%◌, ◌^◌, ◌≤◌, ◌<◌, ◌≡◌, refl, Bool, true, false, ◌&&◌, List, [], ◌∷◌, ◌++◌, ltb, length}
+use Rattle.std.specs.Prelude.{ℕ, zero, suc, ◌+◌, ◌*◌, ◌/◌, ◌%◌, ◌^◌, ◌≤◌, ◌<◌, ◌≡◌, refl, Bool, true, false, ◌&&◌, List, [], ◌∷◌, ◌++◌, ltb, length, Some}
 use Rattle.std.proofs.Common.{arith, mod-lt, div-add-mod', ap, ◌∙◌, length-append, ltb-true, ltb-false, lt-ltb, le-ltb, le-leb}
-use Rattle.std.proofs.Math.Option.{some}
 use Rattle.lines.specs.Lines.{is_digit, digit, value_after, all_digits, largest, fitting, decimal}
 use Rattle.lines.specs.Digits.{last_digit, at_most, digits}
 
@@ -110,5 +109,5 @@ digits_decimal =
     (λ n large e. rw (more_digits n large) (decimal_snoc (digits (n / 10)) (last_digit n)))
 
 -- What is printed is read back as the number.
-pub read_back : (n : ℕ) → n ≤ largest → decimal (digits n) ≡ some n
+pub read_back : (n : ℕ) → n ≤ largest → decimal (digits n) ≡ Some n
 read_back n h = digits_decimal n ∙ rw ((spells n).are_digits, (spells n).have_value, le-leb n largest h)

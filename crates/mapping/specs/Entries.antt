@@ -7,10 +7,9 @@ use Rattle.std.proofs.Math.ListN.{get_or}
 use Rattle.std.proofs.Math.Seq.{get_or-drop}
 use Rattle.scope.specs.Counting.{all}
 use Rattle.scope.specs.Geometry.{Geometry}
-use Rattle.scope.specs.SmallRecord.{SmallRecord}
 use Rattle.scope.specs.Laws.Decides.{Decides, by_equal, by_below, by_most, by_same, by_and, by_not, by_all, by_some}
-use Rattle.scope.specs.Lent.{none, logical_at, physical_at, changed_at, cache_size, most_protected}
-use Rattle.scope.specs.Sound.{EntriesFit, ProtectedFit}
+use Rattle.scope.specs.Lent.{none, logical_at, physical_at, changed_at, cache_size}
+use Rattle.scope.specs.Sound.{EntriesFit}
 use Rattle.flash.specs.Cases.{same?, below?, clash, and_true}
 use Rattle.lent.specs.Notes.{filter_bits}
 use Rattle.words.specs.Erased.{is_erased_word}
@@ -31,9 +30,6 @@ behind cache used = drop (used * 3) cache
 
 pub too_many : (g : Geometry) (cache : List ℕ) (used : ℕ) → g.C < used → Decides false (EntriesFit g cache used)
 too_many g cache used h = record { holds = λ p. clash p refl; passes = λ f. absurd (omega (arith, f.at_most)) }
-
-pub too_many_protected : (g : Geometry) (r : SmallRecord) → most_protected g < r.protected → Decides false (ProtectedFit g r)
-too_many_protected g r h = record { holds = λ p. clash p refl; passes = λ f. absurd (omega (arith, f.at_most_half)) }
 
 module _ (g : Geometry) (cache : List ℕ) (used : ℕ) (most : used ≤ g.C) (long : length cache ≡ cache_size g) where
   UsedFit : Type 0

@@ -1,6 +1,7 @@
 -- The modules of this crate.
 pub mod Named
 pub mod Tally
+pub mod Part
 pub mod Maps
 pub mod Seen
 pub mod Entries

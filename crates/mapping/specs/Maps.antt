@@ -1,7 +1,7 @@
 -- A list of words as the map of a region's owners: with rule 2 of the region it is decided by the counts of its words and of the region's
 -- valid pages. For the translation region and the directory that is rule 4.
-use Rattle.std.specs.Prelude.{ℕ, ◌+◌, ◌<◌, ◌≡◌, ◌≢◌, Bool, false, ◌&&◌, List, eqb, length, get_or}
-use Rattle.std.proofs.Common.{zero-add, arith, sym, ap, ◌∙◌, eq-eqb, ne_eqb}
+use Rattle.std.specs.Prelude.{ℕ, ◌+◌, ◌<◌, ◌≡◌, Bool, ◌&&◌, List, eqb, length, get_or}
+use Rattle.std.proofs.Common.{zero-add, ap, ◌∙◌}
 use Rattle.scope.specs.Counting.{count}
 use Rattle.scope.specs.Geometry.{Geometry, Accepted}
 use Rattle.scope.specs.Laws.Decides.{Decides}
@@ -12,25 +12,13 @@ use Rattle.flash.specs.Bounded.{accepted_bounded, region_few}
 use Rattle.flash.specs.Counting.{count_same}
 use Rattle.flash.specs.Owners.{OwnersFit, valid_in}
 use Rattle.mapping.specs.Named.{by_counts, owns}
-use Rattle.mapping.specs.Tally.{nothing, Tallied, word_none, word_good}
-use Rattle.mapping.specs.declared.tally.Tally.{Tally}
+use Rattle.mapping.specs.Tally.{word_none, word_good}
 
 -- The words are *none* or good, and of these there are as many as valid pages.
 abbrev pub map_names : ℕ → ℕ → ℕ → List ℕ → List ℕ → Bool
 map_names first n valid spare map =
     eqb (count (length map) (word_none map) + count (length map) (word_good map 0 spare first n)) (length map)
     && eqb (count (length map) (word_good map 0 spare first n)) valid
-
-module _ (first n valid : ℕ) (spare map : List ℕ) (sum : Tally)
-    (counted : Tallied nothing sum (length map) (word_none map) (word_good map 0 spare first n)) where
-  all_told : sum.nones + sum.good ≡ count (length map) (word_none map) + count (length map) (word_good map 0 spare first n)
-  all_told = omega (arith, counted.nones_more, counted.good_more)
-
-  pub names_fail : sum.nones + sum.good ≢ length map → false ≡ map_names first n valid spare map
-  names_fail other = rw (ne_eqb _ (length map) (λ e. other (all_told ∙ e)))
-
-  pub names_all : sum.nones + sum.good ≡ length map → eqb sum.good valid ≡ map_names first n valid spare map
-  names_all e = rw (eq-eqb _ (length map) (sym all_told ∙ e)) (ap (λ (k : ℕ). eqb k valid) (counted.good_more ∙ zero-add _))
 
 module _ (g : Geometry) (r : Region) (spare map : List ℕ) (ok : Accepted g) (fit : OwnersFit g r spare) (long : length map ≡ owners g r) where
   good_is : count (length map) (word_good map 0 spare (first_page g r) (region_pages g r))

@@ -82,9 +82,6 @@ module _ (g : Geometry) (ok : Accepted g) (chip directory : List ℕ) where
 
 -- As the code has it: the directory's length for M.
 module _ (g : Geometry) (ok : Accepted g) (chip directory : List ℕ) (m : ℕ) (is : m ≡ M g) where
-  pub starts_below : (m - 1) * g.W < g.L
-  starts_below = subst (λ (k : ℕ). (k - 1) * g.W < g.L) (sym is) (last_starts g ok chip directory)
-
   pub holds_at_most : g.L - (m - 1) * g.W ≤ g.W
   holds_at_most = subst (λ (k : ℕ). g.L - (k - 1) * g.W ≤ g.W) (sym is) (last_holds g ok chip directory)
 

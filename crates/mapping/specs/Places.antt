@@ -10,9 +10,9 @@ use Rattle.scope.specs.Lent.{State, decode, logical_at, physical_at}
 use Rattle.scope.specs.Regions.{Data}
 use Rattle.scope.specs.Sound.{OwnersDiffer, Names, EntriesFit, PlacesHold, PastL, rank_of, stored, current}
 use Rattle.flash.specs.Bounded.{accepted_bounded, region_few}
-use Rattle.flash.specs.Cases.{on, and_true, true_and}
+use Rattle.flash.specs.Cases.{on, clash, and_true, true_and}
 use Rattle.flash.specs.Counting.{count_same, count_split, count_into}
-use Rattle.flash.specs.Tests.{same_test, part_passed, part_refused}
+use Rattle.flash.specs.Tests.{same_test}
 use Rattle.flash.specs.Owners.{OwnersFit, valid_in}
 use Rattle.cache.specs.Ranks.{rank_found, rank_is}
 use Rattle.mapping.specs.Named.{owns, is_none, by_counts}
@@ -27,13 +27,13 @@ CurrentPlaces g s =
 
 -- Where the first fails the rules do; where it holds the second tells.
 module _ {a : Bool} (g : Geometry) (s : State) (first : Decides a (CurrentPlaces g s)) where
-  pub first_fails : not a ≡ true → Decides false (OwnersDiffer g Data s.spare × PlacesHold g s)
-  first_fails p = part_refused first p (λ x. (x.0, x.1.current_place))
+  pub first_fails : a ≡ false → Decides a (OwnersDiffer g Data s.spare × PlacesHold g s)
+  first_fails p = record { holds = λ q. clash q p; passes = λ x. first.passes (x.0, x.1.current_place) }
 
-  pub second_tells : {b : Bool} → not a ≡ false → Decides b (PastL g s.chip s.directory)
+  pub second_tells : {b : Bool} → a ≡ true → Decides b (PastL g s.chip s.directory)
       → Decides b (OwnersDiffer g Data s.spare × PlacesHold g s)
   second_tells p second =
-      let both = part_passed first p in
+      let both = first.holds p in
       by_same (λ x. (both.0, record { current_place = both.1; past_L = x })) (λ f. f.1.past_L) second
 
 module _ (g : Geometry) (s : State) (fits : EntriesFit g s.cache s.small.used) where

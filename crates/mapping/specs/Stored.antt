@@ -1,9 +1,8 @@
 -- What flash holds for a logical page, as the code finds it: by the directory's word, and then by the word of the page that it names.
 -- Any words whatever: past the end of a list there is *none*, so a page number past the chip holds nothing.
-use Rattle.std.specs.Prelude.{ℕ, ◌/◌, ◌%◌, ◌≤◌, ◌≡◌, Bool, not, ◌||◌, List, [], eqb, ltb, length, get_or}
+use Rattle.std.specs.Prelude.{ℕ, ◌/◌, ◌%◌, ◌≤◌, ◌≡◌, Bool, not, ◌||◌, List, [], eqb, ltb, get_or}
 use Rattle.std.proofs.Common.{arith, sym, lt-ltb, le-ltb}
 use Rattle.std.proofs.Math.Path.{ap}
-use Rattle.std.proofs.Math.ListN.{get_or-eq_default}
 use Rattle.scope.specs.Counting.{all}
 use Rattle.scope.specs.Decisions.{unchanged_agree}
 use Rattle.scope.specs.Geometry.{Geometry}
@@ -26,9 +25,6 @@ module _ (g : Geometry) (chip directory : List ℕ) (l : ℕ) where
   pub stored_nowhere : Nowhere ≡ decode (get_or directory (l / g.W) none) → none ≡ stored g chip directory l
   unfolding stored
   stored_nowhere e = ap (in_page g chip l) e
-
-  pub stored_unnamed : length directory ≤ l / g.W → none ≡ stored g chip directory l
-  stored_unnamed h = stored_nowhere (ap decode (sym (get_or-eq_default directory none h)))
 
   pub stored_place : (q : ℕ) → Place q ≡ decode (get_or directory (l / g.W) none) → word_of g q (l % g.W) chip ≡ stored g chip directory l
   unfolding stored

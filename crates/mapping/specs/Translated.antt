@@ -1,6 +1,6 @@
 -- The translation pages in order, as rule 6 walks them: page t holds the logical pages from t * W on, W of them or as many as L leaves,
 -- and of the last page alone there are words past L.
-use Rattle.std.specs.Prelude.{ℕ, suc, ◌+◌, ◌*◌, ◌-◌, ◌/◌, ◌%◌, min, ◌≤◌, ◌<◌, ◌≡◌, refl, Bool, List, length, get_or, take, drop}
+use Rattle.std.specs.Prelude.{ℕ, suc, ◌+◌, ◌*◌, ◌-◌, ◌/◌, ◌%◌, min, ◌≤◌, ◌<◌, ◌≡◌, Bool, List, length, get_or, take, drop}
 use Rattle.std.proofs.Common.{le-div_iff_mul-le, mod-eq_of_lt, suc-mul, mul-le-mul_right, add-zero, add-one, arith, sym, ap, ◌∙◌, subst, length-take, length-drop, get_or-take, get_or-drop, eq-eqb}
 use Rattle.std.proofs.Math.Nat.{lt-div-mul-add, mul-add-div_right, mul-add-mod_self_right, div-eq_of_lt}
 use Rattle.scope.specs.Counting.{count}
@@ -15,40 +15,12 @@ use Rattle.words.specs.Erased.{ErasedRun}
 use Rattle.words.specs.Runs.{get_d_any}
 use Rattle.mapping.specs.Named.{owns, is_none, none_owned}
 use Rattle.mapping.specs.Stored.{stored_nowhere, stored_place}
-use Rattle.mapping.specs.Tally.{Tallied, TalliedWord, TalliedWords, word_none, word_good, tallied_start, tallied_more}
+use Rattle.mapping.specs.Tally.{Tallied, TalliedWords, word_none, word_good}
 use Rattle.mapping.specs.declared.tally.Tally.{Tally}
-use Rattle.mapping.specs.declared.places.Reached.{Reached}
 
 -- The words from `at` on that hold the places of the logical pages from `from` on: W of them, or as many as L leaves.
 abbrev pub held_words : Geometry → List ℕ → ℕ → ℕ → List ℕ
 held_words g chip at from = take (min g.W (g.L - from)) (drop at chip)
-
--- The part of the chip that the code lends for them.
-abbrev pub lent_part : List ℕ → ℕ → ℕ → List ℕ
-lent_part chip at n = take (at + n - at) (drop at chip)
-
-module _ (g : Geometry) (chip : List ℕ) (at from n : ℕ) (is : n ≡ min g.W (g.L - from)) where
-  pub part_held : lent_part chip at n ≡ held_words g chip at from
-  part_held =
-      let same : at + n - at ≡ min g.W (g.L - from) = omega arith in
-      ap (λ (k : ℕ). take k (drop at chip)) same
-
-  pub part_short : (length (lent_part chip at n) ≤ g.W) × (length (lent_part chip at n) ≤ g.L - from)
-  part_short = rw part_held (simp length-take (omega arith))
-
-  -- A single one is counted as a word.
-  pub one_held : n ≡ 1 → at < length chip → (spare : List ℕ) (m : ℕ) {t r : Tally}
-      → TalliedWord t r (is_none (get_or chip at none)) (owns 0 m spare from (get_or chip at none))
-      → TalliedWords (held_words g chip at from) from spare m t r
-  one_held one inside spare m {t} {r} counted =
-      let words : List ℕ = held_words g chip at from in
-      let only : min g.W (g.L - from) ≡ 1 = sym is ∙ one in
-      let long : 0 + 1 ≡ length words = rw only (simp (length-take, length-drop) (omega arith)) in
-      let word : get_or words 0 none ≡ get_or chip at none =
-      rw only (get_or-take 1 (drop at chip) 0 none (omega arith) ∙ get_or-drop at chip 0 none ∙ rw add-zero refl) in
-      let first : TalliedWord t r (word_none words 0) (word_good words from spare 0 m 0) = rw (word, add-zero) counted in
-      subst (λ (k : ℕ). Tallied t r k (word_none words) (word_good words from spare 0 m)) long
-      (tallied_more t t r 0 _ _ (tallied_start t _ _) first)
 
 module _ (g : Geometry) (W_from : 1 ≤ g.W) where
   -- Each translation page holds some logical page, and all of them hold every one.
@@ -72,10 +44,6 @@ module _ (g : Geometry) (W_from : 1 ≤ g.W) where
     stored_in_page q i h e =
         sym (stored_place g chip directory (t * g.W + i) q (e ∙ ap (λ (k : ℕ). named k directory) (sym (page_of t i h))))
         ∙ ap (λ (k : ℕ). word_of g q k chip) (word_in t i h)
-
-    pub stored_in_none : (i : ℕ) → i < g.W → Nowhere ≡ named t directory → stored g chip directory (t * g.W + i) ≡ none
-    stored_in_none i h e =
-        sym (stored_nowhere g chip directory (t * g.W + i) (e ∙ ap (λ (k : ℕ). named k directory) (sym (page_of t i h))))
 
 -- What is counted of the words that flash stores: of logical page l.
 abbrev pub stored_none : Geometry → List ℕ → List ℕ → ℕ → Bool
@@ -108,11 +76,11 @@ TalliedBetween g chip spare directory t u s r =
     (λ i. stored_none g chip directory (t * g.W + i))
     (λ i. stored_good g chip spare directory (t * g.W + i))
 
--- Translation page t is counted, and perhaps some behind it.
-pub record TalliedFrom (g : Geometry) (chip spare directory : List ℕ) (t : ℕ) (s : Tally) (r : Reached) : Type 0 where
-  pub goes_on : t < r.next
-  pub ends : r.next ≤ M g
-  pub counted : TalliedBetween g chip spare directory t r.next s r.sum
+-- Translation page t is counted, and perhaps some behind it, up to the page that comes next.
+pub record TalliedFrom (g : Geometry) (chip spare directory : List ℕ) (t : ℕ) (s r : Tally) (next : ℕ) : Type 0 where
+  pub goes_on : t < next
+  pub ends : next ≤ M g
+  pub counted : TalliedBetween g chip spare directory t next s r
 
 module _ (g : Geometry) (ok : Accepted g) (small : 0 + g.D * g.P ≤ most_pages) (chip spare directory : List ℕ) (t : ℕ) where
   -- What the pages from t to u store where none of them exists.
@@ -173,11 +141,6 @@ abbrev pub TalliedPages : Geometry → List ℕ → List ℕ → List ℕ → �
 TalliedPages g chip spare directory t s r =
     Tallied s r (held_by g t) (stored_none g chip directory) (stored_good g chip spare directory)
 
-pub pages_start : (g : Geometry) (chip spare directory : List ℕ) (s : Tally) → TalliedPages g chip spare directory 0 s s
-pages_start g chip spare directory s =
-    let none_yet : 0 ≡ held_by g 0 = omega arith in
-    subst (λ (n : ℕ). Tallied s s n (stored_none g chip directory) (stored_good g chip spare directory)) none_yet (tallied_start s _ _)
-
 module _ (g : Geometry) (ok : Accepted g) (chip spare directory : List ℕ) where
   pub pages_more : (t u : ℕ) (s₀ s r : Tally) → t < M g → t < u → TalliedPages g chip spare directory t s₀ s
       → TalliedBetween g chip spare directory t u s r → TalliedPages g chip spare directory u s₀ r
@@ -192,14 +155,6 @@ module _ (g : Geometry) (ok : Accepted g) (chip spare directory : List ℕ) wher
         good_more = rw (next, count_add (t * g.W) n (stored_good g chip spare directory))
             (omega (arith, between.good_more, subst (λ (k : ℕ). s.good ≡ s₀.good + count k (stored_good g chip spare directory)) at before.good_more));
       }
-
-  -- All of them: the words of every logical page.
-  pub pages_done : (s r : Tally) (t : ℕ) → M g ≤ t → t ≤ M g → TalliedPages g chip spare directory t s r
-      → Tallied s r g.L (stored_none g chip directory) (stored_good g chip spare directory)
-  pages_done s r t h k done =
-      let is : t ≡ M g = omega arith in
-      let all : held_by g t ≡ g.L = omega (arith, pages_cover g ok.W_from, ap (λ (x : ℕ). x * g.W) is) in
-      subst (λ (n : ℕ). Tallied s r n (stored_none g chip directory) (stored_good g chip spare directory)) all done
 
 -- The pages that the directory names are on the chip, with all their words: by rule 4.
 abbrev pub NamesOnChip : Geometry → List ℕ → Type 0

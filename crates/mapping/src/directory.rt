@@ -10,21 +10,25 @@ ghost use Rattle.flash.specs.Owners.{OwnersFit, valid_in};
 ghost use Rattle.lent.specs.Model.{geometry};
 ghost use Rattle.mapping.specs.Maps.{map_names};
 
-use crate::tally::{Tally, tally_words};
+use crate::owners::Owners;
+use crate::part::Part;
 use lent::Geometry;
 
 // Whether the words of a map, one for each owner of the n pages from `first` on, are none or name a valid page of their own, and of these there
 // are as many as valid pages. What rule 1 says of the owners makes that, for either region, the rule of the map and rule 2.
-pub fn map_names(first: usize, n: usize, valid: usize, spare: &[u32], map: &[u32]) -> bool
+pub fn map_names<'a>(first: usize, n: usize, valid: usize, spare: &'a [u32], map: &'a [u32]) -> bool
     requires spare_words_in_bounds { ((first + n) * spare_words ≤ length spare.now) × (first + n ≤ most_pages) }
     requires map_len_bound { length map.now ≤ most_pages }
     ensures { result ≡ map_names first n valid spare.now map.now }
 {
-    let sum = tally_words(Tally { nones: 0, good: 0 }, map, 0, spare, first, n);
-    if sum.nones + sum.good != map.len() {
-        return false;
-    }
-    sum.good == valid
+    let owners = Owners { spare, first, n };
+    let part = Part {
+        words: map,
+        from: 0,
+        owners,
+    };
+    let sum = part.tally();
+    sum.nones + sum.good == map.len() && sum.good == valid
 }
 
 // Both rules.

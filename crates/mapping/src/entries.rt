@@ -25,10 +25,7 @@ fn entry_fits(cache: &[u32], l: u32, i: usize, filter: &mut [u64; FILTER_WORDS])
     ensures filter_after { result ≡ true → filter.new ≡ put filter.old (logical_at i cache.now) }
 {
     let page = cache[i * ENTRY_WORDS];
-    if l <= page {
-        return false;
-    }
-    if 1 < cache[i * ENTRY_WORDS + 2] {
+    if l <= page || 1 < cache[i * ENTRY_WORDS + 2] {
         return false;
     }
     let at = page as usize;
@@ -44,12 +41,10 @@ fn used_fit(cache: &[u32], l: u32, n: usize, filter: &mut [u64; FILTER_WORDS]) -
     ensures seen { result ≡ true → Seen cache.now n filter.new }
 {
     bitmap::clear(filter);
-    let mut i = 0;
-    while i < n {
+    for i in 0..n {
         if !entry_fits(cache, l, i, filter) {
             return false;
         }
-        i += 1;
     }
     true
 }
@@ -61,23 +56,13 @@ pub fn entries_fit(g: Geometry, cache: &[u32], used: u32, filter: &mut [u64; FIL
     ensures decides { Decides result (EntriesFit (geometry g) cache.now used) }
     ensures filter { result ≡ true → Filter cache.now used filter.new }
 {
-    if g.c < used {
-        return false;
-    }
     let n = used as usize;
-    if !used_fit(cache, g.l, n, filter) {
-        return false;
-    }
-    let behind = n * ENTRY_WORDS;
-    only_erased(&cache[behind..])
+    used <= g.c && used_fit(cache, g.l, n, filter) && only_erased(&cache[n * ENTRY_WORDS..])
 }
 
 // That sentence.
 pub fn protected_fit(g: Geometry, rec: Record) -> bool
     ensures { Decides result (ProtectedFit (geometry g) (small rec)) }
 {
-    if g.c / 2 < rec.protected {
-        return false;
-    }
-    rec.protected <= rec.used
+    rec.protected <= g.c / 2 && rec.protected <= rec.used
 }

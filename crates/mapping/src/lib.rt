@@ -4,6 +4,9 @@
 
 pub mod directory;
 pub mod entries;
+pub mod held;
+pub mod owners;
+pub mod part;
 pub mod places;
 pub mod stored;
 pub mod tally;

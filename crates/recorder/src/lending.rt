@@ -3,6 +3,7 @@
 // of the record by value.
 ghost use Rattle.std.specs.Prelude.{map, length};
 ghost use Rattle.lent.specs.Model.{geometry, state};
+ghost use Rattle.lent.specs.Reply.{reply};
 ghost use Rattle.replies.specs.Model.{request};
 ghost use Rattle.scope.specs.Requests.{replied};
 ghost use Rattle.scope.specs.Calls.{run_replied, format, check, read, write, run};
@@ -10,6 +11,7 @@ ghost use Rattle.scope.specs.SmallRecord.{record_words};
 ghost use Rattle.scope.specs.Boundary.{call_sizes};
 ghost use Rattle.scope.specs.Holding.{Answers};
 
+use lent::reply::Reply;
 use lent::{Geometry, Record};
 use replies::{Out, Request};
 
@@ -28,7 +30,7 @@ pub fn format(
     ensures { Answers
         (format (geometry g) (call_sizes record_words (length counts.old))
         (state chip.old spare.old directory.old cache.old rec))
-        counts.old result.answer
+        counts.old (reply result.answer)
         (state chip.new spare.new directory.new cache.new result.rec)
         counts.new }
 {
@@ -44,11 +46,11 @@ pub fn check(
     directory: &[u32],
     cache: &[u32],
     counts: &mut [u32],
-) -> u32
+) -> Reply
     ensures { Answers
         (check (geometry g) (call_sizes record_words (length counts.old))
         (state chip.now spare.now directory.now cache.now rec))
-        counts.old result
+        counts.old (reply result)
         (state chip.now spare.now directory.now cache.now rec)
         counts.new }
 {
@@ -69,7 +71,7 @@ pub fn read(
     ensures { Answers
         (read (geometry g) (call_sizes record_words (length counts.old)) page buffer.old
         (state chip.old spare.old directory.old cache.old rec))
-        counts.old (replied buffer.new result.answer)
+        counts.old (replied buffer.new (reply result.answer))
         (state chip.new spare.new directory.new cache.new result.rec)
         counts.new }
 {
@@ -93,7 +95,7 @@ pub fn write(
     ensures { Answers
         (write (geometry g) (call_sizes record_words (length counts.old)) page buffer.now
         (state chip.old spare.old directory.old cache.old rec))
-        counts.old (replied buffer.now result.answer)
+        counts.old (replied buffer.now (reply result.answer))
         (state chip.new spare.new directory.new cache.new result.rec)
         counts.new }
 {
@@ -118,7 +120,7 @@ pub fn run(
     ensures { Answers
         (run (geometry g) (call_sizes record_words (length counts.old)) (map request requests) words.old answers.old
         (state chip.old spare.old directory.old cache.old rec))
-        counts.old (run_replied words.new answers.new result.answer)
+        counts.old (run_replied words.new answers.new (reply result.answer))
         (state chip.new spare.new directory.new cache.new result.rec)
         counts.new }
 {

@@ -9,9 +9,9 @@ mod printing;
 
 use crate::lending::REQUESTS;
 use crate::printing::{tell, tell_numbers, tell_word};
+use lent::reply::Reply;
 use lent::{ENTRY_WORDS, Geometry, NONE, Record, SPARE_WORDS};
-use replies::tests::DONE;
-use replies::{KIND_READ, KIND_WRITE, Request};
+use replies::{Kind, Request};
 use std::io;
 
 const G: Geometry = Geometry {
@@ -34,14 +34,14 @@ const CACHE: usize = ENTRY_WORDS;
 
 fn reads(page: u32) -> Request {
     Request {
-        kind: KIND_READ,
+        kind: Kind::Read.into(),
         page,
     }
 }
 
 fn writes(page: u32) -> Request {
     Request {
-        kind: KIND_WRITE,
+        kind: Kind::Write.into(),
         page,
     }
 }
@@ -130,7 +130,7 @@ fn read_page(
         &mut buffer,
         &mut counts,
     );
-    if out.answer == DONE {
+    if out.answer == Reply::Done {
         tell_word(to, b"read ", out.answer, counts, buffer[0])?;
     } else {
         tell(to, b"read ", out.answer, counts)?;
@@ -175,7 +175,7 @@ fn serve(
     directory: &mut [u32; DIRECTORY],
     cache: &mut [u32; CACHE],
 ) -> io::Result<Record> {
-    if q.kind == KIND_READ {
+    if Kind::try_from(q.kind) == Ok(Kind::Read) {
         return read_page(to, rec, q.page, chip, spare, directory, cache);
     }
     write_page(to, rec, q.page, value, chip, spare, directory, cache)

@@ -1,13 +1,14 @@
 // What the program prints of an answer: a word that says what was asked, and the numbers in the form of document 01's session.
 ghost use Rattle.std.specs.Prelude.{◌*◌, ◌<◌, length};
 
+use lent::reply::Reply;
 use lines::print::{put_answer, put_line, put_word};
 use std::io;
 
 // An answer and its counts.
-pub fn tell(to: &impl Print, asked: &[u8], answer: u32, counts: [u32; 3]) -> io::Result<()> {
+pub fn tell(to: &impl Print, asked: &[u8], answer: Reply, counts: [u32; 3]) -> io::Result<()> {
     let mut out = [0u8; 64];
-    let n = put_answer(&mut out, answer, counts);
+    let n = put_answer(&mut out, answer.into(), counts);
     to.write_all(asked)?;
     to.write_all(&out[..n])
 }
@@ -16,12 +17,12 @@ pub fn tell(to: &impl Print, asked: &[u8], answer: u32, counts: [u32; 3]) -> io:
 pub fn tell_word(
     to: &impl Print,
     asked: &[u8],
-    answer: u32,
+    answer: Reply,
     counts: [u32; 3],
     word: u32,
 ) -> io::Result<()> {
     let mut out = [0u8; 64];
-    let n = put_word(&mut out, answer, counts, word);
+    let n = put_word(&mut out, answer.into(), counts, word);
     to.write_all(asked)?;
     to.write_all(&out[..n])
 }

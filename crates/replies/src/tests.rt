@@ -1,28 +1,19 @@
-// Tests in number order, each answered with its number, and 0 where none applies. What is tested of a slice is its length, which comes by
-// value.
-ghost use Rattle.std.specs.Prelude.{◌≡◌, ◌&&◌};
+// Tests in number order: the first that applies refuses. What is tested of a slice is its length, which comes by value.
+ghost use Rattle.std.specs.Prelude.{◌≡◌, ◌&&◌, IfOk};
 ghost use Rattle.lent.specs.Model.{geometry, small};
+ghost use Rattle.lent.specs.Reply.{tested};
 ghost use Rattle.scope.specs.Boundary.{call_sizes};
 ghost use Rattle.scope.specs.Calls.{size_tests, request_tests};
 ghost use Rattle.scope.specs.Replies.{first_applying, right_sizes};
 ghost use Rattle.geometry.specs.Sizes.{sizes};
 ghost use Rattle.replies.specs.Sizes.{beside_run, buffer_right, run_right};
-ghost use Rattle.replies.specs.Model.{request};
+ghost use Rattle.replies.specs.Model.{request, kind};
 
 use crate::counting::COUNTS_WORDS;
-use crate::{KINDS, Request};
+use crate::{Kind, Request};
 use geometry::{accepts, sizes_right};
+use lent::reply::Refusal;
 use lent::{Geometry, RECORD_WORDS, Record};
-
-pub const DONE: u32 = 0;
-
-const GEOMETRY: u32 = 2;
-
-const LENGTH: u32 = 3;
-
-const KIND: u32 = 5;
-
-const PAGE: u32 = 6;
 
 const MOST_REQUESTS: usize = 1024;
 
@@ -74,37 +65,36 @@ pub fn run_lengths_right(
 }
 
 // GEOMETRY, and LENGTH of the state's slices and of all others together.
-pub fn size_answer(
+pub fn test_sizes(
     g: Geometry,
     others: bool,
     chip: usize,
     spare: usize,
     directory: usize,
     cache: usize,
-) -> u32
-    ensures { result ≡ first_applying (size_tests (geometry g) (right_sizes (sizes (geometry g) chip spare directory cache) && others)) }
+) -> Result<(), Refusal>
+    ensures { tested result ≡ first_applying (size_tests (geometry g) (right_sizes (sizes (geometry g) chip spare directory cache) && others)) }
 {
     if !accepts(g) {
-        return GEOMETRY;
+        return Err(Refusal::Geometry);
     }
     if !sizes_right(g, chip, spare, directory, cache) {
-        return LENGTH;
+        return Err(Refusal::Length);
     }
     if !others {
-        return LENGTH;
+        return Err(Refusal::Length);
     }
-    DONE
+    Ok(())
 }
 
-// The tests of a request, be it a single call's or a run's, with the small record as it is then: KIND and PAGE.
-pub fn request_answer(rec: Record, g: Geometry, q: Request) -> u32
-    ensures { result ≡ first_applying (request_tests (geometry g) (small rec) (request q)) }
+// The tests of a request, be it a single call's or a run's, with the small record as it is then: KIND and PAGE. One that passes has a kind.
+pub fn test_request(rec: Record, g: Geometry, q: Request) -> Result<Kind, Refusal>
+    ensures first { tested result ≡ first_applying (request_tests (geometry g) (small rec) (request q)) }
+    ensures kind { IfOk result (λ k. kind k ≡ q.kind) }
 {
-    if KINDS <= q.kind {
-        return KIND;
-    }
+    let kind = Kind::try_from(q.kind)?;
     if g.l <= q.page {
-        return PAGE;
+        return Err(Refusal::Page);
     }
-    DONE
+    Ok(kind)
 }

@@ -1,10 +1,11 @@
 -- A node as the definitions have it, and what a step promises of it: its definition is done, under the geometry and in the slices that it
 -- had.
-use Rattle.std.specs.Prelude.{◌≡◌, refl, length}
-use Rattle.std.proofs.Common.{◌∙◌}
+use Rattle.std.specs.Prelude.{◌≡◌, refl, ℕ, List, length}
+use Rattle.std.proofs.Common.{sym, ◌∙◌}
 use Rattle.scope.specs.Geometry.{Geometry}
 use Rattle.scope.specs.Lent.{State}
 use Rattle.scope.specs.Operations.{Step}
+use Rattle.lent.specs.declared.Record.{Record}
 use Rattle.lent.specs.Model.{geometry, state}
 use Rattle.lent.specs.Ready.{DoesAll}
 use Rattle.steps.specs.Flash.{SameFlash, same_lent, then_same}
@@ -12,46 +13,56 @@ use Rattle.requests.specs.declared.node.Node.{Node}
 
 -- The geometry that it is under, and its state.
 abbrev pub under : Node → Geometry
-under n = geometry n.flash.g
+under n = geometry n.flash.now.g
 
 abbrev pub held : Node → State
-held n = state n.flash.chip.now n.flash.spare.now n.directory.now n.cache.now n.work.rec
+held n = state n.flash.now.chip.now n.flash.now.spare.now n.directory.now n.cache.now n.work.now.rec
+
+-- The state that a caller finds in its own lists and record, where these are what the node held.
+pub held_is : {chip spare directory cache : List ℕ} {r : Record} (n : Node) → chip ≡ n.flash.now.chip.now → spare ≡ n.flash.now.spare.now
+    → directory ≡ n.directory.now → cache ≡ n.cache.now → r ≡ n.work.now.rec
+    → held n ≡ state chip spare directory cache r
+held_is n a b c d e = λ i. sym (λ j. state (a j) (b j) (c j) (d j) (e j)) i
 
 -- The geometry and the slices are those before.
-pub record SameLists {N : Type 0} (directory directory' cache cache' filter filter' : N) : Type 0 where
+pub record SameLists {N : Type 0} (work work' flash flash' directory directory' cache cache' filter filter' : N) : Type 0 where
+  pub work_kept : work' ≡ work
+  pub flash_kept : flash' ≡ flash
   pub directory_kept : directory' ≡ directory
   pub cache_kept : cache' ≡ cache
   pub filter_kept : filter' ≡ filter
 
 abbrev pub SameNode : Node → Node → Type 0
 SameNode n n' =
-    SameFlash n.flash n'.flash
-    × SameLists n.directory.ghost_name n'.directory.ghost_name n.cache.ghost_name n'.cache.ghost_name n.filter.ghost_name n'.filter.ghost_name
+    SameFlash n.flash.now n'.flash.now
+    × SameLists n.work.ghost_name n'.work.ghost_name n.flash.ghost_name n'.flash.ghost_name n.directory.ghost_name n'.directory.ghost_name n.cache.ghost_name n'.cache.ghost_name n.filter.ghost_name n'.filter.ghost_name
 
-pub same_lists : {N : Type 0} {d c f : N} → SameLists d d c c f f
-same_lists = record { directory_kept = refl; cache_kept = refl; filter_kept = refl }
+pub same_lists : {N : Type 0} {w x d c f : N} → SameLists w w x x d d c c f f
+same_lists = record { work_kept = refl; flash_kept = refl; directory_kept = refl; cache_kept = refl; filter_kept = refl }
 
-module _ {N : Type 0} {d d₁ d₂ c c₁ c₂ f f₁ f₂ : N} where
-  pub then_lists : SameLists d d₁ c c₁ f f₁ → SameLists d₁ d₂ c₁ c₂ f₁ f₂ → SameLists d d₂ c c₂ f f₂
-  then_lists x y =
+module _ {N : Type 0} {w w₁ w₂ x x₁ x₂ d d₁ d₂ c c₁ c₂ f f₁ f₂ : N} where
+  pub then_lists : SameLists w w₁ x x₁ d d₁ c c₁ f f₁ → SameLists w₁ w₂ x₁ x₂ d₁ d₂ c₁ c₂ f₁ f₂ → SameLists w w₂ x x₂ d d₂ c c₂ f f₂
+  then_lists a b =
       record {
-        directory_kept = y.directory_kept ∙ x.directory_kept;
-        cache_kept = y.cache_kept ∙ x.cache_kept;
-        filter_kept = y.filter_kept ∙ x.filter_kept;
+        work_kept = b.work_kept ∙ a.work_kept;
+        flash_kept = b.flash_kept ∙ a.flash_kept;
+        directory_kept = b.directory_kept ∙ a.directory_kept;
+        cache_kept = b.cache_kept ∙ a.cache_kept;
+        filter_kept = b.filter_kept ∙ a.filter_kept;
       }
 
 -- A step of 01 is done.
 pub record NodeDoes {A : Type 0} (m : Step A) (n : Node) (x : A) (n' : Node) : Type 0 where
-  pub does : DoesAll m (held n) n.work x (held n') n'.work
+  pub does : DoesAll m (held n) n.work.now x (held n') n'.work.now
   pub same : SameNode n n'
 
 -- All but the cache is as it was.
 pub record OnlyCache (n n' : Node) : Type 0 where
   pub same : SameNode n n'
-  pub chip_kept : n'.flash.chip.now ≡ n.flash.chip.now
-  pub spare_kept : n'.flash.spare.now ≡ n.flash.spare.now
+  pub chip_kept : n'.flash.now.chip.now ≡ n.flash.now.chip.now
+  pub spare_kept : n'.flash.now.spare.now ≡ n.flash.now.spare.now
   pub directory_kept : n'.directory.now ≡ n.directory.now
-  pub work_kept : n'.work ≡ n.work
+  pub work_kept : n'.work.now ≡ n.work.now
   pub as_long : length n'.cache.now ≡ length n.cache.now
 
 pub only_nothing : {n : Node} → OnlyCache n n

@@ -15,27 +15,29 @@ use entries::set_entry;
 use lent::reply::Reply;
 use lent::{Region, decode};
 
-impl Node<'_, '_, '_, '_> {
+impl Node<'_, '_, '_, '_, '_, '_> {
     // The page at a place is read into the buffer; nowhere, nothing.
     fn read_place(&mut self, place: Option<u32>, buffer: &mut [u32]) -> Reply
-        requires { PlaceReady (under self.old) (entry place) self.old.flash.chip.now buffer.old self.old.work.counts }
+        requires { PlaceReady (under self.old) (entry place) self.old.flash.now.chip.now buffer.old self.old.work.now.counts }
         ensures { NodeDoes (read_place (under self.old) buffer.old (entry place)) self.old (replied buffer.new (reply result)) self.new }
     {
         let Some(p) = place else {
             return Reply::Unwritten;
         };
-        self.flash.read_page(&mut self.work, p, buffer);
+        self.flash.read_page(self.work, p, buffer);
         Reply::Done
     }
 
     // Read logical page l.
     pub fn read(&mut self, l: u32, buffer: &mut [u32]) -> Reply
-        requires { ReadyFor l (under self.old) (held self.old) (read_bound (under self.old)) self.old.work.counts
-            × (length buffer.old ≡ self.old.flash.g.w) }
+        requires { ReadyFor l (under self.old) (held self.old) (read_bound (under self.old)) self.old.work.now.counts
+            × (length buffer.old ≡ self.old.flash.now.g.w) }
         ensures does { NodeDoes (read_steps (under self.old) l buffer.old) self.old (replied buffer.new (reply result)) self.new }
-        ensures chip_kept { self.new.flash.chip.ghost_name ≡ self.old.flash.chip.ghost_name }
-        ensures spare_kept { self.new.flash.spare.ghost_name ≡ self.old.flash.spare.ghost_name }
-        ensures census_kept { self.new.flash.census.ghost_name ≡ self.old.flash.census.ghost_name }
+        ensures work_kept { self.new.work.ghost_name ≡ self.old.work.ghost_name }
+        ensures flash_kept { self.new.flash.ghost_name ≡ self.old.flash.ghost_name }
+        ensures chip_kept { self.new.flash.now.chip.ghost_name ≡ self.old.flash.now.chip.ghost_name }
+        ensures spare_kept { self.new.flash.now.spare.ghost_name ≡ self.old.flash.now.spare.ghost_name }
+        ensures census_kept { self.new.flash.now.census.ghost_name ≡ self.old.flash.now.census.ghost_name }
         ensures directory_kept { self.new.directory.ghost_name ≡ self.old.directory.ghost_name }
         ensures cache_kept { self.new.cache.ghost_name ≡ self.old.cache.ghost_name }
         ensures filter_kept { self.new.filter.ghost_name ≡ self.old.filter.ghost_name }
@@ -48,12 +50,10 @@ impl Node<'_, '_, '_, '_> {
     // With room in the open block: the next page is programmed with l's new words, the old one marked, and the entry at rank i set.
     // No other page is cached then than before, so that what was a filter of the cache still is one.
     fn place(&mut self, l: u32, i: usize, buffer: &[u32])
-        requires { WritingReady (under self.old) i self.old.flash.chip.now self.old.flash.spare.now self.old.cache.now buffer.now self.old.work }
+        requires { WritingReady (under self.old) i self.old.flash.now.chip.now self.old.flash.now.spare.now self.old.cache.now buffer.now self.old.work.now }
         ensures { NodeDoes (placing (under self.old) l i buffer.now) self.old (replied buffer.now 0) self.new }
     {
-        let q = self
-            .flash
-            .program_next(&mut self.work, Region::Data, l, buffer);
+        let q = self.flash.program_next(self.work, Region::Data, l, buffer);
         let old = decode(self.physical(i));
         self.flash.mark_old(old);
         set_entry(i, q, self.cache);
@@ -61,12 +61,14 @@ impl Node<'_, '_, '_, '_> {
 
     // Write logical page l.
     pub fn write(&mut self, l: u32, buffer: &[u32]) -> Reply
-        requires { ReadyFor l (under self.old) (held self.old) (write_bound (under self.old)) self.old.work.counts
-            × (length buffer.now ≡ self.old.flash.g.w) }
+        requires { ReadyFor l (under self.old) (held self.old) (write_bound (under self.old)) self.old.work.now.counts
+            × (length buffer.now ≡ self.old.flash.now.g.w) }
         ensures does { NodeDoes (write_steps (under self.old) l buffer.now) self.old (replied buffer.now (reply result)) self.new }
-        ensures chip_kept { self.new.flash.chip.ghost_name ≡ self.old.flash.chip.ghost_name }
-        ensures spare_kept { self.new.flash.spare.ghost_name ≡ self.old.flash.spare.ghost_name }
-        ensures census_kept { self.new.flash.census.ghost_name ≡ self.old.flash.census.ghost_name }
+        ensures work_kept { self.new.work.ghost_name ≡ self.old.work.ghost_name }
+        ensures flash_kept { self.new.flash.ghost_name ≡ self.old.flash.ghost_name }
+        ensures chip_kept { self.new.flash.now.chip.ghost_name ≡ self.old.flash.now.chip.ghost_name }
+        ensures spare_kept { self.new.flash.now.spare.ghost_name ≡ self.old.flash.now.spare.ghost_name }
+        ensures census_kept { self.new.flash.now.census.ghost_name ≡ self.old.flash.now.census.ghost_name }
         ensures directory_kept { self.new.directory.ghost_name ≡ self.old.directory.ghost_name }
         ensures cache_kept { self.new.cache.ghost_name ≡ self.old.cache.ghost_name }
         ensures filter_kept { self.new.filter.ghost_name ≡ self.old.filter.ghost_name }

@@ -37,16 +37,16 @@ fn wait(
     n + 1
 }
 
-impl Node<'_, '_, '_, '_> {
+impl Node<'_, '_, '_, '_, '_, '_> {
     // Logical page l has moved to a page: its entry takes the new place, or it waits behind n others. Handed back is how many wait.
     fn follow(&mut self, n: usize, l: u32, page: u32, waiting: &mut [u32; MOVES_WORDS]) -> usize
-        requires cache_lent { CacheLent (under self.old) self.old.cache.now self.old.work.rec.used × (n < most_pages_in_block) }
-        requires different { Different self.old.cache.now self.old.work.rec.used }
+        requires cache_lent { CacheLent (under self.old) self.old.cache.now self.old.work.now.rec.used × (n < most_pages_in_block) }
+        requires different { Different self.old.cache.now self.old.work.now.rec.used }
         requires waits_in { WaitsIn (under self.old) n waiting.old }
-        ensures does_waiting { DoesWaiting (cache_or_wait (under self.old) l page) self.old.cache.now self.old.work
+        ensures does_waiting { DoesWaiting (cache_or_wait (under self.old) l page) self.old.cache.now self.old.work.now
             (first_moves n waiting.old) (first_moves result waiting.new) self.new.cache.now }
         ensures only_cache { OnlyCache self.old self.new }
-        ensures different_after { Different self.new.cache.now self.old.work.rec.used }
+        ensures different_after { Different self.new.cache.now self.old.work.now.rec.used }
         ensures waits_in_after { WaitsIn (under self.old) result waiting.new }
         ensures moves_ahead { MovesAhead n result waiting.old waiting.new }
     {
@@ -60,11 +60,11 @@ impl Node<'_, '_, '_, '_> {
 
     // The first n moves are followed, in their order. Handed back is how many wait.
     pub(crate) fn follow_moves(&mut self, n: usize, moves: &mut [u32; MOVES_WORDS]) -> usize
-        requires cache_lent { CacheLent (under self.old) self.old.cache.now self.old.work.rec.used × (n ≤ most_pages_in_block) }
-        requires different { Different self.old.cache.now self.old.work.rec.used }
+        requires cache_lent { CacheLent (under self.old) self.old.cache.now self.old.work.now.rec.used × (n ≤ most_pages_in_block) }
+        requires different { Different self.old.cache.now self.old.work.now.rec.used }
         requires moves_len { length moves.old ≡ moves_words }
-        ensures does_cache { DoesCache (follow_each (cache_follows (under self.old)) (first_moves n moves.old)) self.old.cache.now self.old.work
-            (first_moves result moves.new) self.new.cache.now self.old.work }
+        ensures does_cache { DoesCache (follow_each (cache_follows (under self.old)) (first_moves n moves.old)) self.old.cache.now self.old.work.now
+            (first_moves result moves.new) self.new.cache.now self.old.work.now }
         ensures only_cache { OnlyCache self.old self.new }
         ensures waits_in { WaitsIn (under self.old) result moves.new }
     {

@@ -12,31 +12,31 @@ use lent::{FILTER_WORDS, Work};
 use steps::flash::Flash;
 
 #[derive(Drop)]
-pub struct Node<'f, 'd, 'c, 'n> {
-    pub work: Work,
-    pub flash: Flash<'f>,
+pub struct Node<'w, 'f, 'x, 'd, 'c, 'n> {
+    pub work: &'w mut Work,
+    pub flash: &'f mut Flash<'x>,
     pub directory: &'d mut [u32],
     pub cache: &'c mut [u32],
     pub filter: &'n mut [u64; FILTER_WORDS],
-    pub ghost filtered: { Filtered cache.now work.rec.used filter.now },
+    pub ghost filtered: { Filtered cache.now work.now.rec.used filter.now },
 }
 
-impl Node<'_, '_, '_, '_> {
+impl Node<'_, '_, '_, '_, '_, '_> {
     // The rank of logical page l; C where it isn't cached.
     pub(crate) fn rank_of(&self, l: u32) -> usize
-        requires { CacheLent (geometry self.now.flash.g) self.now.cache.now self.now.work.rec.used }
-        ensures { (result ≤ (geometry self.now.flash.g).C)
-            × (rank_of (geometry self.now.flash.g) self.now.cache.now self.now.work.rec.used l ≡ result) }
+        requires { CacheLent (geometry self.now.flash.now.g) self.now.cache.now self.now.work.now.rec.used }
+        ensures { (result ≤ (geometry self.now.flash.now.g).C)
+            × (rank_of (geometry self.now.flash.now.g) self.now.cache.now self.now.work.now.rec.used l ≡ result) }
     {
         entries::rank_of(self.work.rec, self.flash.g, l, self.cache, self.filter)
     }
 
     // The same, sought from the last entries on.
     pub(crate) fn rank_from_last(&self, l: u32) -> usize
-        requires cache_lent { CacheLent (geometry self.now.flash.g) self.now.cache.now self.now.work.rec.used }
-        requires different { Different self.now.cache.now self.now.work.rec.used }
-        ensures { (result ≤ (geometry self.now.flash.g).C)
-            × (rank_of (geometry self.now.flash.g) self.now.cache.now self.now.work.rec.used l ≡ result) }
+        requires cache_lent { CacheLent (geometry self.now.flash.now.g) self.now.cache.now self.now.work.now.rec.used }
+        requires different { Different self.now.cache.now self.now.work.now.rec.used }
+        ensures { (result ≤ (geometry self.now.flash.now.g).C)
+            × (rank_of (geometry self.now.flash.now.g) self.now.cache.now self.now.work.now.rec.used l ≡ result) }
     {
         entries::rank_from_last(self.work.rec, self.flash.g, l, self.cache, self.filter)
     }

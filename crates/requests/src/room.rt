@@ -14,32 +14,26 @@ use copying::copies::{MOVES_WORDS, start};
 use index::settle;
 use lent::Region;
 
-impl Node<'_, '_, '_, '_> {
+impl Node<'_, '_, '_, '_, '_, '_> {
     // Block v is emptied into the one erased block, and erased.
     fn collect(&mut self, v: u32)
-        requires { RoomReady (under self.old) (held self.old) self.old.work.counts
-            × ToCollect (under self.old) Data self.old.flash.spare.now self.old.work v }
+        requires { RoomReady (under self.old) (held self.old) self.old.work.now.counts
+            × ToCollect (under self.old) Data self.old.flash.now.spare.now self.old.work.now v }
         ensures { NodeDoes (make_room (under self.old) Data (cache_follows (under self.old))) self.old tt self.new }
     {
         let mut moves = [0u32; MOVES_WORDS];
-        let n = start(&mut self.flash, &mut self.work, Region::Data, v, &mut moves);
+        let n = start(self.flash, self.work, Region::Data, v, &mut moves);
         let waiting = self.follow_moves(n, &mut moves);
-        settle(
-            &mut self.flash,
-            &mut self.work,
-            self.directory,
-            waiting,
-            &mut moves,
-        );
-        self.flash.erase(&mut self.work, v);
+        settle(self.flash, self.work, self.directory, waiting, &mut moves);
+        self.flash.erase(self.work, v);
     }
 
     // Room for the next data page.
     pub(crate) fn make_room(&mut self)
-        requires { RoomReady (under self.old) (held self.old) self.old.work.counts }
+        requires { RoomReady (under self.old) (held self.old) self.old.work.now.counts }
         ensures { NodeDoes (make_room (under self.old) Data (cache_follows (under self.old))) self.old tt self.new }
     {
-        if let Some(v) = choose(&self.flash, &mut self.work, Region::Data) {
+        if let Some(v) = choose(self.flash, self.work, Region::Data) {
             self.collect(v);
         }
     }

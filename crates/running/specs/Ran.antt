@@ -1,12 +1,13 @@
 -- The parts of a run put together: the requests one after the other, that each can be served where the run was admitted, and that begin,
 -- the requests and finish are the call of the definitions. For whoever goes through the requests.
-use Rattle.std.specs.Prelude.{ℕ, suc, ◌+◌, ◌*◌, ◌<◌, ◌≡◌, refl, Bool, cond, List, map, eqb, leb, length, get_or}
+use Rattle.std.specs.Prelude.{ℕ, suc, ◌+◌, ◌*◌, ◌<◌, ◌≡◌, refl, Bool, cond, List, eqb, leb, length, get_or}
 use Rattle.std.proofs.Common.{sym, ap, subst, ◌∙◌, arith, eqb-true, eq-eqb, ne_eqb, leb-true}
 use Rattle.std.proofs.Math.Bool.{true, false}
 use Rattle.std.proofs.Math.Numerals.{add-one}
 use Rattle.flash.specs.Cases.{same?, and_true}
 use Rattle.lent.specs.declared.Record.{Record}
 use Rattle.lent.specs.Model.{counts, Lists, together}
+use Rattle.lent.specs.Reply.{tested}
 use Rattle.lent.specs.Does.{Does}
 use Rattle.lent.specs.Ready.{Ready}
 use Rattle.lent.specs.DoesLaws.{does_give, does_bind, does_ends, does_value}
@@ -16,15 +17,13 @@ use Rattle.scope.specs.Operations.{Counts, give, ◌>>=◌}
 use Rattle.scope.specs.Replies.{DONE, Size, first_applying, right_sizes}
 use Rattle.scope.specs.Calls.{state_sizes, state_tests, RunReplied, run_replied, no_request, serve_record, serve_records, run}
 use Rattle.geometry.specs.Sizes.{piece_inside}
-use Rattle.replies.specs.declared.Request.{Request as Asked}
-use Rattle.replies.specs.Model.{request}
 use Rattle.running.specs.declared.Running.{Running}
 use Rattle.scope.specs.Holding.{Answers}
 use Rattle.replies.specs.Answers.{does_answers, refuses, admits}
 use Rattle.replies.specs.Sizes.{run_right, with_run}
 use Rattle.admission.specs.Tested.{state_passes, state_ready}
 use Rattle.admission.specs.Room.{most_cost, room_at_first}
-use Rattle.running.specs.Ends.{Begun, Finished}
+use Rattle.running.specs.Ends.{Begun, Finished, if_done}
 use Rattle.words.specs.Noted.{Noted}
 use Rattle.running.specs.Asks.{Asks, asks_less, asks_again}
 use Rattle.running.specs.Serve.{Serving, Runs}
@@ -35,7 +34,7 @@ use Rattle.running.specs.Records.{records_keep}
 module _ (g : Geometry) (requests : List Request) {a : Running} {s : State} {words answers : List ℕ} where
   pub runs_none : Runs (serve_records g requests 0) a s words answers a s words answers
   unfolding serve_records
-  runs_none = record { same_answer = refl; does = none (eqb a.answer DONE) }
+  runs_none = record { same_answer = refl; does = none (eqb (tested a.answer) DONE) }
     where
       none : (b : Bool)
           → Does (cond b (serve_records g requests 0 (run_replied words answers DONE)) (give (run_replied words answers DONE)))
@@ -51,7 +50,7 @@ module _ (g : Geometry) (requests : List Request) {a : Running} {s : State} {wor
   runs_more n {b} {c} {s₁} {s₂} {words₁} {answers₁} {words₂} {answers₂} p q =
       record {
         same_answer = q.same_answer ∙ p.same_answer;
-        does = rw add-one (more (eqb a.answer DONE) p.does (rw p.same_answer at q.does));
+        does = rw add-one (more (eqb (tested a.answer) DONE) p.does (rw p.same_answer at q.does));
       }
     where
       more : (d : Bool)
@@ -74,7 +73,7 @@ pub record Admitted (g : Geometry) (n : ℕ) (a : Running) (s : State) (words an
 
 -- For those that are served only where the run is admitted.
 abbrev pub Tested : Geometry → ℕ → Running → State → List ℕ → List ℕ → List ℕ → List ℕ → Type 0
-Tested g n a s words answers census filter = a.answer ≡ DONE → Admitted g n a s words answers census filter
+Tested g n a s words answers census filter = tested a.answer ≡ DONE → Admitted g n a s words answers census filter
 
 pub begun_admits : {g : Geometry} {others : List Size} {n : ℕ} {s s' : State} {words answers census filter : List ℕ} {a : Running}
     → Begun g others n (length words) (length answers) s a s' census filter
@@ -91,7 +90,7 @@ begun_admits {g} {others} {n} {s} {s'} {words} {answers} {census} {filter} {a} b
       asks = record {
         ready = subst (λ (x : State). Ready g x (n * most_cost) a.counts) (sym begun.kept)
             (state_ready g s right pass (room_at_first (omega (arith, at_most)) begun.uncounted));
-        noted = begun.noted e;
+        noted = if_done a.answer e begun.noted;
       };
       words_long = eqb-true (length words) (n * g.W) long.0;
       answers_long = eqb-true (length answers) n (and_true (eqb (length answers) n) (right_sizes others) long.1).0;
@@ -103,12 +102,12 @@ pub runs_ready : (g : Geometry) (requests : List Request) {n i : ℕ} {a b : Run
     → Tested g n a s words answers census filter → i < n
     → Runs (serve_records g requests i) a s words answers b s' words' answers'
     → (Noted g s census filter → Noted g s' census' filter')
-    → b.answer ≡ DONE → Serving g i b s' words' answers' census' filter'
-runs_ready g requests {n} {i} {a} {b} {s} {s'} {words} {answers} tested h ran noted e =
-    let admitted : a.answer ≡ DONE = sym ran.same_answer ∙ e in
-    let start = tested admitted in
+    → tested b.answer ≡ DONE → Serving g i b s' words' answers' census' filter'
+runs_ready g requests {n} {i} {a} {b} {s} {s'} {words} {answers} admits h ran noted e =
+    let admitted : tested a.answer ≡ DONE = sym (ap tested ran.same_answer) ∙ e in
+    let start = admits admitted in
     let lent = run_replied words answers DONE in
-    let did = rw (eq-eqb a.answer DONE admitted) at ran.does in
+    let did = rw (eq-eqb (tested a.answer) DONE admitted) at ran.does in
     let ready = start.asks.ready in
     let kept = records_keep ready.accepted requests lent s ready.lengths ready.sound n start.words_long i (omega arith) in
     let long = ap (λ (r : RunReplied). length r.words) did.value in
@@ -119,12 +118,12 @@ runs_ready g requests {n} {i} {a} {b} {s} {s'} {words} {answers} tested h ran no
       answer_fits = omega (arith, ap (λ (r : RunReplied). length r.answers) did.value, kept.answers_long, start.answers_long);
     }
 
--- ---- lent requests
+-- ---- a walk through the requests
 
--- The first n of a lent slice of requests, as a walk through them says it.
-pub record Ran (g : Geometry) (asked : List Asked) (n : ℕ) (a : Running) (s : State) (words answers census filter : List ℕ)
+-- The first n requests, as a walk through them says it.
+pub record Ran (g : Geometry) (requests : List Request) (n : ℕ) (a : Running) (s : State) (words answers census filter : List ℕ)
     (b : Running) (s' : State) (words' answers' census' filter' : List ℕ) : Type 0 where
-  pub runs : Runs (serve_records g (map request asked) n) a s words answers b s' words' answers'
+  pub runs : Runs (serve_records g requests n) a s words answers b s' words' answers'
   pub noted : Noted g s census filter → Noted g s' census' filter'
 
 -- ---- the whole
@@ -151,17 +150,17 @@ run_answers g requests {others} {a} {b} {s} {x = x} {words} {answers} {words' = 
     (run_replied words' answers' answer) (together x r) given')
     (sym finished.recorded)
     (does_answers {m = run g others requests words answers} {s = s} (counts b.counts)
-    (same? a.answer DONE
-    (λ e. rw (finished.answered ∙ ran.same_answer ∙ e)
+    (same? (tested a.answer) DONE
+    (λ e. rw (finished.answered ∙ ap tested ran.same_answer ∙ e)
     (admits _ (λ t. t) (run_replied words answers) (serve_records g requests (length requests) (run_replied words answers DONE))
     (sym e ∙ begun.tested)
-    (rw (eq-eqb a.answer DONE e, begun.kept, begun.uncounted) at ran.does)))
+    (rw (eq-eqb (tested a.answer) DONE e, begun.kept, begun.uncounted) at ran.does)))
     (λ e.
-    let same = gives (rw (ne_eqb a.answer DONE e, begun.kept, begun.uncounted) at ran.does) in
+    let same = gives (rw (ne_eqb (tested a.answer) DONE e, begun.kept, begun.uncounted) at ran.does) in
     does_ends
     (does_value
     (refuses _ (λ t. t) (run_replied words answers) (serve_records g requests (length requests) (run_replied words answers DONE)) begun.tested e)
-    (ap (λ (r : RunReplied). run_replied r.words r.answers a.answer) same.0
-    ∙ ap (run_replied words' answers') (sym (finished.answered ∙ ran.same_answer))))
+    (ap (λ (r : RunReplied). run_replied r.words r.answers (tested a.answer)) same.0
+    ∙ ap (run_replied words' answers') (sym (finished.answered ∙ ap tested ran.same_answer))))
     same.1 same.2))
     finished.handed)

@@ -6,6 +6,7 @@ use mathlib.Core.List.{List, ◌++◌, append_assoc}
 use Rattle.std.proofs.Math.ListN.{length}
 use Rattle.std.proofs.lemmas.List.Edits.{sets, sets-eq}
 use Rattle.lent.specs.Model.{counts}
+use Rattle.lent.specs.Reply.{tested}
 use Rattle.lent.specs.Does.{Does}
 use Rattle.lent.specs.DoesLaws.{does_give, does_cond_false}
 use Rattle.scope.specs.Geometry.{Geometry}
@@ -28,7 +29,7 @@ pub record Serving (g : Geometry) (i : ℕ) (cur : Running) (s : State) (words a
 pub record Runs (m : RunReplied → Step RunReplied) (a : Running) (s : State) (words answers : List ℕ)
     (b : Running) (s' : State) (words' answers' : List ℕ) : Type 0 where
   pub same_answer : b.answer ≡ a.answer
-  pub does : Does (cond (eqb a.answer DONE) (m (run_replied words answers DONE)) (give (run_replied words answers DONE)))
+  pub does : Does (cond (eqb (tested a.answer) DONE) (m (run_replied words answers DONE)) (give (run_replied words answers DONE)))
       s (counts a.counts) (run_replied words' answers' DONE) s' (counts b.counts)
 
 -- What serving request i does: it keeps the notes too.
@@ -51,7 +52,7 @@ part_back words at k buffer fits long =
 -- ---- one request
 
 -- No request is served where the run isn't admitted.
-pub not_admitted : (m : RunReplied → Step RunReplied) {a : Running} {s : State} {words answers : List ℕ} → a.answer ≢ DONE
+pub not_admitted : (m : RunReplied → Step RunReplied) {a : Running} {s : State} {words answers : List ℕ} → tested a.answer ≢ DONE
     → Runs m a s words answers a s words answers
 not_admitted m {a} h =
-    record { same_answer = refl; does = does_cond_false _ _ _ (ne_eqb a.answer DONE h) (does_give _) }
+    record { same_answer = refl; does = does_cond_false _ _ _ (ne_eqb (tested a.answer) DONE h) (does_give _) }

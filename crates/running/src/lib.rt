@@ -2,12 +2,13 @@
 // goes through them between `begin` and `finish`, so the laws stand apart from the code of the parts. No code.
 #![tactic(auto)]
 
+use lent::reply::Refusal;
 use lent::{Counts, Record};
 
-// The run's answer so far, which is 0 where the run is admitted, the counts of the requests served, and the small record.
+// Whether the run is admitted, the counts of the requests served, and the small record.
 #[derive(Clone, Copy)]
 pub struct Running {
-    pub answer: u32,
+    pub answer: Result<(), Refusal>,
     pub counts: Counts,
     pub rec: Record,
 }

@@ -6,21 +6,22 @@
 ghost use Rattle.std.specs.Prelude.{◌≡◌, length};
 ghost use Rattle.scope.specs.Requests.{replied};
 ghost use Rattle.lent.specs.Model.{geometry, state};
+ghost use Rattle.lent.specs.Reply.{reply, tested};
 ghost use Rattle.scope.specs.Calls.{serve};
 ghost use Rattle.scope.specs.Replies.{DONE};
 ghost use Rattle.admission.specs.Room.{most_cost};
 ghost use Rattle.words.specs.Noted.{Noted};
 ghost use Rattle.running.specs.Serve.{Serving, Served};
 ghost use Rattle.lent.specs.Ready.{DoesAll, ReadyFor};
-ghost use Rattle.replies.specs.Model.{request};
+ghost use Rattle.replies.specs.Model.{request, kind};
 ghost use Rattle.replies.specs.Sizes.{beside_run};
 ghost use Rattle.running.specs.Ends.{Begun, Finished};
 
-use admission::state_answer;
-use lent::{CENSUS_WORDS, FILTER_WORDS, Geometry, Handed, Record, Work};
+use admission::test_state;
+use lent::{Answered, CENSUS_WORDS, FILTER_WORDS, Geometry, Record, Work};
 use replies::counting::{NO_COUNTS, put_counts};
-use replies::tests::{DONE, request_answer, run_lengths_right};
-use replies::{KIND_READ, Out, Request};
+use replies::tests::{run_lengths_right, test_request};
+use replies::{Kind, Out, Request};
 use requests::answers::{read, write};
 use running::Running;
 
@@ -48,7 +49,7 @@ pub fn begin(
         census.new filter.new }
 {
     let right = run_lengths_right(g, record_words, odd_words, n, words, answers, counts);
-    let answer = state_answer(rec, right, g, chip, spare, directory, cache, census, filter);
+    let answer = test_state(rec, right, g, chip, spare, directory, cache, census, filter);
     Running {
         answer,
         counts: NO_COUNTS,
@@ -60,6 +61,7 @@ pub fn begin(
 fn serve_request(
     work: Work,
     g: Geometry,
+    asked: Kind,
     q: Request,
     chip: &mut [u32],
     spare: &mut [u32],
@@ -68,26 +70,27 @@ fn serve_request(
     census: &mut [u32; CENSUS_WORDS],
     filter: &mut [u64; FILTER_WORDS],
     buffer: &mut [u32],
-) -> Handed
+) -> Answered
+    requires asked { kind asked ≡ q.kind }
     requires ready_for { ReadyFor q.page (geometry g) (state chip.old spare.old directory.old cache.old work.rec) most_cost work.counts
         × (length buffer.old ≡ g.w) }
     requires noted { Noted (geometry g) (state chip.old spare.old directory.old cache.old work.rec) census.old filter.old }
     ensures does_all { DoesAll (serve (geometry g) (request q) buffer.old)
         (state chip.old spare.old directory.old cache.old work.rec) work
-        (replied buffer.new result.value)
+        (replied buffer.new (reply result.reply))
         (state chip.new spare.new directory.new cache.new result.work.rec) result.work }
-    ensures noted_2 { Noted (geometry g)
+    ensures still_noted { Noted (geometry g)
         (state chip.new spare.new directory.new cache.new result.work.rec)
         census.new filter.new }
 {
-    if q.kind == KIND_READ {
-        return read(
+    match asked {
+        Kind::Read => read(
             work, g, q.page, chip, spare, census, directory, cache, filter, buffer,
-        );
+        ),
+        Kind::Write => write(
+            work, g, q.page, chip, spare, census, directory, cache, filter, buffer,
+        ),
     }
-    write(
-        work, g, q.page, chip, spare, census, directory, cache, filter, buffer,
-    )
 }
 
 // Request i: its tests, its steps on its own words, and its answer stored.
@@ -105,7 +108,7 @@ pub fn serve(
     words: &mut [u32],
     answers: &mut [u32],
 ) -> Running
-    requires { cur.answer ≡ DONE → Serving (geometry g) i cur
+    requires { tested cur.answer ≡ DONE → Serving (geometry g) i cur
         (state chip.old spare.old directory.old cache.old cur.rec) words.old answers.old census.old filter.old }
     ensures { Served (geometry g) i (request q) cur
         (state chip.old spare.old directory.old cache.old cur.rec)
@@ -113,14 +116,16 @@ pub fn serve(
         (state chip.new spare.new directory.new cache.new result.rec)
         words.new answers.new census.new filter.new }
 {
-    if cur.answer != DONE {
+    if cur.answer.is_err() {
         return cur;
     }
-    let refusal = request_answer(cur.rec, g, q);
-    if refusal != DONE {
-        answers[i] = refusal;
-        return cur;
-    }
+    let asked = match test_request(cur.rec, g, q) {
+        Ok(asked) => asked,
+        Err(refusal) => {
+            answers[i] = refusal.into();
+            return cur;
+        }
+    };
     let w = g.w as usize;
     let from = i * w;
     let to = from + w;
@@ -129,6 +134,7 @@ pub fn serve(
     let done = serve_request(
         Work { rec, counts },
         g,
+        asked,
         q,
         chip,
         spare,
@@ -138,24 +144,21 @@ pub fn serve(
         filter,
         &mut words[from..to],
     );
-    answers[i] = done.value;
-    let counted = done.work.counts;
-    let new = done.work.rec;
+    answers[i] = done.reply.into();
     Running {
-        answer: DONE,
-        counts: counted,
-        rec: new,
+        answer: cur.answer,
+        counts: done.work.counts,
+        rec: done.work.rec,
     }
 }
 
 // The end of a run.
 pub fn finish(cur: Running, counts: &mut [u32]) -> Out
-    ensures { Finished cur counts.old result.answer result.rec counts.new }
+    ensures { Finished cur counts.old (reply result.answer) result.rec counts.new }
 {
     put_counts(counts, cur.counts);
-    let rec = cur.rec;
     Out {
-        answer: cur.answer,
-        rec,
+        answer: cur.answer.into(),
+        rec: cur.rec,
     }
 }

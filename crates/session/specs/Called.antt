@@ -1,19 +1,18 @@
 -- What the program prints of a call in words is what the definitions print: the laws that the proofs of `serve` cite.
-use Rattle.std.specs.Prelude.{ℕ, ◌<◌, ◌≡◌, refl, ◌≢◌, List, [], ◌∷◌, length, get_or, take, replicate}
+use Rattle.std.specs.Prelude.{ℕ, ◌<◌, ◌≡◌, refl, ◌≢◌, List, [], ◌∷◌, length, get_or, take, replicate, None}
 use Rattle.std.proofs.Common.{arith, sym, ap, ap₂, ◌∙◌, subst, eq-eqb, ne_eqb}
 use Rattle.scope.specs.SmallRecord.{SmallRecord, record_words}
 use Rattle.scope.specs.Lent.{State, with_small}
 use Rattle.scope.specs.Operations.{Step, Outcome, counted}
 use Rattle.scope.specs.Requests.{Replied}
 use Rattle.scope.specs.Replies.{DONE, Size, right_sizes}
-use Rattle.scope.specs.Calls.{read, write}
+use Rattle.scope.specs.Calls.{format, read, write}
 use Rattle.scope.specs.Boundary.{counts_words, call_sizes, words_of_counts, put_counts, Words, InWords, from_words, to_words, word_sizes}
-use Rattle.scope.specs.Boundary.{in_words, tf_read, tf_write}
+use Rattle.scope.specs.Boundary.{in_words, tf_format, tf_read, tf_write}
 use Rattle.scope.specs.Holding.{Answers, Gives}
 use Rattle.scope.specs.Laws.SmallRecord.{record_stored}
-use Rattle.scope.specs.Tables.Play.{Line, W, R, made, first_word, printed}
+use Rattle.scope.specs.Tables.Play.{computed, Line, W, R, formatted, made, first_word, printed}
 use Rattle.scope.specs.Tables.Session.{G}
-use Rattle.lines.specs.declared.Parsed.TheVariants.{Other}
 use Rattle.lines.specs.Digits.{numbers, Prints}
 use Rattle.session.specs.Serves.{answered, shown, Serves}
 
@@ -51,6 +50,25 @@ as_printed l o {counts = counts} three a =
     written : put_counts counts (counted o.did) ≡ words_of_counts (counted o.did)
     written = rw (eq-eqb _ _ three)
 
+-- The program's arrays before its first call, and the state that its format leaves: the one that 01's session begins from.
+abbrev unwritten : Words
+unwritten =
+    record {
+      chip = replicate 24 0;
+      spare = replicate 24 0;
+      directory = replicate 2 0;
+      cache = replicate 3 0;
+      small = replicate 6 0;
+      counts = replicate 3 0;
+    }
+
+pub format_begins : (w : Words) (x : ℕ) → Gives (tf_format G unwritten) x w → from_words w ≡ formatted G
+unfolding computed tf_format
+format_begins w x gives = sym (gives_answers (λ (zs : List Size). format G zs) unwritten w x refl refl gives).after ∙ same
+  where
+    same : (format G (call_sizes record_words counts_words) (from_words unwritten)).after ≡ formatted G
+    same = refl
+
 -- The call in words that a line asks for.
 abbrev called : Line → Words → InWords Replied
 called (W page value) w = tf_write G page w (replicate 2 value)
@@ -87,5 +105,5 @@ unfolding first_word
 no_word page x h = rw (ne_eqb x.reply DONE h)
 
 -- Another line prints nothing and changes nothing.
-pub other_serves : (s : State) (out : List ℕ) → Serves (shown Other s) s out out 0
+pub other_serves : (s : State) (out : List ℕ) → Serves (shown None s) s out out 0
 other_serves s out = record { puts = record { stored = refl; ends = refl }; left = refl; within = omega arith; counted = refl }

@@ -15,14 +15,14 @@ ghost use Rattle.words.specs.Filter.{Filter};
 ghost use Rattle.survey.specs.Survey.{Surveyed};
 ghost use Rattle.soundness.specs.Whole.{FlashRules, CacheRules};
 
-use lent::{FILTER_WORDS, Geometry, Record};
+use lent::{FILTER_WORDS, Geometry, Record, Region};
 use mapping::directory::directory_names;
 use mapping::entries::{entries_fit, protected_fit};
 use mapping::places::places_hold;
 use mapping::stored::unchanged_agree;
-use survey::blocks::{Survey, data_fits, translation_fits};
+use survey::blocks::region_fits;
 
-// Rules 1 to 4, of chip, spare and directory; where they hold, the valid data pages are counted and the census is taken.
+// Rules 1 to 4, of chip, spare and directory: None where one is broken, else how many data pages are valid, and the census is taken.
 fn flash_sound(
     g: Geometry,
     chip: &[u32],
@@ -30,7 +30,7 @@ fn flash_sound(
     directory: &[u32],
     rec: Record,
     census: &mut [u32],
-) -> Survey
+) -> Option<usize>
     requires accepted { Accepted (geometry g) }
     requires chip_len { length chip.now ≡ chip_size (geometry g) }
     requires spare_len { length spare.now ≡ spare_size (geometry g) }
@@ -40,19 +40,9 @@ fn flash_sound(
         (valid_in (geometry g) Data spare.now)
         (Census (geometry g) spare.now census.new) }
 {
-    let data = data_fits(g, chip, spare, rec, census);
-    if !data.fits {
-        return data;
-    }
-    let translation = translation_fits(g, chip, spare, rec, census);
-    if !translation.fits {
-        return translation;
-    }
-    let fits = directory_names(g, spare, directory, translation.valid);
-    Survey {
-        fits,
-        valid: data.valid,
-    }
+    let valid = region_fits(g, Region::Data, chip, spare, rec, census)?;
+    let translations = region_fits(g, Region::Translation, chip, spare, rec, census)?;
+    directory_names(g, spare, directory, translations).then_some(valid)
 }
 
 // Rules 5 to 7, of the cache, its places and its entries' words; where they hold, the filter has the cached pages.
@@ -75,17 +65,11 @@ fn cache_sound(
         (CacheRules (geometry g) chip.now spare.now directory.now cache.now (small rec)) }
     ensures filter { result ≡ true → Filter cache.now rec.used filter.new }
 {
-    if !protected_fit(g, rec) {
-        return false;
-    }
     let used = rec.used;
-    if !entries_fit(g, cache, used, filter) {
-        return false;
-    }
-    if !places_hold(g, chip, spare, directory, cache, used, valid) {
-        return false;
-    }
-    unchanged_agree(g, chip, directory, cache, used)
+    protected_fit(g, rec)
+        && entries_fit(g, cache, used, filter)
+        && places_hold(g, chip, spare, directory, cache, used, valid)
+        && unchanged_agree(g, chip, directory, cache, used)
 }
 
 // Whether a state is sound, for any words in the slices, any numbers in the record and whatever else it holds. Where it is, the census
@@ -108,9 +92,8 @@ pub fn is_sound(
     ensures census { result ≡ true → Census (geometry g) spare.now census.new }
     ensures filter { result ≡ true → Filter cache.now rec.used filter.new }
 {
-    let flash = flash_sound(g, chip, spare, directory, rec, census);
-    if !flash.fits {
+    let Some(valid) = flash_sound(g, chip, spare, directory, rec, census) else {
         return false;
-    }
-    cache_sound(g, chip, spare, directory, cache, rec, flash.valid, filter)
+    };
+    cache_sound(g, chip, spare, directory, cache, rec, valid, filter)
 }

@@ -1,8 +1,8 @@
 -- Rule 3 of the n blocks of P pages from block `first` on, in numbers, and how counts of erased pages decide it.
 use Prim.Native.Nat.{ℕ, ◌+◌, ◌-◌, ◌*◌, ◌≤◌, ◌<◌}
-use Rattle.std.specs.Prelude.{◌≡◌, refl, cond, ◌&&◌, ◌||◌, List, ltb, leb}
+use Rattle.std.specs.Prelude.{◌≡◌, ◌≢◌, ◌⊎◌, refl, cond, ◌&&◌, ◌||◌, List, ltb, leb}
 use Rattle.std.proofs.Math.Path.{sym, subst}
-use Rattle.std.proofs.Common.{ap, ap₂, ◌∙◌, add_assoc, add-zero, mul-one, mul-le-mul_left, add-one, eqb-true, eq-eqb, ne_eqb, lt-ltb, le-ltb}
+use Rattle.std.proofs.Common.{⊎_elim, ap, ap₂, ◌∙◌, add_assoc, add-zero, add-one, eqb-true, eq-eqb, ne_eqb, lt-ltb, le-ltb}
 use Rattle.std.proofs.Math.Bool.{Bool, true, false, not}
 use Rattle.std.proofs.Math.Nat.{suc-mul}
 use native.Mathlib.Omega.{arith}
@@ -11,12 +11,11 @@ use Rattle.std.proofs.lemmas.Bool.{not-true}
 use Rattle.scope.specs.Counting.{all, some, count}
 use Rattle.scope.specs.Geometry.{Geometry}
 use Rattle.scope.specs.Regions.{Region, first_block, region_blocks}
-use Rattle.scope.specs.Lent.{spare_words, is_erased}
+use Rattle.scope.specs.Lent.{is_erased}
 use Rattle.scope.specs.Decisions.{blocks_fit}
-use Rattle.flash.specs.Cases.{on, below?, clash, and_true, true_and, or_cases, or_right, is_false, not_of_false, twice_not}
+use Rattle.flash.specs.Cases.{on, below?, clash, and_true, true_and, or_cases, or_right, is_false, not_of_false}
 use Rattle.flash.specs.Counting.{all_each, each_all, count_none, none_counted, count_le}
 use Rattle.flash.specs.Tests.{same_test, or_none}
-use Rattle.geometry.specs.Sizes.{piece_inside}
 use Rattle.words.specs.States.{all_counted}
 
 module _ (P : ℕ) where
@@ -54,15 +53,6 @@ pub rule_3_region : (g : Geometry) (r : Region) (spare : List ℕ) (opened offse
     → rule_3 g.P (first_block g r) (region_blocks g r) spare opened offset ≡ blocks_fit g r spare opened offset
 unfolding rule_3 open_fits others_fit besides blocks_fit
 rule_3_region g r spare opened offset = refl
-
--- ---- where the blocks lie
-
--- The blocks' spare words lie in the list, and so do those of each of them.
-pub blocks_inside : (P first n len : ℕ) → 1 ≤ P → (first + n) * P * spare_words ≤ len → first + n ≤ len
-blocks_inside P first n len h k = omega (arith, mul-le-mul_left (first + n) h, mul-one (first + n))
-
-pub block_inside : (P first n b len : ℕ) → b < first + n → (first + n) * P * spare_words ≤ len → (b * P + P) * spare_words ≤ len
-block_inside P first n b len h k = omega (arith, piece_inside P (first + n) b h)
 
 -- ---- counts that decide
 
@@ -136,6 +126,13 @@ module _ (P first : ℕ) (spare : List ℕ) (opened : ℕ) where
   abbrev pub adds : ℕ → ℕ
   adds n = cond (eqb (first + n) opened) 0 (erased_in P spare (first + n))
 
+  pub added : (n found e : ℕ) → found ≡ erased_in P spare (first + n)
+      → ((first + n ≡ opened) × (e ≡ 0)) ⊎ ((first + n ≢ opened) × (e ≡ found)) → e ≡ adds n
+  added n found e is =
+      ⊎_elim
+      (λ h. rw (eq-eqb (first + n) opened h.0) h.1)
+      (λ h. rw (ne_eqb (first + n) opened h.0) (h.1 ∙ is))
+
   -- What others-fit says of block n.
   block : ℕ → Bool
   block n = all P (λ i. is_erased ((first + n) * P + i) spare) || all P (λ i. not (is_erased ((first + n) * P + i) spare))
@@ -174,9 +171,3 @@ module _ (P first : ℕ) (spare : List ℕ) (opened : ℕ) where
       let no : others_fit P first spare opened m ≡ false =
       is_false (others_fit P first spare opened m) (λ p. clash (all_each m (λ k. eqb (first + k) opened || block k) p n h) fails) in
       sym (ap (λ (b : Bool). b && besides P first spare opened m) no)
-
-  pub so_far_all : (i n total : ℕ) → i ≤ n → n ≤ i → SoFar i total
-      → not (eqb total 0) ≡ others_fit P first spare opened n && besides P first spare opened n
-  so_far_all i n total h k s =
-      let is : n ≡ i = omega arith in
-      rw (is, s.fit, s.found) (twice_not (besides P first spare opened i))

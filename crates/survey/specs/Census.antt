@@ -1,6 +1,6 @@
 -- The census as the walk over a region's blocks takes it, a block at a time.
 use Rattle.std.specs.Prelude.{ℕ, ◌+◌, ◌*◌, ◌≤◌, ◌<◌, ◌≡◌, refl, ◌⊎◌, List, length, get_or, set}
-use Rattle.std.proofs.Common.{subst, ◌∙◌, inl, inr, ⊎_elim, arith, length-set, get_or-set_same, get_or-set_other}
+use Rattle.std.proofs.Common.{◌∙◌, inl, inr, ⊎_elim, arith, length-set, get_or-set_same, get_or-set_other}
 use Rattle.scope.specs.Geometry.{Geometry, blocks}
 use Rattle.scope.specs.Lent.{state_of, is_valid, is_erased}
 use Rattle.scope.specs.Regions.{Region, Data, Translation, first_block, region_blocks}
@@ -48,9 +48,6 @@ module _ (P first : ℕ) (spare census₀ : List ℕ) where
     where
       its_number : x ≡ sum P (λ j. weight (state_of ((first + i) * P + j) spare))
       its_number = omega (arith, found.valid_are, found.erased_are, in_counts P (λ j. state_of ((first + i) * P + j) spare))
-
-  pub taken_all : (i n : ℕ) (census : List ℕ) → i ≤ n → n ≤ i → Taken P first i spare census₀ census → Taken P first n spare census₀ census
-  taken_all i n census h k = subst (λ (m : ℕ). Taken P first m spare census₀ census) (omega arith)
 
 -- The walks over both regions, one after the other.
 pub both_taken : (g : Geometry) {spare census₀ census₁ census₂ : List ℕ} → blocks g ≤ length census₀

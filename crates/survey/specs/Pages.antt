@@ -1,7 +1,8 @@
 -- Rule 1 of a page, in numbers: pages of W words whose owners are below a limit.
 use Rattle.std.specs.Prelude.{ℕ, ◌+◌, ◌*◌, ◌≤◌, ◌<◌, ◌≡◌, refl, ◌≢◌, Bool, true, false, cond, ◌&&◌, ◌||◌, List, ltb, length, take, drop}
+use Rattle.std.specs.Int.{from_bool}
 use Rattle.std.proofs.Math.Path.{sym, subst}
-use Rattle.std.proofs.Common.{ap, ap₂, ◌∙◌, add-zero, mul_assoc, add-one, arith, length-drop, get_or-take, get_or-drop, length-take-le}
+use Rattle.std.proofs.Common.{ap, ap₂, ◌∙◌, add-zero, mul_assoc, add-one, arith, length-drop, get_or-take, get_or-drop, length-take-le, mul-le-mul_right}
 use Rattle.std.proofs.Math.Nat.{add-mul}
 use Rattle.std.proofs.Math.Dec.{eqb}
 use Rattle.std.proofs.Math.ListN.{get_or}
@@ -140,9 +141,9 @@ pub first_marked : (b n : ℕ) (spare : List ℕ) → 1 ≤ n → state_of (b * 
 first_marked b n spare some marked =
     is_false (blank (n * spare_words) spare b) (λ h. marked (rw add-zero at (word_at spare_words b n spare h 0 (omega arith))))
 
--- What is found of the n pages from `first` on.
+-- What is found of the n pages from `first` on, where the rule holds of each.
 pub record Looked (W limit : ℕ) (chip spare : List ℕ) (first n : ℕ) (b : Block) : Type 0 where
-  pub fit : b.fits ≡ all n (λ i. rule_1 W limit chip spare (first + i))
+  pub fit : all n (λ i. rule_1 W limit chip spare (first + i)) ≡ true
   pub erased_are : b.erased ≡ count n (λ i. is_erased (first + i) spare)
   pub valid_are : b.valid ≡ count n (λ i. is_valid (first + i) spare)
 
@@ -155,9 +156,16 @@ programmed_more limit spare first i k b h e q =
     let at = (first + i) * spare_words in
     rw (add-one, e, q, get_d_any spare at 0 none (omega arith), get_d_any spare (at + 1) 0 none (omega arith)) refl
 
-pub bit_passes : (b : Bool) → eqb (cond b 1 0) 1 ≡ b
-bit_passes true = refl
-bit_passes false = refl
+pub bit : (b : Bool) → from_bool b ≡ cond b 1 0
+bit true = refl
+bit false = refl
+
+-- Of m blocks of P pages, the words of block b lie within, W a page; the block's as one piece.
+pub block_words : (P W m b : ℕ) → b < m → (b * P + P) * W ≤ m * P * W
+block_words P W m b h = mul-le-mul_right W (piece_inside P m b h)
+
+pub block_piece : (P W m b : ℕ) → b < m → b * (P * W) + P * W ≤ m * P * W
+block_piece P W m b h = omega (arith, mul_assoc b P W, add-mul (b * P) P W, block_words P W m b h)
 
 -- A page's words as a part of the chip.
 pub blank_part : (W : ℕ) (chip : List ℕ) (p : ℕ) → p * W + W ≤ length chip

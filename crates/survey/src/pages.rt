@@ -1,39 +1,22 @@
 // Rule 1, page by page: its state, its owner, and, where it is erased, its words. These are swept without leaving the loop at a word, so
 // that a fresh chip is checked at the speed of reading it. A block that has no erased page is told by counts, without a branch.
-ghost use Rattle.std.specs.Prelude.{◌≡◌, cond, ◌&&◌, ◌+◌, ◌*◌, ◌≤◌, ◌<◌, eqb, length};
+ghost use Rattle.std.specs.Prelude.{◌≡◌, false, ◌&&◌, ◌+◌, ◌*◌, ◌≤◌, ◌<◌, length, MatchOption};
 ghost use Rattle.scope.specs.Counting.{all, count};
-ghost use Rattle.scope.specs.Lent.{valid, is_valid, spare_words};
+ghost use Rattle.scope.specs.Lent.{is_valid, spare_words};
 ghost use Rattle.survey.specs.Pages.{blank, rule_1, programmed_fits, programmed_at, Looked};
 
+use crate::area::Area;
 use lent::{ERASED, INVALID, SPARE_WORDS, VALID};
+use words::census::ERASED_PAGE;
 use words::erased::only_erased;
 use words::spare::state_at;
 use words::states::count_state;
 
-// 1 where a page with this state and owner is programmed as the rule asks, its owner below `limit`, else 0.
-fn fits_programmed(state: u32, owner: u32, limit: u32) -> u32
-    ensures { result ≡ cond (programmed_fits limit state owner) 1 0 }
+// Whether a page with this state and owner is programmed as the rule asks, its owner below `limit`.
+fn fits_programmed(state: u32, owner: u32, limit: u32) -> bool
+    ensures { result ≡ programmed_fits limit state owner }
 {
-    if limit <= owner {
-        return 0;
-    }
-    if state == VALID {
-        return 1;
-    }
-    if state == INVALID {
-        return 1;
-    }
-    0
-}
-
-// 1 where a page with this state is valid, else 0.
-fn is_valid(state: u32) -> u32
-    ensures { result ≡ cond (eqb state valid) 1 0 }
-{
-    if state == VALID {
-        return 1;
-    }
-    0
+    owner < limit && (state == VALID || state == INVALID)
 }
 
 // Page p of w words has only erased words.
@@ -42,41 +25,7 @@ fn is_blank(chip: &[u32], w: usize, p: usize) -> bool
     ensures { result ≡ blank w chip.now p }
 {
     let at = p * w;
-    let end = at + w;
-    only_erased(&chip[at..end])
-}
-
-// The rule for page p.
-fn page_fits(chip: &[u32], spare: &[u32], w: usize, limit: u32, p: usize) -> bool
-    requires w_in_bounds { p * w + w ≤ length chip.now }
-    requires spare_words_in_bounds { p * spare_words + spare_words ≤ length spare.now }
-    ensures { result ≡ rule_1 w limit chip.now spare.now p }
-{
-    let state = spare[p * SPARE_WORDS];
-    let owner = spare[p * SPARE_WORDS + 1];
-    if state == ERASED {
-        if !is_blank(spare, SPARE_WORDS, p) {
-            return false;
-        }
-        return is_blank(chip, w, p);
-    }
-    fits_programmed(state, owner, limit) == 1
-}
-
-// The rule for the n pages from page `first` on.
-fn pages_fit(chip: &[u32], spare: &[u32], w: usize, limit: u32, first: usize, n: usize) -> bool
-    requires w_in_bounds { (first + n) * w ≤ length chip.now }
-    requires spare_words_in_bounds { (first + n) * spare_words ≤ length spare.now }
-    ensures { result ≡ all n (λ i. rule_1 w limit chip.now spare.now (first + i)) }
-{
-    let mut i = 0;
-    while i < n {
-        if !page_fits(chip, spare, w, limit, first + i) {
-            return false;
-        }
-        i += 1;
-    }
-    true
+    only_erased(&chip[at..at + w])
 }
 
 // How many pages are programmed as the rule asks, and how many are valid. In 32 bits, as the words are, so that the compiler counts
@@ -87,76 +36,101 @@ struct Programmed {
     valid: u32,
 }
 
-// Of the n pages from `first` on.
-fn count_programmed(spare: &[u32], first: usize, n: usize, limit: u32) -> Programmed
-    requires { ((first + n) * spare_words ≤ length spare.now) × (n < 4294967296) }
-    ensures { (result.fit ≡ count n (λ i. programmed_at limit spare.now (first + i)))
-        × (result.valid ≡ count n (λ i. is_valid (first + i) spare.now)) }
-{
-    let mut fit = 0;
-    let mut valid = 0;
-    let mut i = 0;
-    while i < n {
-        let state = spare[(first + i) * SPARE_WORDS];
-        fit += fits_programmed(state, spare[(first + i) * SPARE_WORDS + 1], limit);
-        valid += is_valid(state);
-        i += 1;
-    }
-    Programmed { fit, valid }
-}
-
-// What is found of a block's pages: whether the rule holds of them, and how many are erased and valid, which other rules ask.
+// What is found of a block's pages of which the rule holds, and other rules ask: how many are erased and valid.
 #[derive(Drop)]
 pub struct Block {
-    pub fits: bool,
     pub erased: usize,
     pub valid: usize,
 }
 
-// Block b of p pages is wholly erased, in the spare and on the chip. Of a block whose first page is not, no more is read.
-fn wholly_erased(chip: &[u32], spare: &[u32], w: usize, b: usize, p: usize) -> bool
-    requires w_in_bounds { (b * p + p) * w ≤ length chip.now }
-    requires spare_words_in_bounds { ((b * p + p) * spare_words ≤ length spare.now) × (1 ≤ p) }
-    ensures { result ≡ (blank (p * spare_words) spare.now b && blank (p * w) chip.now b) }
-{
-    if state_at(spare, b * p) != ERASED {
-        return false;
+impl Area<'_> {
+    // The rule for page `page`.
+    fn page_fits(&self, page: usize) -> bool
+        requires { page < (self.now.first + self.now.n) * self.now.p }
+        ensures { result ≡ rule_1 self.now.w self.now.limit self.now.chip.now self.now.spare.now page }
+    {
+        let state = self.spare[page * SPARE_WORDS];
+        let owner = self.spare[page * SPARE_WORDS + 1];
+        if state == ERASED {
+            return is_blank(self.spare, SPARE_WORDS, page) && is_blank(self.chip, self.w, page);
+        }
+        fits_programmed(state, owner, self.limit)
     }
-    if !is_blank(spare, p * SPARE_WORDS, b) {
-        return false;
+
+    // The rule for each page of block b.
+    fn pages_fit(&self, b: usize) -> bool
+        requires { b < self.now.first + self.now.n }
+        ensures { result ≡ all self.now.p (λ i. rule_1 self.now.w self.now.limit self.now.chip.now self.now.spare.now (b * self.now.p + i)) }
+    {
+        let first = b * self.p;
+        for i in 0..self.p {
+            if !self.page_fits(first + i) {
+                return false;
+            }
+        }
+        true
     }
-    is_blank(chip, p * w, b)
+
+    // The counts of block b.
+    fn count_programmed(&self, b: usize) -> Programmed
+        requires { b < self.now.first + self.now.n }
+        ensures { (result.fit ≡ count self.now.p (λ i. programmed_at self.now.limit self.now.spare.now (b * self.now.p + i)))
+            × (result.valid ≡ count self.now.p (λ i. is_valid (b * self.now.p + i) self.now.spare.now)) }
+    {
+        let first = b * self.p;
+        let mut fit = 0;
+        let mut valid = 0;
+        for i in 0..self.p {
+            let state = self.spare[(first + i) * SPARE_WORDS];
+            let owner = self.spare[(first + i) * SPARE_WORDS + 1];
+            fit += u32::from(fits_programmed(state, owner, self.limit));
+            valid += u32::from(state == VALID);
+        }
+        Programmed { fit, valid }
+    }
+
+    // Block b is wholly erased, in the spare and on the chip. Of a block whose first page is not, no more is read.
+    fn wholly_erased(&self, b: usize) -> bool
+        requires { b < self.now.first + self.now.n }
+        ensures { result ≡ (blank (self.now.p * spare_words) self.now.spare.now b && blank (self.now.p * self.now.w) self.now.chip.now b) }
+    {
+        state_at(self.spare, b * self.p) == ERASED
+            && is_blank(self.spare, self.p * SPARE_WORDS, b)
+            && is_blank(self.chip, self.p * self.w, b)
+    }
+
+    // Block b, where the rule holds of each of its pages. Most blocks are wholly erased, and one sweep tells, or have no erased page, and
+    // the counts tell; only where they are neither, as the open block, each page is looked at.
+    pub(crate) fn look(&self, b: usize) -> Option<Block>
+        requires { b < self.now.first + self.now.n }
+        ensures { MatchOption result (all self.now.p (λ i. rule_1 self.now.w self.now.limit self.now.chip.now self.now.spare.now (b * self.now.p + i)) ≡ false)
+            (Looked self.now.w self.now.limit self.now.chip.now self.now.spare.now (b * self.now.p) self.now.p) }
+    {
+        if self.wholly_erased(b) {
+            return Some(Block {
+                erased: self.p,
+                valid: 0,
+            });
+        }
+        let counts = self.count_programmed(b);
+        let valid = counts.valid as usize;
+        if counts.fit as usize == self.p {
+            return Some(Block { erased: 0, valid });
+        }
+        if !self.pages_fit(b) {
+            return None;
+        }
+        let erased = count_state(self.spare, b * self.p, self.p, ERASED);
+        Some(Block { erased, valid })
+    }
 }
 
-// Block b of p pages. Most blocks are wholly erased, and one sweep tells, or have no erased page, and the counts tell; only where they
-// are neither, as the open block, each page is looked at.
-pub fn look(chip: &[u32], spare: &[u32], w: usize, limit: u32, b: usize, p: usize) -> Block
-    requires w_in_bounds { (b * p + p) * w ≤ length chip.now }
-    requires spare_words_in_bounds { ((b * p + p) * spare_words ≤ length spare.now) × (1 ≤ p) × (p < 4294967296) }
-    ensures { Looked w limit chip.now spare.now (b * p) p result }
-{
-    if wholly_erased(chip, spare, w, b, p) {
-        return Block {
-            fits: true,
-            erased: p,
-            valid: 0,
-        };
-    }
-    let first = b * p;
-    let counts = count_programmed(spare, first, p, limit);
-    let valid = counts.valid as usize;
-    if counts.fit as usize == p {
-        return Block {
-            fits: true,
-            erased: 0,
-            valid,
-        };
-    }
-    let fits = pages_fit(chip, spare, w, limit, first, p);
-    let erased = count_state(spare, first, p, ERASED);
-    Block {
-        fits,
-        erased,
-        valid,
+impl Block {
+    // Its number in the census.
+    pub(crate) fn number(&self) -> u32
+        requires { (self.now.valid < 65536) × (self.now.erased < 65536) }
+        ensures { result ≡ self.now.valid + 256 * self.now.erased }
+    {
+        self.valid as u32 + ERASED_PAGE * self.erased as u32
     }
 }

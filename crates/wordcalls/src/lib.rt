@@ -30,7 +30,7 @@ pub fn format(
     let rec = load(record);
     let formatted = calls::format(rec, record_words, g, chip, spare, directory, cache, counts);
     store(record, formatted.rec);
-    formatted.answer
+    formatted.answer.into()
 }
 
 // Changes nothing but the counts, so that the record isn't stored.
@@ -52,5 +52,5 @@ pub fn check(
 {
     let record_words = record.len();
     let rec = load(record);
-    calls::check(rec, record_words, g, chip, spare, directory, cache, counts)
+    calls::check(rec, record_words, g, chip, spare, directory, cache, counts).into()
 }

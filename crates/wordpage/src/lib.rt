@@ -43,7 +43,7 @@ pub fn read(
         counts,
     );
     store(record, read.rec);
-    read.answer
+    read.answer.into()
 }
 
 // Leaves the page buffer as it is.
@@ -80,5 +80,5 @@ pub fn write(
         counts,
     );
     store(record, written.rec);
-    written.answer
+    written.answer.into()
 }

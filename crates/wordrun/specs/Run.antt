@@ -1,70 +1,20 @@
--- A run over request words: the laws by which the loop through them and the run around it go from what the parts of a run ensure to what
--- they ensure. They are the laws of a run in its parts, with the requests that the words are.
-use Rattle.std.specs.Prelude.{ℕ, ◌+◌, ◌/◌, ◌≤◌, ◌<◌, ◌^◌, ◌≡◌, List, length}
-use Rattle.std.proofs.Common.{sym, subst, ◌∙◌, arith}
+-- A run over request words: the law by which the run goes from what its parts ensure to what it ensures. It is the law of a run in its
+-- parts, with the requests that the words are.
+use Rattle.std.specs.Prelude.{ℕ, ◌/◌, ◌≡◌, List, length}
+use Rattle.std.proofs.Common.{sym, ◌∙◌}
 use Rattle.lent.specs.declared.Record.{Record}
 use Rattle.lent.specs.Model.{Lists, together}
 use Rattle.scope.specs.Geometry.{Geometry}
-use Rattle.scope.specs.Lent.{State, Request}
-use Rattle.scope.specs.Replies.{DONE, Size}
-use Rattle.scope.specs.Calls.{run_replied, serve_record, serve_records, run}
+use Rattle.scope.specs.Lent.{State}
+use Rattle.scope.specs.Replies.{Size}
+use Rattle.scope.specs.Calls.{run_replied, serve_records, run}
 use Rattle.scope.specs.Boundary.{requests_of}
 use Rattle.scope.specs.Holding.{Answers}
 use Rattle.running.specs.declared.Running.{Running}
 use Rattle.running.specs.Ends.{Begun, Finished}
-use Rattle.words.specs.Noted.{Noted}
-use Rattle.running.specs.Serve.{Serving, Runs, Served}
-use Rattle.running.specs.Ran.{Tested, runs_none, runs_more, runs_ready, run_answers}
-use Rattle.wording.specs.Asked.{half_as_many, words_at, request_at}
-
--- ---- the loop
-
--- The loop before request i of n: those before it are served.
-pub record Turned (g : Geometry) (ws : List ℕ) (n i : ℕ) (a : Running) (s : State) (words answers census filter : List ℕ)
-    (b : Running) (s' : State) (words' answers' census' filter' : List ℕ) : Type 0 where
-  pub all : n ≡ length ws / 2
-  pub so_far : i ≤ n
-  pub countable : n < 2 ^ 64
-  pub tested : Tested g n a s words answers census filter
-  pub runs : Runs (serve_records g (requests_of ws) i) a s words answers b s' words' answers'
-  pub noted : Noted g s census filter → Noted g s' census' filter'
-
-module _ {g : Geometry} {ws : List ℕ} {n : ℕ} {a : Running} {s : State} {words answers census filter : List ℕ} where
-  pub start : n ≡ length ws / 2 → n < 2 ^ 64 → Tested g n a s words answers census filter
-      → Turned g ws n 0 a s words answers census filter a s words answers census filter
-  start e few tested =
-      record { all = e; so_far = omega arith; countable = few; tested = tested; runs = runs_none g (requests_of ws); noted = λ x. x }
-
-  module _ {i : ℕ} {b : Running} {s₁ : State} {words₁ answers₁ census₁ filter₁ : List ℕ}
-      (before : Turned g ws n i a s words answers census filter b s₁ words₁ answers₁ census₁ filter₁) (h : i < n) where
-    pub ready : b.answer ≡ DONE → Serving g i b s₁ words₁ answers₁ census₁ filter₁
-    ready = runs_ready g (requests_of ws) before.tested h before.runs before.noted
-
-    pub turn : {q : Request} {c : Running} {s₂ : State} {words₂ answers₂ census₂ filter₂ : List ℕ} → q ≡ words_at ws i
-        → Served g i q b s₁ words₁ answers₁ census₁ filter₁ c s₂ words₂ answers₂ census₂ filter₂
-        → Turned g ws n (i + 1) a s words answers census filter c s₂ words₂ answers₂ census₂ filter₂
-    turn {c = c} {s₂} {words₂} {answers₂} taken served =
-        record {
-          all = before.all;
-          so_far = omega arith;
-          countable = before.countable;
-          tested = before.tested;
-          runs = runs_more g (requests_of ws) i before.runs
-              (subst (λ (q : Request). Runs (serve_record g i q) b s₁ words₁ answers₁ c s₂ words₂ answers₂)
-              (taken ∙ sym (request_at ws i (omega (arith, before.all)))) served.runs);
-          noted = λ x. served.noted (before.noted x);
-        }
-
-  pub turned : {i : ℕ} {b : Running} {s' : State} {words' answers' census' filter' : List ℕ}
-      → Turned g ws n i a s words answers census filter b s' words' answers' census' filter' → n ≤ i
-      → Runs (serve_records g (requests_of ws) (length ws / 2)) a s words answers b s' words' answers'
-  turned {i} {b} {s'} {words'} {answers'} t h =
-      subst (λ (k : ℕ). Runs (serve_records g (requests_of ws) k) a s words answers b s' words' answers') last t.runs
-    where
-      last : i ≡ length ws / 2
-      last = omega (arith, t.all, t.so_far)
-
--- ---- the run
+use Rattle.running.specs.Serve.{Runs}
+use Rattle.running.specs.Ran.{run_answers}
+use Rattle.wording.specs.Asked.{half_as_many}
 
 -- Begun, served to the last request and finished, with the record that is handed on, is the call.
 pub run_words_answers : (g : Geometry) (ws : List ℕ) {others : List Size} {n : ℕ} {a b : Running} {s s₁ : State} {x : Lists}

@@ -4,12 +4,12 @@
 
 ghost use Rattle.std.specs.Prelude.{◌/◌, ◌%◌, length};
 ghost use Rattle.lent.specs.Model.{geometry, state, words as lent-words};
-ghost use Rattle.scope.specs.Calls.{run_replied, serve_records, run};
+ghost use Rattle.lent.specs.Reply.{reply};
+ghost use Rattle.scope.specs.Calls.{run_replied, run};
 ghost use Rattle.scope.specs.Boundary.{requests_of, tf_run};
 ghost use Rattle.scope.specs.Holding.{Answers, Gives};
 ghost use Rattle.replies.specs.Sizes.{beside_run};
-ghost use Rattle.running.specs.Serve.{Runs};
-ghost use Rattle.running.specs.Ran.{Tested};
+ghost use Rattle.running.specs.Ran.{Tested, Ran};
 
 use lent::{CENSUS_WORDS, FILTER_WORDS, Geometry, Record};
 use replies::Out;
@@ -34,21 +34,19 @@ fn serve_words(
 ) -> Running
     requires { Tested (geometry g) (length requests.now / 2) first
         (state chip.old spare.old directory.old cache.old first.rec) words.old answers.old census.old filter.old }
-    ensures { Runs (serve_records (geometry g) (requests_of requests.now) (length requests.now / 2)) first
+    ensures { Ran (geometry g) (requests_of requests.now) (length requests.now / 2) first
         (state chip.old spare.old directory.old cache.old first.rec)
-        words.old answers.old result
+        words.old answers.old census.old filter.old result
         (state chip.new spare.new directory.new cache.new result.rec)
-        words.new answers.new }
+        words.new answers.new census.new filter.new }
 {
     let n = requests.len() / REQUEST_WORDS;
-    let mut i = 0;
     let mut cur = first;
-    while i < n {
+    for i in 0..n {
         let q = request_at(requests, i);
         cur = serve(
             cur, i, q, g, chip, spare, directory, cache, census, filter, words, answers,
         );
-        i += 1;
     }
     cur
 }
@@ -71,7 +69,7 @@ fn run_words(
         (run (geometry g) (beside_run (length requests.now % 2) record_words (length counts.old))
         (requests_of requests.now) words.old answers.old
         (state chip.old spare.old directory.old cache.old rec))
-        counts.old (run_replied words.new answers.new result.answer)
+        counts.old (run_replied words.new answers.new (reply result.answer))
         (state chip.new spare.new directory.new cache.new result.rec)
         counts.new }
 {
@@ -148,5 +146,5 @@ pub fn run(
         counts,
     );
     store(record, ran.rec);
-    ran.answer
+    ran.answer.into()
 }

@@ -1,8 +1,7 @@
--- Entries of three words: the first n words moved back by three, from the last one down, and what stands in front of them then.
-use Rattle.std.specs.Prelude.{ℕ, suc, ◌+◌, ◌-◌, ◌*◌, ◌≤◌, ◌<◌, ◌≡◌, refl, Bool, true, false, ◌&&◌, List, [], ◌∷◌, ◌++◌, length, get_or, set, take, drop, eqb, ltb}
-use Rattle.std.proofs.Common.{sym, ap, ◌∙◌, append_assoc, add-one, arith, length-set, drop-cons, drop_at, length-take-le, lt-ltb, le-ltb, eq-eqb, ne_eqb}
+-- Entries of three words: the first n words moved back by three, and what stands in front of them then.
+use Rattle.std.specs.Prelude.{ℕ, suc, ◌+◌, ◌-◌, ◌*◌, ◌≤◌, ◌<◌, ◌≡◌, refl, Bool, true, false, ◌&&◌, List, [], ◌∷◌, ◌++◌, length, get_or, take, drop, eqb, ltb}
+use Rattle.std.proofs.Common.{sym, ap, ◌∙◌, append_assoc, add-one, arith, drop-cons, drop_at, length-take-le, lt-ltb, le-ltb, eq-eqb, ne_eqb}
 use Rattle.std.proofs.Math.Bool.{and-false}
-use Rattle.std.proofs.Math.Nat.{sub-zero}
 use Rattle.std.proofs.Math.Numerals.{add-two}
 use Rattle.std.proofs.lemmas.List.Edits.{sets, sets-eq}
 use Rattle.std.proofs.Math.Seq.{length-sets}
@@ -10,45 +9,8 @@ use Rattle.scope.specs.Counting.{lowest}
 use Rattle.scope.specs.Lent.{none, entry_words, logical_at}
 use Rattle.flash.specs.Cases.{below?, true_and}
 use Rattle.flash.specs.Searching.{lowest_is, lowest_unique}
-use Rattle.flash.specs.Stores.{getD_sets_outside}
-use Rattle.words.specs.Runs.{set_before, get_d_any}
+use Rattle.words.specs.Runs.{get_d_any}
 use Rattle.words.specs.Searches.{lowest_fails, lowest_before}
-
--- Words i to n - 1 of l₀ have moved three words back.
-pub record Shifted (l₀ : List ℕ) (n : ℕ) (l : List ℕ) (i : ℕ) : Type 0 where
-  pub from : i ≤ n
-  pub words : l ≡ sets l₀ (i + entry_words) (take (n - i) (drop i l₀))
-  pub as_long : length l ≡ length l₀
-
-module _ {l₀ : List ℕ} {n : ℕ} (fits : n + entry_words ≤ length l₀) where
-  pub none_shifted : Shifted l₀ n l₀ n
-  none_shifted =
-      let none : n - n ≡ 0 = omega arith in
-      record { from = omega arith; words = rw none refl; as_long = refl }
-
-  pub one_shifted : {l : List ℕ} {i : ℕ} → Shifted l₀ n l i → (j : ℕ) → i ≡ suc j → Shifted l₀ n (set l (j + entry_words) (get_or l j 0)) j
-  one_shifted {l} {i} h j e =
-      let v = get_or l₀ j 0 in
-      let rest = take (n - i) (drop i l₀) in
-      let read : get_or l j 0 ≡ v =
-      ap (λ (x : List ℕ). get_or x j 0) h.words ∙ getD_sets_outside l₀ (i + entry_words) rest j 0 (λ k _ q. omega arith) in
-      let more : n - j ≡ suc (n - i) = omega (arith, h.from) in
-      let behind : i + entry_words ≡ suc (j + entry_words) = omega arith in
-      record {
-        from = omega (arith, h.from);
-        words = ap (λ (x : List ℕ). set x (j + entry_words) (get_or l j 0)) h.words
-            ∙ ap (set (sets l₀ (i + entry_words) rest) (j + entry_words)) read
-            ∙ set_before l₀ (j + entry_words) (i + entry_words) rest v (omega arith)
-            ∙ ap (λ (k : ℕ). sets (set l₀ (j + entry_words) v) k rest) behind
-            ∙ ap (sets l₀ (j + entry_words)) (ap (λ (k : ℕ). v ∷ take (n - i) (drop k l₀)) e
-            ∙ sym (ap (take (suc (n - i))) (drop-cons l₀ j 0 (omega (arith, h.from))))
-            ∙ ap (λ (k : ℕ). take k (drop j l₀)) (sym more));
-        as_long = length-set l (j + entry_words) (get_or l j 0) ∙ h.as_long;
-      }
-
-  -- All moved.
-  pub all_shifted : {l : List ℕ} {i : ℕ} → Shifted l₀ n l i → i ≡ 0 → l ≡ sets l₀ entry_words (take n l₀)
-  all_shifted {l} {i} h e = h.words ∙ (rw (e, sub-zero) refl)
 
 -- Three words stored in front of the moved ones: all that was there, without the three words behind the first n.
 pub put_in_front : (l l₁ l₂ : List ℕ) (n a b c : ℕ) → n + entry_words ≤ length l → l₁ ≡ sets l entry_words (take n l) → l₂ ≡ sets l₁ 0 (a ∷ b ∷ c ∷ [])

@@ -2,7 +2,7 @@
 use Rattle.std.specs.Prelude.{ℕ, zero, suc, ◌+◌, ◌≤◌, ◌<◌, ◌≡◌, refl, ◌⊎◌, List, [], ◌∷◌, ◌++◌, length, get_or, set, take, drop}
 use Rattle.std.proofs.Common.{sym, ap, ◌∙◌, ⊎_elim, append-nil, add-zero, add-one, arith, length-set, length-take, length-drop, take-append-drop, set-set, take-suc, take_all, take-add, length-take-le, get_or-take, get_or-drop}
 use Rattle.std.proofs.lemmas.List.Edits.{sets, sets-eq}
-use Rattle.std.proofs.Math.Seq.{drop-length}
+use Rattle.std.proofs.Math.Seq.{drop-length, paste}
 use Rattle.std.proofs.lemmas.List.{set_comm}
 use Rattle.flash.specs.Stores.{getD_sets_outside}
 
@@ -87,3 +87,9 @@ module _ {l₀ : List ℕ} {at : ℕ} {vs : List ℕ} where
       ap (λ (x : List ℕ). get_or x j 0) h.words
       ∙ getD_sets_outside l₀ at (take n vs) j 0
       (λ k below e. ⊎_elim (λ a. omega arith) (λ a. omega arith) apart)
+
+-- The first n words of vs written over as many from `at` on.
+pub sets_pasted : (l : List ℕ) (at : ℕ) (vs : List ℕ) (n : ℕ) → at + n ≤ length l → n ≤ length vs → paste l at vs n ≡ sets l at (take n vs)
+sets_pasted l at vs n fits few =
+    let size : length (take n vs) ≡ n = length-take-le n vs few in
+    sym (sets-eq (take n vs) l at (omega arith) ∙ (rw size refl))

@@ -14,10 +14,8 @@ pub fn count_equal(census: &[u32], first: usize, n: usize, x: u32) -> usize
     ensures { (result ≤ n) × (result ≡ count n (λ i. eqb (get_or census.now (first + i) 0) x)) }
 {
     let mut k = 0;
-    let mut i = 0;
-    while i < n {
+    for i in 0..n {
         k += bit(census[first + i], x);
-        i += 1;
     }
     k
 }
@@ -27,17 +25,16 @@ pub fn lowest_equal(census: &[u32], first: usize, n: usize, x: u32) -> usize
     requires { first + n ≤ length census.now }
     ensures { (result ≤ n) × (result ≡ lowest n (λ i. eqb (get_or census.now (first + i) 0) x)) }
 {
-    let mut i = 0;
-    while i < n {
+    for i in 0..n {
         if census[first + i] == x {
             return i;
         }
-        i += 1;
     }
     n
 }
 
 // The block with the smallest number so far, and that number; n and the limit where none was found.
+// Kept: (d) an Option of the two would be matched at each turn, where the limit makes it one comparison.
 #[derive(Drop)]
 struct Best {
     at: usize,
@@ -62,10 +59,8 @@ pub fn fewest_below(census: &[u32], first: usize, n: usize, limit: u32) -> usize
         (λ i. get_or census.now (first + i) 0)) }
 {
     let mut best = Best { at: n, size: limit };
-    let mut i = 0;
-    while i < n {
+    for i in 0..n {
         best = better(best, i, census[first + i]);
-        i += 1;
     }
     best.at
 }

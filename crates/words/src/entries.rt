@@ -8,16 +8,12 @@ ghost use Rattle.scope.specs.Cache.{entry_at, without};
 use crate::runs::store_three;
 use lent::ENTRY_WORDS;
 
-// The first n words move back by an entry, over those that stood there. From the last one down, so that the compiler sees a move.
+// The first n words move back by an entry, over those that stood there.
 fn shift_back(s: &mut [u32], n: usize)
     requires { n + entry_words ≤ length s.old }
     ensures { s.new ≡ sets s.old entry_words (take n s.old) }
 {
-    let mut i = n;
-    while 0 < i {
-        i -= 1;
-        s[i + ENTRY_WORDS] = s[i];
-    }
+    s.copy_within(0..n, ENTRY_WORDS);
 }
 
 // An entry in front, in the place of the one at rank i.
@@ -45,18 +41,10 @@ pub fn among_four(cache: &[u32], i: usize, l: u32) -> usize
     requires { (i + 4) * entry_words ≤ length cache.now }
     ensures { result ≡ lowest 4 (λ k. eqb (logical_at (i + k) cache.now) l) }
 {
-    let at = i * ENTRY_WORDS;
-    if cache[at] == l {
-        return 0;
-    }
-    if cache[at + ENTRY_WORDS] == l {
-        return 1;
-    }
-    if cache[at + 2 * ENTRY_WORDS] == l {
-        return 2;
-    }
-    if cache[at + 3 * ENTRY_WORDS] == l {
-        return 3;
+    for k in 0..4 {
+        if cache[(i + k) * ENTRY_WORDS] == l {
+            return k;
+        }
     }
     4
 }
@@ -68,6 +56,7 @@ pub fn rank_of(cache: &[u32], used: usize, n: usize, l: u32) -> usize
     ensures { (result ≤ n) × (result ≡ lowest n (λ i. ltb i used && eqb (logical_at i cache.now) l)) }
 {
     let mut i = 0;
+    // Kept: (b) `position` over the entries, one a turn, takes 1.7 times as long over 300 of them.
     while i + 4 <= used {
         let k = among_four(cache, i, l);
         if k < 4 {
@@ -75,11 +64,10 @@ pub fn rank_of(cache: &[u32], used: usize, n: usize, l: u32) -> usize
         }
         i += 4;
     }
-    while i < used {
-        if cache[i * ENTRY_WORDS] == l {
-            return i;
+    for rank in i..used {
+        if cache[rank * ENTRY_WORDS] == l {
+            return rank;
         }
-        i += 1;
     }
     n
 }

@@ -20,10 +20,8 @@ fn sweep(words: &[u32], at: usize, n: usize, bits: u32) -> u32
     ensures { eqb result erased ≡ (eqb bits erased && all n (λ i. is_erased_word words.now (at + i))) }
 {
     let mut left = bits;
-    let mut i = 0;
-    while i < n {
-        left = left & words[at + i];
-        i += 1;
+    for i in 0..n {
+        left &= words[at + i];
     }
     left
 }
@@ -33,12 +31,11 @@ pub fn only_erased(words: &[u32]) -> bool
     ensures { result ≡ only_erased words.now }
 {
     let mut bits = ERASED;
-    let mut i = 0;
-    while STRETCH <= words.len() - i {
-        bits = sweep(words, i, STRETCH, bits);
-        i += STRETCH;
+    for k in 0..words.len() / STRETCH {
+        bits = sweep(words, k * STRETCH, STRETCH, bits);
     }
-    sweep(words, i, words.len() - i, bits) == ERASED
+    let rest = words.len() % STRETCH;
+    sweep(words, words.len() - rest, rest, bits) == ERASED
 }
 
 // How far the words from `at` on are erased, by whole steps: behind there may be some more.
@@ -46,12 +43,12 @@ pub fn erased_run(words: &[u32], at: usize) -> usize
     requires { at ≤ length words.now }
     ensures { ErasedRun words.now at result }
 {
-    let mut end = at;
-    while STEP <= words.len() - end {
+    let steps = (words.len() - at) / STEP;
+    for k in 0..steps {
+        let end = at + k * STEP;
         if sweep(words, end, STEP, ERASED) != ERASED {
             return end;
         }
-        end += STEP;
     }
-    end
+    at + steps * STEP
 }

@@ -5,4 +5,4 @@ use Rattle.calls.proofs.check.Goals as goal
 
 pub returns : goal.returns
 returns c = let a = c.args in
-    check_answers (geometry a.g) _ _ c.lengths_right-right.ensures c.check_answer-answer.ensures c.put_none.ensures
+    rw c.into.ensures (check_answers (geometry a.g) _ _ c.lengths_right-right.ensures c.test_for_check-tests.ensures c.put_none.ensures)

@@ -1,25 +1,49 @@
 -- `calls::read` meets its contract.
+use mathlib.Core.Path.{sym, ap}
+use borrow.Author.Rules.{rules}
+use Rattle.lent.specs.DoesLaws.{does_ends}
+use Rattle.requests.specs.Node.{held_is}
 use Rattle.lent.specs.Model.{geometry, counts}
+use Rattle.lent.specs.Reply.{tested, refused_not_done}
 use Rattle.promises.specs.Bounds.{read_bound}
 use Rattle.scope.specs.Requests.{read_steps}
 use Rattle.scope.specs.Calls.{read}
+use Rattle.words.specs.Filter.{filtered_of}
 use Rattle.admission.specs.Room.{read_few}
 use Rattle.calls.specs.Single.{single_ready, single_refused, single_served}
 use Rattle.calls.proofs.read.Goals as goal
 
-pub returns-then-answer-ne-DONE : goal.returns-then-answer-ne-DONE
+pub returns-in-Err : goal.returns-in-Err
 unfolding read
-returns-then-answer-ne-DONE c = let a = c.args in
-    single_refused a.buffer.now c.single_answer-answer.ensures (read_steps (geometry a.g) a.page a.buffer.now)
-    c.if-answer-ne-DONE.true c.put_none.ensures
+returns-in-Err c = let a = c.args in
+    single_refused a.buffer.now (rw (c.into.ensures, c.in-Err.is) at c.test_single-tests.ensures) (read_steps (geometry a.g) a.page a.buffer.now)
+    (refused_not_done c.in-Err.refusal) c.put_none.ensures
 
-pub read-done-requires : goal.read-done-requires
-read-done-requires c = let a = c.args in
-    let ready = single_ready a.buffer.now c.single_answer-answer.ensures (read_bound (geometry a.g)) read_few c.if-answer-ne-DONE.false in
-    record { ready_for = ready.0; noted = ready.1 }
+pub invariant_of-flash : goal.invariant_of-flash
+invariant_of-flash c = let a = c.args in
+    let (ready, noted) = single_ready a.buffer.now (rw c.into.ensures at c.test_single-tests.ensures) (read_bound (geometry a.g)) read_few (ap tested c.in_default.is) in
+    record {
+      accepted = ready.0.ready.accepted;
+      chip_fits = ready.0.ready.lengths.chip_fits;
+      spare_fits = ready.0.ready.lengths.spare_fits;
+      counted = noted.counted;
+    }
+
+pub invariant_of-node : goal.invariant_of-node
+invariant_of-node c = let a = c.args in
+    let ready = single_ready a.buffer.now (rw c.into.ensures at c.test_single-tests.ensures) (read_bound (geometry a.g)) read_few (ap tested c.in_default.is) in
+    record { filtered = filtered_of ready.1.filtered }
+
+pub read-answer-requires : goal.read-answer-requires
+read-answer-requires c = let a = c.args in
+    (single_ready a.buffer.now (rw c.into.ensures at c.test_single-tests.ensures) (read_bound (geometry a.g)) read_few (ap tested c.in_default.is)).0
 
 pub returns : goal.returns
 unfolding read
 returns c = let a = c.args in
-    single_served a.buffer.now c.single_answer-answer.ensures (read_steps (geometry a.g) a.page a.buffer.now)
-    (counts c.read-done.result.work.counts) c.if-answer-ne-DONE.false c.read-done.ensures.does_all c.put_counts.ensures
+    let node = c.read-answer.new.self in
+    single_served a.buffer.now (rw c.into.ensures at c.test_single-tests.ensures) (read_steps (geometry a.g) a.page a.buffer.now)
+    _ (ap tested c.in_default.is)
+    (does_ends c.read-answer.ensures.does.does
+    (held_is node (search rules) (search rules) (search rules) (search rules) (search rules)) (ap counts (sym (search rules))))
+    c.put_counts.ensures

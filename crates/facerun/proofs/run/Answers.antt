@@ -6,4 +6,4 @@ pub serve_all-last-requires : goal.serve_all-last-requires
 serve_all-last-requires c = run_before_serve_all c.begin-first.ensures
 
 pub returns : goal.returns
-returns c = run_by c.begin-first.ensures c.serve_all-last.ensures c.finish-out.ensures
+returns c = run_by c.args.requests.now c.begin-first.ensures c.serve_all-last.ensures c.finish-out.ensures

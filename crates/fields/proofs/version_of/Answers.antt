@@ -1,6 +1,13 @@
 -- The one row has the number 1.
-use Rattle.fields.specs.Judged.{row_of_version_1}
+use Rattle.settings.specs.Settings.{version_of}
+use Rattle.std.proofs.Common.{refl, ap, arith, ne_eqb}
+use Rattle.std.proofs.Math.Option.{some}
 use Rattle.fields.proofs.version_of.Goals as goal
 
-pub returns : goal.returns
-returns c = row_of_version_1 c.args.number c.version_1.result c.version_1.ensures
+pub returns-in-1 : goal.returns-in-1
+unfolding version_of
+returns-in-1 c = rw c.in-1.is (ap some c.version_1.ensures)
+
+pub returns-in_default : goal.returns-in_default
+unfolding version_of
+returns-in_default c = rw (ne_eqb c.args.number 1 (λ e. absurd (omega (arith, e)))) refl

@@ -1,54 +1,13 @@
 -- `geometry::accepts` meets its contract.
+use Rattle.std.proofs.Common.{arith}
+use Rattle.std.proofs.lemmas.Grind.{common_steps}
 use Rattle.scope.specs.Geometry.{accepted}
 use Rattle.geometry.proofs.accepts.Goals as goal
 
-pub returns-then-not-within : goal.returns-then-not-within
+pub returns-then-words_within : goal.returns-then-words_within
 unfolding accepted
-returns-then-not-within c = rw (← c.if-not-within.ensures)
+returns-then-words_within c = grind (arith, common_steps)
 
-pub returns-then-not-within-2 : goal.returns-then-not-within-2
+pub returns-else-words_within : goal.returns-else-words_within
 unfolding accepted
-returns-then-not-within-2 c = rw (← c.if-not-within.ensures, ← c.if-not-within-2.ensures)
-
-pub returns-then-not-blocks_within : goal.returns-then-not-blocks_within
-unfolding accepted
-returns-then-not-blocks_within c =
-    rw (← c.if-not-within.ensures, ← c.if-not-within-2.ensures, ← c.if-not-blocks_within.ensures)
-
-pub returns-then-not-within-3 : goal.returns-then-not-within-3
-unfolding accepted
-returns-then-not-within-3 c =
-    rw (
-      ← c.if-not-within.ensures,
-      ← c.if-not-within-2.ensures,
-      ← c.if-not-blocks_within.ensures,
-      ← c.most_owners.ensures.0,
-      ← c.if-not-within-3.ensures,
-    )
-
-pub returns-then-not-words_within : goal.returns-then-not-words_within
-unfolding accepted
-returns-then-not-words_within c =
-    rw (
-      ← c.if-not-within.ensures,
-      ← c.if-not-within-2.ensures,
-      ← c.if-not-blocks_within.ensures,
-      ← c.most_owners.ensures.0,
-      ← c.if-not-within-3.ensures,
-      ← c.most_owners-2.ensures.0,
-      ← c.if-not-words_within.ensures,
-    )
-
-pub returns : goal.returns
-unfolding accepted
-returns c =
-    rw (
-      ← c.if-not-within.ensures,
-      ← c.if-not-within-2.ensures,
-      ← c.if-not-blocks_within.ensures,
-      ← c.most_owners.ensures.0,
-      ← c.if-not-within-3.ensures,
-      ← c.most_owners-2.ensures.0,
-      ← c.if-not-words_within.ensures,
-    )
-    c.within-4.ensures
+returns-else-words_within c = grind (arith, common_steps)

@@ -10,8 +10,8 @@ returns c = let a = c.args in
     record {
       tested = run_tested (geometry a.g) (state a.chip.now a.spare.now a.directory.now a.cache.now a.rec)
           a.n a.words a.answers (beside_run a.odd_words a.record_words a.counts)
-          c.run_lengths_right-right.ensures c.state_answer-answer.ensures.state_tested;
+          c.run_lengths_right-right.ensures c.test_state-answer.ensures.state_tested;
       uncounted = refl;
       kept = refl;
-      noted = c.state_answer-answer.ensures.noted;
+      noted = c.test_state-answer.ensures.noted;
     }

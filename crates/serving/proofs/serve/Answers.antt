@@ -3,78 +3,52 @@ use Prim.Native.Nat.{◌+◌, ◌*◌, ◌-◌}
 use mathlib.Core.Path.{◌≡◌, refl, sym, ◌∙◌}
 use native.Mathlib.Omega.{arith}
 use Rattle.lent.specs.Model.{geometry, small}
+use Rattle.lent.specs.Reply.{refused_not_done}
 use Rattle.scope.specs.Calls.{serve_record}
 use Rattle.words.specs.Runs.{length_part}
 use Rattle.replies.specs.Model.{request}
 use Rattle.admission.specs.Tested.{request_below}
+use Rattle.running.specs.Ends.{is_done, not_done}
 use Rattle.running.specs.Serve.{not_admitted}
 use Rattle.running.proofs.Serve.{request_refused, request_served}
 use Rattle.serving.proofs.serve.Goals as goal
 
-pub returns-then-cur-ne-DONE : goal.returns-then-cur-ne-DONE
-returns-then-cur-ne-DONE c = let a = c.args in
-    record { runs = not_admitted (serve_record (geometry a.g) a.i (request a.q)) c.if-cur-ne-DONE.true; noted = λ x. x }
+pub returns-then-is_err : goal.returns-then-is_err
+returns-then-is_err c = let a = c.args in
+    let not_admitted_here = not_done a.cur.answer (sym c.is_err.ensures.value ∙ c.if-is_err.true) in
+    record { runs = not_admitted (serve_record (geometry a.g) a.i (request a.q)) not_admitted_here; noted = λ x. x }
 
-pub offset_bounds-answers-i : goal.offset_bounds-answers-i
-offset_bounds-answers-i c = let asked = c.requires c.if-cur-ne-DONE.false in
-    omega (arith, asked.answer_fits)
-
-pub bounds-answers-i : goal.bounds-answers-i
-bounds-answers-i c = let asked = c.requires c.if-cur-ne-DONE.false in
-    asked.answer_fits
-
-pub returns-then-refusal-ne-DONE : goal.returns-then-refusal-ne-DONE
-returns-then-refusal-ne-DONE c = let asked = c.requires c.if-cur-ne-DONE.false in
-    let a = c.args in
+pub returns-in-Err : goal.returns-in-Err
+returns-in-Err c = let a = c.args in
+    let admitted = is_done a.cur.answer (sym c.is_err.ensures.value ∙ c.if-is_err.false) in
+    let serving = c.requires admitted in
     record {
-      runs = request_refused (geometry a.g) a.i (request a.q) a.cur _ a.words.now a.answers.now
-          c.if-cur-ne-DONE.false asked.part_fits c.request_answer-refusal.ensures c.if-refusal-ne-DONE.true;
+      runs = rw c.into.ensures
+          (request_refused (geometry a.g) a.i (request a.q) a.cur _ a.words.now a.answers.now
+          admitted serving.part_fits c.in-Err.ensures.first (refused_not_done c.in-Err.refusal));
       noted = λ x. x;
     }
 
-pub overflow_mul-from : goal.overflow_mul-from
-overflow_mul-from c = let asked = c.requires c.if-cur-ne-DONE.false in
-    omega (arith, asked.part_fits)
-
-pub overflow_add-to : goal.overflow_add-to
-overflow_add-to c = let asked = c.requires c.if-cur-ne-DONE.false in
-    omega (arith, asked.part_fits)
-
-pub offset_bounds-words-from : goal.offset_bounds-words-from
-offset_bounds-words-from c = let asked = c.requires c.if-cur-ne-DONE.false in
-    omega (arith, asked.part_fits)
-
-pub serve_request-done-requires : goal.serve_request-done-requires
-serve_request-done-requires c = let asked = c.requires c.if-cur-ne-DONE.false in
-    let a = c.args in
-    let ready = asked in
-    let at : a.i * a.g.w + a.g.w - a.i * a.g.w ≡ a.g.w = omega arith in
-    record {
-      ready_for = (
-        record {
-          ready = ready.asks.ready;
-          below = request_below (geometry a.g) (small a.cur.rec) (request a.q) (sym c.if-refusal-ne-DONE.false ∙ c.request_answer-refusal.ensures);
-        },
-        rw at (length_part a.words.now (a.i * a.g.w) a.g.w ready.part_fits),
-      );
-      noted = ready.asks.noted;
-    }
-
-pub offset_bounds-answers-i-2 : goal.offset_bounds-answers-i-2
-offset_bounds-answers-i-2 c = let asked = c.requires c.if-cur-ne-DONE.false in
-    omega (arith, asked.answer_fits)
-
-pub bounds-answers-i-2 : goal.bounds-answers-i-2
-bounds-answers-i-2 c = let asked = c.requires c.if-cur-ne-DONE.false in
-    asked.answer_fits
+pub serve_request-done-requires-clause-ready_for : goal.serve_request-done-requires-clause-ready_for
+serve_request-done-requires-clause-ready_for c = let a = c.args in
+    let serving = c.requires (is_done a.cur.answer (sym c.is_err.ensures.value ∙ c.if-is_err.false)) in
+    let at : a.i * a.g.w + a.g.w - a.i * a.g.w ≡ a.g.w = omega arith in (
+      record {
+        ready = serving.asks.ready;
+        below = request_below (geometry a.g) (small a.cur.rec) (request a.q) c.in-Ok.ensures.first;
+      },
+      rw at (length_part a.words.now (a.i * a.g.w) a.g.w serving.part_fits),
+    )
 
 pub returns : goal.returns
-returns c = let asked = c.requires c.if-cur-ne-DONE.false in
-    let a = c.args in
+returns c = let a = c.args in
+    let admitted = is_done a.cur.answer (sym c.is_err.ensures.value ∙ c.if-is_err.false) in
+    let serving = c.requires admitted in
     let at : a.i * a.g.w + a.g.w - a.i * a.g.w ≡ a.g.w = omega arith in
     record {
-      runs = request_served (geometry a.g) a.i (request a.q) a.cur _ a.words.now a.answers.now
-          c.if-cur-ne-DONE.false asked.part_fits refl at
-          (sym c.if-refusal-ne-DONE.false ∙ c.request_answer-refusal.ensures) c.serve_request-done.ensures.does_all c.serve_request-done.auto.buffer;
-      noted = λ _. c.serve_request-done.ensures.noted_2;
+      runs = rw c.into-2.ensures
+          (request_served (geometry a.g) a.i (request a.q) a.cur _ a.words.now a.answers.now
+          admitted serving.part_fits refl at
+          c.in-Ok.ensures.first c.serve_request-done.ensures.does_all c.serve_request-done.auto.buffer);
+      noted = λ _. c.serve_request-done.ensures.still_noted;
     }

@@ -1,35 +1,24 @@
 -- `serving::serve_request` meets its contract.
+use mathlib.Core.Path.{sym, ap, ◌∙◌}
 use borrow.Author.Tests.{eq-eqb, ne_eqb}
+use native.Mathlib.Omega.{arith}
 use Rattle.lent.specs.DoesLaws.{does_cond_true, does_cond_false}
 use Rattle.scope.specs.Calls.{serve}
 use Rattle.lent.specs.Ready.{ready_less}
-use Rattle.admission.specs.Room.{read_few, write_few}
+use Rattle.admission.specs.Room.{write_few}
+use Rattle.replies.specs.Model.{kind}
 use Rattle.serving.proofs.serve_request.Goals as goal
 
-pub read-requires : goal.read-requires
-read-requires c = let (ready, long) = c.requires.ready_for in
-    record {
-      ready_for = (ready_less (read_few ready.ready.accepted) ready, long);
-      noted = c.requires.noted;
-    }
-
-pub returns-then-q-eq-KIND_READ : goal.returns-then-q-eq-KIND_READ
+pub returns-in-Read-clause-does_all : goal.returns-in-Read-clause-does_all
 unfolding serve
-returns-then-q-eq-KIND_READ c = record {
-  does_all = does_cond_true _ _ _ (eq-eqb _ _ c.if-q-eq-KIND_READ.true) c.read.ensures.does_all;
-  noted_2 = c.read.ensures.noted_2;
-}
+returns-in-Read-clause-does_all c =
+    does_cond_true _ _ _ (eq-eqb _ _ (sym c.requires.asked ∙ ap kind c.in-Read.is)) c.read.ensures.does_all
 
-pub write-requires : goal.write-requires
-write-requires c = let (ready, long) = c.requires.ready_for in
-    record {
-      ready_for = (ready_less (write_few ready.ready.accepted) ready, long);
-      noted = c.requires.noted;
-    }
+pub write-requires-clause-ready_for : goal.write-requires-clause-ready_for
+write-requires-clause-ready_for c = let (ready, long) = c.requires.ready_for in
+    (ready_less (write_few ready.ready.accepted) ready, long)
 
-pub returns : goal.returns
+pub returns-in-Write-clause-does_all : goal.returns-in-Write-clause-does_all
 unfolding serve
-returns c = record {
-  does_all = does_cond_false _ _ _ (ne_eqb _ _ c.if-q-eq-KIND_READ.false) c.write.ensures.does_all;
-  noted_2 = c.write.ensures.noted_2;
-}
+returns-in-Write-clause-does_all c =
+    does_cond_false _ _ _ (ne_eqb c.args.q.kind 0 (λ e. absurd (omega (arith, e, c.requires.asked, ap kind c.in-Write.is)))) c.write.ensures.does_all

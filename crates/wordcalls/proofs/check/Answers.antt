@@ -5,4 +5,4 @@ use Rattle.wordcalls.proofs.check.Goals as goal
 
 pub returns : goal.returns
 unfolding tf_check
-returns c = answers_in_words _ _ c.load-rec.ensures c.check.ensures (stored_back _ c.load-rec.ensures)
+returns c = rw c.into.ensures (answers_in_words _ _ c.load-rec.ensures c.check.ensures (stored_back _ c.load-rec.ensures))

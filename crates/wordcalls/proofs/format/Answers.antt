@@ -5,4 +5,4 @@ use Rattle.wordcalls.proofs.format.Goals as goal
 
 pub returns : goal.returns
 unfolding tf_format
-returns c = answers_in_words _ _ c.load-rec.ensures c.format-formatted.ensures c.store.ensures
+returns c = rw c.into.ensures (answers_in_words _ _ c.load-rec.ensures c.format-formatted.ensures c.store.ensures)

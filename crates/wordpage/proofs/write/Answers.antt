@@ -5,4 +5,4 @@ use Rattle.wordpage.proofs.write.Goals as goal
 
 pub returns : goal.returns
 unfolding tf_write
-returns c = answers_in_words _ _ c.load-rec.ensures c.write-written.ensures c.store.ensures
+returns c = rw c.into.ensures (answers_in_words _ _ c.load-rec.ensures c.write-written.ensures c.store.ensures)

@@ -5,4 +5,4 @@ use Rattle.wordrun.proofs.run.Goals as goal
 
 pub returns : goal.returns
 unfolding tf_run
-returns c = answers_in_words _ _ c.load-rec.ensures c.run_words-ran.ensures c.store.ensures
+returns c = rw c.into.ensures (answers_in_words _ _ c.load-rec.ensures c.run_words-ran.ensures c.store.ensures)

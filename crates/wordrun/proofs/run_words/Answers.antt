@@ -8,4 +8,4 @@ pub serve_words-last-requires : goal.serve_words-last-requires
 serve_words-last-requires c = begun_admits c.begin-first.ensures
 
 pub returns : goal.returns
-returns c = run_words_answers _ _ refl c.begin-first.ensures c.serve_words-last.ensures c.finish.ensures
+returns c = run_words_answers _ _ refl c.begin-first.ensures c.serve_words-last.ensures.runs c.finish.ensures

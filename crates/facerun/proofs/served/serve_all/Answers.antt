@@ -1,21 +1,12 @@
 -- `facerun::served::serve_all` meets its contract: each request can be served where the run was admitted, and they are served in their order.
-use mathlib.Core.Path.{◌≡◌}
-use native.Mathlib.Omega.{arith}
-use lib.ListN.{length}
-use Rattle.facerun.specs.Served.{serve_all_none, serve_all_more, serve_all_ready}
+use Rattle.facerun.specs.Served.{request_at, serve_all_none, serve_all_more, serve_all_ready}
 use Rattle.facerun.proofs.served.serve_all.Goals as goal
 
 pub loop-i-init : goal.loop-i-init
-loop-i-init c = record { so_far = omega arith; ran = serve_all_none }
+loop-i-init c = serve_all_none
 
 pub serve-cur-requires : goal.serve-cur-requires
-serve-cur-requires c = serve_all_ready c.loop-i-test.true c.loop-i.invariant.ran c.requires
+serve-cur-requires c = serve_all_ready c.loop-i.invariant c.loop-i-test.true c.requires
 
 pub loop-i-preserved : goal.loop-i-preserved
-loop-i-preserved c =
-    record { so_far = omega arith; ran = serve_all_more c.loop-i-test.true c.loop-i.invariant.ran c.serve-cur.ensures }
-
-pub returns : goal.returns
-returns c =
-    let all : c.loop-i.i ≡ length c.args.requests.now = omega (arith, c.loop-i.invariant.so_far, c.loop-i-test.false) in
-    rw all at c.loop-i.invariant.ran
+loop-i-preserved c = serve_all_more c.loop-i.invariant (request_at _ _ _ c.loop-i-test.true) c.serve-cur.ensures

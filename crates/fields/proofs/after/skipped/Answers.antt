@@ -1,15 +1,19 @@
--- Each test that applies finds no whole field; where none does, the field ends within the part.
-use Rattle.fields.specs.Skipping.{no_head, low_tag, cut, whole}
+-- Each test that applies finds no whole field; where none does, what stands behind the field.
+use Rattle.std.proofs.Common.{◌+◌, ◌-◌, length, drop, take_all, length-drop, arith}
+use Rattle.fields.specs.Skipping.{no_head, low_tag, cut, behind_field}
 use Rattle.fields.proofs.after.skipped.Goals as goal
 
-pub returns-then-part-lt-HEAD_BYTES : goal.returns-then-part-lt-HEAD_BYTES
-returns-then-part-lt-HEAD_BYTES c = no_head c.if-part-lt-HEAD_BYTES.true
+pub returns-then-bytes-lt-HEAD_BYTES : goal.returns-then-bytes-lt-HEAD_BYTES
+returns-then-bytes-lt-HEAD_BYTES c = no_head _ _ c.if-bytes-lt-HEAD_BYTES.true
 
-pub returns-then-part-last : goal.returns-then-part-last
-returns-then-part-last c = low_tag c.if-part-lt-HEAD_BYTES.false c.if-part-last.true
+pub returns-then-bytes-last : goal.returns-then-bytes-last
+returns-then-bytes-last c = low_tag _ _ c.if-bytes-lt-HEAD_BYTES.false c.if-bytes-last.true
 
-pub returns-then-part-size : goal.returns-then-part-size
-returns-then-part-size c = cut c.if-part-lt-HEAD_BYTES.false c.if-part-last.false c.pair.ensures.0 c.if-part-size.true
+pub returns-then-bytes-size : goal.returns-then-bytes-size
+returns-then-bytes-size c = cut _ _ c.if-bytes-lt-HEAD_BYTES.false c.if-bytes-last.false c.pair.ensures.value c.if-bytes-size.true
 
 pub returns : goal.returns
-returns c = whole c.if-part-lt-HEAD_BYTES.false c.if-part-last.false c.pair.ensures.0 c.if-part-size.false
+returns c = let bytes = c.args.bytes.now in
+    let size = 3 + c.pair.result in
+    behind_field _ _ c.if-bytes-lt-HEAD_BYTES.false c.if-bytes-last.false c.pair.ensures.value c.if-bytes-size.false
+    (take_all (length bytes - size) (drop size bytes) (omega (arith, length-drop size bytes)))

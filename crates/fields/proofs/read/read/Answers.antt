@@ -1,19 +1,34 @@
--- The first field gives the version, and its row the rest.
-use mathlib.Core.Path.{refl, ◌∙◌, subst}
-use mathlib.Core.Logic.{inl}
-use native.Mathlib.Omega.{arith}
-use Rattle.fields.specs.Model.{NextRead}
-use Rattle.fields.specs.Judged.{read_by_row, read_refused}
+-- The tests in their order, each with what was read before it.
+use Rattle.std.proofs.Common.{sym, ap, ◌∙◌}
+use Rattle.fields.specs.Model.{settings}
+use Rattle.fields.specs.Judged.{read_refused, unknown_refused, fields_refused, other_bytes_refused, geometry_refused, all_accepted}
+use Rattle.fields.proofs.Exits.{err_passed_on}
 use Rattle.fields.proofs.read.read.Goals as goal
 
-pub field_at-found-requires : goal.field_at-found-requires
-field_at-found-requires c = (inl refl, omega arith)
+pub returns-in_err-number : goal.returns-in_err-number
+returns-in_err-number c = ap settings (err_passed_on _ c.from_residual.ensures.1) ∙ read_refused _ c.in_err-number.ensures
 
-pub by_row-requires : goal.by_row-requires
-by_row-requires c = (c.version_of.ensures.sized, (subst (NextRead _ _ _) c.in-Number.is c.field_at-found.ensures).within)
+pub returns-in_err-table : goal.returns-in_err-table
+returns-in_err-table c =
+    ap settings (err_passed_on _ c.from_residual-in_err-table.ensures.1)
+    ∙ unknown_refused _ c.in_ok-number.ensures _ _ c.version_of.ensures c.in_err-table.ensures.value
 
-pub returns-in-Number : goal.returns-in-Number
-returns-in-Number c = c.by_row.ensures ∙ read_by_row _ (subst (NextRead _ _ _) c.in-Number.is c.field_at-found.ensures) c.version_of.ensures
+pub returns-in_err-numbers : goal.returns-in_err-numbers
+returns-in_err-numbers c =
+    ap settings (err_passed_on _ c.from_residual-in_err-numbers.ensures.1)
+    ∙ fields_refused _ c.in_ok-number.ensures _ _ c.version_of.ensures c.in_ok-table.ensures.value _ c.in_err-numbers.ensures
 
-pub returns-in-Refused : goal.returns-in-Refused
-returns-in-Refused c = read_refused _ (subst (NextRead _ _ _) c.in-Refused.is c.field_at-found.ensures)
+pub returns-then-not-may_follow : goal.returns-then-not-may_follow
+returns-then-not-may_follow c =
+    other_bytes_refused _ c.in_ok-number.ensures _ _ c.version_of.ensures c.in_ok-table.ensures.value _ _ c.in_ok-numbers.ensures
+    (sym c.may_follow.ensures ∙ c.if-not-may_follow.true)
+
+pub returns-then-not-accepts : goal.returns-then-not-accepts
+returns-then-not-accepts c =
+    geometry_refused _ c.in_ok-number.ensures _ _ c.version_of.ensures c.in_ok-table.ensures.value _ _ c.in_ok-numbers.ensures
+    (sym c.may_follow.ensures ∙ c.if-not-may_follow.false) _ c.geometry_from-g.ensures (sym c.accepts.ensures ∙ c.if-not-accepts.true)
+
+pub returns : goal.returns
+returns c =
+    all_accepted _ c.in_ok-number.ensures _ _ c.version_of.ensures c.in_ok-table.ensures.value _ _ c.in_ok-numbers.ensures
+    (sym c.may_follow.ensures ∙ c.if-not-may_follow.false) _ c.geometry_from-g.ensures (sym c.accepts.ensures ∙ c.if-not-accepts.false)

@@ -1,9 +1,8 @@
 -- Each test that applies refuses, in their order; else the place is filled.
-use mathlib.Core.Path.{sym, ap, ◌∙◌}
+use Rattle.std.proofs.Common.{sym, ap, ◌∙◌}
 use Rattle.lent.specs.Model.{geometry}
 use Rattle.settings.specs.Settings.{Version, version_1, answered, record_bytes, written}
 use Rattle.settings.proofs.Promises.{record_1_has_36_bytes}
-use Rattle.fields.specs.Judged.{version_1_sized}
 use Rattle.settings.proofs.Laws.Calls.{geometry_not_written, place_not_written, record_written}
 use Rattle.fields.proofs.write.write.Goals as goal
 
@@ -18,10 +17,7 @@ returns-then-place-ne-RECORD_BYTES c = let a = c.args in
     (λ e. c.if-place-ne-RECORD_BYTES.true (e ∙ record_1_has_36_bytes)))
 
 pub put_record-requires : goal.put_record-requires
-put_record-requires c = (
-  version_1_sized c.version_1.result c.version_1.ensures,
-  c.if-place-ne-RECORD_BYTES.false ∙ sym record_1_has_36_bytes ∙ ap record_bytes (sym c.version_1.ensures),
-)
+put_record-requires c = c.if-place-ne-RECORD_BYTES.false ∙ sym record_1_has_36_bytes ∙ ap record_bytes (sym c.version_1.ensures)
 
 pub returns : goal.returns
 returns c = let a = c.args in

@@ -6,4 +6,4 @@ pub loop-i-preserved : goal.loop-i-preserved
 loop-i-preserved c = turn c.loop-i.invariant c.loop-i-test.true (c.type_inv.numbers _).fits c.put_next-at.ensures
 
 pub returns : goal.returns
-returns c = done c.loop-i.invariant c.loop-i-test.false c.requires
+returns c = done c.loop-i.invariant c.loop-i.auto.i-end c.loop-i-test.false c.requires c.put_byte.ensures

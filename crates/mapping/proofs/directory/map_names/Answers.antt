@@ -1,20 +1,9 @@
 -- `directory::map_names` meets its contract: the counts are those of the whole map.
 use native.Mathlib.Omega.{arith}
 use Rattle.scope.specs.Geometry.{most_pages}
-use Rattle.mapping.specs.Maps.{names_fail, names_all}
 use Rattle.mapping.specs.Tally.{tallied_most}
 use Rattle.mapping.proofs.directory.map_names.Goals as goal
 
 pub overflow_add-sum : goal.overflow_add-sum
-overflow_add-sum c = let most = tallied_most _ _ most_pages _ _ c.tally_words-sum.ensures c.requires.map_len_bound in
+overflow_add-sum c = let most = tallied_most _ _ most_pages _ _ c.tally-sum.ensures c.requires.map_len_bound in
     omega (arith, most.nones_most, most.good_most)
-
-pub returns-then-sum-map : goal.returns-then-sum-map
-returns-then-sum-map c = let a = c.args in
-    let counted = c.tally_words-sum in
-    names_fail a.first a.n a.valid a.spare.now a.map.now counted.result counted.ensures c.if-sum-map.true
-
-pub returns : goal.returns
-returns c = let a = c.args in
-    let counted = c.tally_words-sum in
-    names_all a.first a.n a.valid a.spare.now a.map.now counted.result counted.ensures c.if-sum-map.false

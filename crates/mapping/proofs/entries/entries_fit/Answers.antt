@@ -1,46 +1,54 @@
 -- `entries::entries_fit` meets its contract: the parts of rule 5, in their order.
-use mathlib.Core.Path.{refl, ap, ◌∙◌}
+use mathlib.Core.Path.{◌≡◌, sym, subst, ap, ◌∙◌}
+use mathlib.Core.Bool.{Bool, true}
 use mathlib.Core.List.{List}
-use Prim.Native.Nat.{ℕ, ◌*◌}
-use lib.ListN.{length}
+use Prim.Native.Nat.{ℕ, ◌*◌, ◌-◌, ◌≤◌}
+use lib.ListN.{length, take, drop}
 use borrow.Author.Rules.{part_to_end}
-use borrow.Author.Rules.{rules}
+use borrow.Author.Tests.{leb-true}
+use native.Mathlib.Omega.{arith}
 use Rattle.scope.specs.Counting.{all}
-use Rattle.flash.specs.Cases.{clash}
-use Rattle.flash.specs.Tests.{refused, passed, decides_by}
+use Rattle.scope.specs.Geometry.{Geometry}
+use Rattle.scope.specs.Laws.Decides.{Decides}
+use Rattle.scope.specs.Lent.{cache_size}
+use Rattle.scope.specs.Sound.{EntriesFit}
+use Rattle.flash.specs.Tests.{decides_by}
 use Rattle.lent.specs.Model.{geometry}
-use Rattle.geometry.specs.Bounds.{filter_enough}
-use Rattle.words.specs.Erased.{is_erased_word}
-use Rattle.mapping.specs.Entries.{too_many, entries_by_parts}
+use Rattle.words.specs.Erased.{only_erased, is_erased_word}
+use Rattle.words.specs.Filter.{Filter}
+use Rattle.mapping.specs.Entries.{used_fit, too_many, entries_by_parts}
 use Rattle.mapping.specs.Seen.{seen_filter}
-use Rattle.flash.specs.Cases.{not_of_false, not_of_true}
+use Rattle.mapping.proofs.entries.entries_fit.Goals.{then-used-g, else-used-g}
 use Rattle.mapping.proofs.entries.entries_fit.Goals as goal
 
-pub returns-then-g-used : goal.returns-then-g-used
-returns-then-g-used c = let a = c.args in record {
-  decides = too_many (geometry a.g) a.cache.now a.used c.if-g-used.true;
-  filter = λ p. clash p refl;
-}
+tells : (g : Geometry) (cache : List ℕ) (used : ℕ) (r : Bool) → used ≤ g.C → length cache ≡ cache_size g
+    → used_fit cache g.L used ≡ true → r ≡ only_erased (take (length cache - used * 3) (drop (used * 3) cache)) → Decides r (EntriesFit g cache used)
+tells g cache used r few long fits e =
+    decides_by (e ∙ ap (λ (words : List ℕ). all (length words) (is_erased_word words)) (part_to_end cache (used * 3)))
+    (rw fits at (entries_by_parts g cache used few long))
 
-pub used_fit-requires : goal.used_fit-requires
-used_fit-requires c = (search rules, filter_enough c.requires.accepted)
+pub returns-then-used_fit-clause-decides : goal.returns-then-used_fit-clause-decides
+returns-then-used_fit-clause-decides c = let a = c.args in
+    elim c.if-used-g.branch [
+      | then-used-g w ↦ tells (geometry a.g) a.cache.now a.used _ w.if-used-g.true c.requires.cache_len
+          (sym w.used_fit.ensures.value ∙ sym w.value-is ∙ c.if-used_fit.true) c.only_erased.ensures
+      | else-used-g w ↦ absurd (omega (arith, leb-true _ _ (sym w.value-is ∙ c.if-used_fit.true), w.if-used-g.false))
+    ]
 
-pub returns-then-not-used_fit : goal.returns-then-not-used_fit
-returns-then-not-used_fit c = let a = c.args in record {
-  decides = rw (refused c.used_fit.ensures.value (not_of_false c.if-not-used_fit.true)) at
-      (entries_by_parts (geometry a.g) a.cache.now a.used c.if-g-used.false c.requires.cache_len);
-  filter = λ p. clash p refl;
-}
+pub returns-then-used_fit-clause-filter : goal.returns-then-used_fit-clause-filter
+returns-then-used_fit-clause-filter c = let a = c.args in
+    λ p. elim c.if-used-g.branch [
+      | then-used-g w ↦ subst (Filter a.cache.now a.used) (sym w.filter-is) (seen_filter c.requires.accepted c.requires.cache_len
+          ((tells (geometry a.g) a.cache.now a.used _ w.if-used-g.true c.requires.cache_len
+          (sym w.used_fit.ensures.value ∙ sym w.value-is ∙ c.if-used_fit.true) c.only_erased.ensures).holds p)
+          (w.used_fit.ensures.seen (sym w.value-is ∙ c.if-used_fit.true)))
+      | else-used-g w ↦ absurd (omega (arith, leb-true _ _ (sym w.value-is ∙ c.if-used_fit.true), w.if-used-g.false))
+    ]
 
-pub returns : goal.returns
-returns c = let a = c.args in
-    let tells =
-    decides_by
-    (c.only_erased.ensures ∙ ap (λ (words : List ℕ). all (length words) (is_erased_word words)) (part_to_end a.cache.now (a.used * 3)))
-    (rw (passed c.used_fit.ensures.value (not_of_true c.if-not-used_fit.false)) at
-    (entries_by_parts (geometry a.g) a.cache.now a.used c.if-g-used.false c.requires.cache_len)) in record {
-      decides = tells;
-      filter = λ p. seen_filter c.requires.accepted c.requires.cache_len
-          (tells.holds p)
-          (c.used_fit.ensures.seen (c.if-not-used_fit.false));
-    }
+pub returns-else-used_fit-clause-decides : goal.returns-else-used_fit-clause-decides
+returns-else-used_fit-clause-decides c = let a = c.args in
+    decides_by c.if-used_fit.false (elim c.if-used-g.branch [
+      | then-used-g w ↦ rw (sym w.used_fit.ensures.value ∙ sym w.value-is ∙ c.if-used_fit.false) at
+          (entries_by_parts (geometry a.g) a.cache.now a.used w.if-used-g.true c.requires.cache_len)
+      | else-used-g w ↦ too_many (geometry a.g) a.cache.now a.used w.if-used-g.false
+    ])

@@ -1,64 +1,23 @@
 -- `sound::flash_sound` meets its contract: rules 1 to 4, each with what the earlier ones give.
-use native.Mathlib.Omega.{arith}
-use borrow.Author.Tests.{not-true, not-false}
-use Rattle.scope.specs.Laws.Decides.{by_same}
-use Rattle.scope.specs.Regions.{Data, Translation}
-use Rattle.flash.specs.Owners.{owners_fit}
-use Rattle.flash.specs.Tests.{part_passed, part_refused}
-use Rattle.lent.specs.Model.{geometry}
+use Rattle.std.proofs.Common.{ℕ, ◌≡◌, refl, Bool, true, false}
+use Rattle.std.specs.Bool.{then_some}
+use Rattle.scope.specs.Laws.Decides.{Decides}
+use Rattle.flash.specs.Cases.{clash}
 use Rattle.survey.specs.Census.{both_taken}
-use Rattle.survey.specs.Survey.{surveyed_broken, whole_reaches}
+use Rattle.survey.specs.Survey.{Surveyed}
+use Rattle.lent.specs.Model.{geometry}
 use Rattle.soundness.proofs.sound.flash_sound.Goals as goal
 
-pub data_fits-data-requires : goal.data_fits-data-requires
-data_fits-data-requires c = let a = c.args in
-    record {
-      accepted = c.requires.accepted;
-      reaches = whole_reaches (geometry a.g) Data a.chip.now a.spare.now a.census.now c.requires.chip_len c.requires.spare_len c.requires.g_in_bounds;
-    }
-
-pub returns-then-not-data : goal.returns-then-not-data
-returns-then-not-data c = surveyed_broken _ _ (not-true _ c.if-not-data.true)
-    (part_refused c.data_fits-data.ensures.tells c.if-not-data.true (λ f. f.in_data))
-
-pub translation_fits-translation-requires : goal.translation_fits-translation-requires
-translation_fits-translation-requires c = let a = c.args in
-    let taken = c.data_fits-data.ensures.numbers (not-false _ c.if-not-data.false) in
-    record {
-      accepted = c.requires.accepted;
-      reaches = whole_reaches (geometry a.g) Translation a.chip.now a.spare.now _ c.requires.chip_len c.requires.spare_len
-          (omega (arith, taken.as_long, c.requires.g_in_bounds));
-    }
-
-pub returns-then-not-translation : goal.returns-then-not-translation
-returns-then-not-translation c = surveyed_broken _ _ (not-true _ c.if-not-translation.true)
-    (part_refused c.translation_fits-translation.ensures.tells c.if-not-translation.true (λ f. f.in_translation))
-
-pub directory_names-fits-requires : goal.directory_names-fits-requires
-directory_names-fits-requires c = let a = c.args in
-    record {
-      accepted = c.requires.accepted;
-      spare_len = c.requires.spare_len;
-      directory_len = c.requires.directory_len;
-      owners_fit = owners_fit (geometry a.g) Translation a.chip.now a.spare.now (part_passed c.translation_fits-translation.ensures.tells c.if-not-translation.false).pages;
-      valid_value = c.translation_fits-translation.ensures.counts (not-false _ c.if-not-translation.false);
-    }
+-- What the last test decides is all of the whole that is not known yet.
+last_decides : (b : Bool) (valid count : ℕ) {Part Whole Numbered : Type 0} → Decides b Part → (Part → Whole) → (Whole → Part) → valid ≡ count
+    → Numbered → Surveyed (then_some b valid) Whole count Numbered
+last_decides true valid count d to from is numbers = record { rules = to (d.holds refl); counts = is; numbers = numbers }
+last_decides false valid count d to from is numbers = λ w. clash (d.passes (from w)) refl
 
 pub returns : goal.returns
-returns c = let data-left = c.if-not-data.false in
-    let translation-left = c.if-not-translation.false in
-    record {
-      tells = by_same
-          (λ x. record {
-            in_data = part_passed c.data_fits-data.ensures.tells data-left;
-            in_translation = part_passed c.translation_fits-translation.ensures.tells translation-left;
-            differ = x.0;
-            names = x.1;
-          })
-          (λ f. (f.differ, f.names))
-          c.directory_names-fits.ensures;
-      counts = λ p. c.data_fits-data.ensures.counts (not-false _ data-left);
-      numbers = λ p.
-          both_taken (geometry c.args.g) c.requires.g_in_bounds (c.data_fits-data.ensures.numbers (not-false _ data-left))
-          (c.translation_fits-translation.ensures.numbers (not-false _ translation-left));
-    }
+returns c = let own = c.in_ok-valid.ensures in
+    let translation = c.in_ok-translations.ensures in
+    rw c.then_some.ensures (last_decides c.directory_names.result c.in_ok-valid.valid _ c.directory_names.ensures
+    (λ x. record { in_data = own.rules; in_translation = translation.rules; differ = x.0; names = x.1 })
+    (λ f. (f.differ, f.names))
+    own.counts (both_taken (geometry c.args.g) c.requires.g_in_bounds own.numbers translation.numbers))

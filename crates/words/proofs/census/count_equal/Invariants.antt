@@ -1,5 +1,5 @@
 -- `words::census::count_equal` meets its contract. The invariant: k of the first i numbers are x.
-use Prim.Native.Nat.{◌+◌, ◌-◌, ◌≤◌}
+use Prim.Native.Nat.{◌+◌}
 use mathlib.Core.Path.{◌≡◌}
 use lib.Dec.{eqb}
 use lib.ListN.{get_or}
@@ -7,7 +7,4 @@ use Rattle.scope.specs.Counting.{count}
 use Rattle.words.proofs.census.count_equal.Given as goal
 
 abbrev pub invariant-loop-i : goal.invariant-loop-i
-invariant-loop-i l = (l.i ≤ l.n) × (l.k ≡ count l.i (λ j. eqb (get_or l.census (l.first + j) 0) l.x))
-
-abbrev pub decreases-loop-i : goal.decreases-loop-i
-decreases-loop-i l = l.n - l.i
+invariant-loop-i l = l.k ≡ count l.i (λ j. eqb (get_or l.census (l.first + j) 0) l.x)

@@ -10,22 +10,19 @@ use Rattle.words.specs.Searches.{lowest_fails}
 use Rattle.flash.specs.Searching.{lowest_unique}
 use Rattle.words.proofs.census.lowest_equal.Goals as goal
 
-pub loop-i-init : goal.loop-i-init
-loop-i-init c = (omega arith, λ k h. absurd (omega arith))
-
 pub returns-then-census-first : goal.returns-then-census-first
 returns-then-census-first c = let a = c.args in (
   omega arith,
   sym (lowest_unique a.n (λ j. eqb (get_or a.census.now (a.first + j) 0) a.x) c.loop-i.i (record {
     below = omega arith;
     passes = eq-eqb _ _ c.if-census-first.true;
-    least = c.loop-i.invariant.1;
+    least = c.loop-i.invariant;
   })),
 )
 
 pub loop-i-preserved : goal.loop-i-preserved
-loop-i-preserved c = (omega arith, below_more _ _ c.loop-i.invariant.1 (ne_eqb _ _ c.if-census-first.false))
+loop-i-preserved c = below_more _ _ c.loop-i.invariant (ne_eqb _ _ c.if-census-first.false)
 
 pub returns : goal.returns
 returns c = let a = c.args in
-    (omega arith, sym (lowest_fails a.n (λ j. eqb (get_or a.census.now (a.first + j) 0) a.x) (λ i h. c.loop-i.invariant.1 i (omega arith))))
+    (omega arith, sym (lowest_fails a.n (λ j. eqb (get_or a.census.now (a.first + j) 0) a.x) (λ i h. c.loop-i.invariant i (omega arith))))

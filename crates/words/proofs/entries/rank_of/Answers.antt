@@ -1,4 +1,4 @@
--- `words::entries::rank_of` meets its contract. Both loops' invariant: no entry before rank i matches.
+-- `words::entries::rank_of` meets its contract. Both loops' invariant: no entry before the rank matches.
 use Prim.Native.Nat.{◌*◌}
 use mathlib.Core.Path.{refl, sym}
 use native.Mathlib.Omega.{arith}
@@ -6,9 +6,6 @@ use borrow.Author.Count.{below_more}
 use Rattle.scope.specs.Lent.{entry_words}
 use Rattle.words.specs.Entries.{entry_has, entry_differs, match_missed, first_match, match_further, none_further, no_match}
 use Rattle.words.proofs.entries.rank_of.Goals as goal
-
-pub loop-i-init : goal.loop-i-init
-loop-i-init c = (omega arith, λ k h. absurd (omega arith))
 
 pub returns-then-k-lt4 : goal.returns-then-k-lt4
 returns-then-k-lt4 c = let a = c.args in (
@@ -24,26 +21,21 @@ loop-i-preserved c = let a = c.args in (
       a.used c.loop-i.invariant.1 c.if-k-lt4.false,
 )
 
-pub loop-i-2-init : goal.loop-i-2-init
-loop-i-2-init c = c.loop-i.invariant
-
-pub returns-then-cache-i : goal.returns-then-cache-i
-returns-then-cache-i c = let a = c.args in
-    let i = c.loop-i-2.i in (
+pub returns-then-cache-rank : goal.returns-then-cache-rank
+returns-then-cache-rank c = let a = c.args in
+    let i = c.loop-rank.rank in (
       omega arith,
       first_match a.cache.now a.used a.l i a.n (omega arith) (omega arith)
-          (entry_has a.cache.now a.l i (i * entry_words) refl (omega arith) c.if-cache-i.true)
-          c.loop-i-2.invariant.1,
+          (entry_has a.cache.now a.l i (i * entry_words) refl (omega arith) c.if-cache-rank.true)
+          c.loop-rank.invariant,
     )
 
-pub loop-i-2-preserved : goal.loop-i-2-preserved
-loop-i-2-preserved c = let a = c.args in
-    let i = c.loop-i-2.i in (
-      omega arith,
-      below_more _ _ c.loop-i-2.invariant.1
-          (match_missed a.cache.now a.used a.l i (entry_differs a.cache.now a.l i (i * entry_words) refl (omega arith) c.if-cache-i.false)),
-    )
+pub loop-rank-preserved : goal.loop-rank-preserved
+loop-rank-preserved c = let a = c.args in
+    let i = c.loop-rank.rank in
+    below_more _ _ c.loop-rank.invariant
+    (match_missed a.cache.now a.used a.l i (entry_differs a.cache.now a.l i (i * entry_words) refl (omega arith) c.if-cache-rank.false))
 
 pub returns : goal.returns
 returns c = let a = c.args in
-    (omega arith, sym (no_match a.cache.now a.used a.l a.n (λ i h. c.loop-i-2.invariant.1 i (omega arith))))
+    (omega arith, sym (no_match a.cache.now a.used a.l a.n (λ i h. c.loop-rank.invariant i (omega (arith, c.loop-i.invariant.0)))))

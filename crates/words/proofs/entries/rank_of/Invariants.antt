@@ -1,4 +1,4 @@
--- `words::entries::rank_of` meets its contract. Both loops' invariant: no entry before rank i matches.
+-- `words::entries::rank_of` meets its contract. Both loops' invariant: no entry before the rank matches.
 use Prim.Native.Nat.{ℕ, ◌-◌, ◌≤◌, ◌<◌}
 use mathlib.Core.Path.{◌≡◌}
 use mathlib.Core.Bool.{false}
@@ -11,8 +11,5 @@ invariant-loop-i l = (l.i ≤ l.used) × ((k : ℕ) → k < l.i → matches l.ca
 abbrev pub decreases-loop-i : goal.decreases-loop-i
 decreases-loop-i l = l.used - l.i
 
-abbrev pub invariant-loop-i-2 : goal.invariant-loop-i-2
-invariant-loop-i-2 l = (l.i ≤ l.used) × ((k : ℕ) → k < l.i → matches l.cache l.used l.l k ≡ false)
-
-abbrev pub decreases-loop-i-2 : goal.decreases-loop-i-2
-decreases-loop-i-2 l = l.used - l.i
+abbrev pub invariant-loop-rank : goal.invariant-loop-rank
+invariant-loop-rank l = (k : ℕ) → k < l.rank → matches l.cache l.used l.l k ≡ false

@@ -1,14 +1,10 @@
--- `words::entries::shift_back` meets its contract. The invariant: the words from i on have moved.
-use Prim.Native.Nat.{◌-◌}
-use native.Mathlib.Omega.{arith}
-use Rattle.words.specs.Entries.{none_shifted, one_shifted, all_shifted}
+-- `words::entries::shift_back` meets its contract: what the slice's method writes over are stores one after the other.
+use Rattle.std.proofs.Common.{◌-◌, ◌≡◌, ◌∙◌, arith}
+use Rattle.scope.specs.Lent.{entry_words}
+use Rattle.words.specs.Runs.{sets_pasted}
 use Rattle.words.proofs.entries.shift_back.Goals as goal
 
-pub loop-i-init : goal.loop-i-init
-loop-i-init c = none_shifted c.requires
-
-pub loop-i-preserved : goal.loop-i-preserved
-loop-i-preserved c = one_shifted c.requires c.loop-i.invariant (c.loop-i.i - 1) (omega arith)
-
 pub returns : goal.returns
-returns c = all_shifted c.requires c.loop-i.invariant (omega arith)
+returns c = let a = c.args in
+    let n : a.n - 0 ≡ a.n = omega arith in
+    c.copy_within.ensures.after ∙ (rw n (sets_pasted a.s.now entry_words a.s.now a.n (omega arith) (omega arith)))

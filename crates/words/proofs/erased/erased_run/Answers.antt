@@ -1,22 +1,13 @@
--- `erased::erased_run` meets its contract. The loop's invariant: the words up to `end` are erased.
+-- `erased::erased_run` meets its contract. The loop's invariant: the words of the first k steps are erased.
 use native.Mathlib.Omega.{arith}
-use Rattle.words.specs.Erased.{erased_run_none, erased_run_more}
+use mathlib.Core.Path.{◌≡◌, subst}
+use Prim.Native.Nat.{◌+◌, ◌*◌}
+use Rattle.words.specs.Erased.{ErasedRun, erased_run_more}
 use Rattle.words.proofs.erased.erased_run.Goals as goal
 
-pub loop-end-init : goal.loop-end-init
-loop-end-init c = erased_run_none _ _ c.requires
-
-pub sweep-requires : goal.sweep-requires
-sweep-requires c = omega (arith, c.loop-end.invariant.ends)
-
-pub returns-then-sweep : goal.returns-then-sweep
-returns-then-sweep c = c.loop-end.invariant
-
-pub loop-end-preserved : goal.loop-end-preserved
-loop-end-preserved c = let a = c.args in
-    let turn = c.loop-end in
-    erased_run_more a.words.now a.at turn.end 16 c.sweep.result (omega (arith, turn.invariant.ends)) turn.invariant c.if-sweep.false
-    c.sweep.ensures
-
-pub returns : goal.returns
-returns c = c.loop-end.invariant
+pub loop-k-preserved : goal.loop-k-preserved
+loop-k-preserved c = let a = c.args in
+    let turn = c.loop-k in
+    let next : a.at + turn.k * 16 + 16 ≡ a.at + (turn.k + 1) * 16 = omega arith in
+    subst (ErasedRun a.words.now a.at) next
+    (erased_run_more a.words.now a.at (a.at + turn.k * 16) 16 c.sweep.result (omega arith) turn.invariant c.if-sweep.false c.sweep.ensures)

@@ -1,11 +1,7 @@
--- `erased::erased_run` meets its contract. The loop's invariant: the words up to `end` are erased.
-use Prim.Native.Nat.{◌-◌}
-use lib.ListN.{length}
+-- `erased::erased_run` meets its contract. The loop's invariant: the words of the first k steps are erased.
+use Prim.Native.Nat.{◌+◌, ◌*◌}
 use Rattle.words.specs.Erased.{ErasedRun}
 use Rattle.words.proofs.erased.erased_run.Given as goal
 
-abbrev pub invariant-loop-end : goal.invariant-loop-end
-invariant-loop-end l = ErasedRun l.words l.at l.end
-
-abbrev pub decreases-loop-end : goal.decreases-loop-end
-decreases-loop-end l = length l.words - l.end
+abbrev pub invariant-loop-k : goal.invariant-loop-k
+invariant-loop-k l = ErasedRun l.words l.at (l.at + l.k * 16)

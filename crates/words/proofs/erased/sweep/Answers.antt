@@ -2,21 +2,15 @@
 -- common.
 use native.Mathlib.Omega.{arith}
 use Prim.Native.Nat.{◌+◌}
-use Rattle.words.specs.Erased.{swept_none, swept_more, swept_all}
+use Rattle.words.specs.Erased.{swept_more, swept_all}
 use Rattle.words.proofs.erased.sweep.Goals as goal
-
-pub loop-i-init : goal.loop-i-init
-loop-i-init c = (omega arith, swept_none c.args.words.now c.args.at c.args.bits (omega (arith, c.ranges)))
 
 pub loop-i-preserved : goal.loop-i-preserved
 loop-i-preserved c = let a = c.args in
-    let turn = c.loop-i in (
-      omega arith,
-      swept_more a.words.now a.at a.bits turn.i turn.left (omega (arith, c.requires))
-          (omega (arith, c.shared_slice_known-1.given (a.at + turn.i))) turn.invariant.1,
-    )
+    let turn = c.loop-i in
+    swept_more a.words.now a.at a.bits turn.i turn.left (omega (arith, c.requires)) (omega (arith, c.type_inv.words (a.at + turn.i))) turn.invariant
 
 pub returns : goal.returns
 returns c = let a = c.args in
     let turn = c.loop-i in
-    swept_all a.words.now a.at a.bits turn.i a.n turn.left turn.invariant.0 c.loop-i-test.false turn.invariant.1
+    swept_all a.words.now a.at a.bits turn.i a.n turn.left (omega arith) (omega arith) turn.invariant

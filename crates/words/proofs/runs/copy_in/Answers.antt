@@ -1,13 +1,13 @@
--- `words::runs::copy_in` meets its contract. The invariant: the first i words are stored.
-use mathlib.Core.Path.{refl}
-use Rattle.words.specs.Runs.{none_stored, one_stored, all_stored}
+-- `words::runs::copy_in` meets its contract: the part written over holds the words stored one after the other.
+use Rattle.std.proofs.Common.{arith, length, refl, ap, ◌∙◌, take_all}
+use Rattle.std.proofs.lemmas.Slice.{put_mid-paste}
+use Rattle.std.proofs.lemmas.List.Edits.{sets}
+use Rattle.words.specs.Runs.{sets_pasted}
 use Rattle.words.proofs.runs.copy_in.Goals as goal
 
-pub loop-i-init : goal.loop-i-init
-loop-i-init c = none_stored
-
-pub loop-i-preserved : goal.loop-i-preserved
-loop-i-preserved c = one_stored c.loop-i.invariant c.loop-i-test.true refl refl
-
 pub returns : goal.returns
-returns c = all_stored c.loop-i.invariant c.loop-i-test.false
+returns c = let a = c.args in
+    let n = length a.src.now in
+    put_mid-paste _ _ _ _ a.src.now n c.copy_from_slice.ensures.after (omega arith) refl
+    ∙ sets_pasted a.dst.now a.at a.src.now n (omega arith) (omega arith)
+    ∙ ap (sets a.dst.now a.at) (take_all n a.src.now (omega arith))

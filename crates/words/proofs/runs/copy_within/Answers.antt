@@ -4,11 +4,8 @@ use Prim.Native.Nat.{◌+◌}
 use mathlib.Core.Path.{refl, sym, ◌∙◌}
 use mathlib.Core.Logic.{inl, inr, ⊎_elim}
 use native.Mathlib.Omega.{arith}
-use Rattle.words.specs.Runs.{none_stored, one_stored, all_stored, stored_kept, length_part, part_at}
+use Rattle.words.specs.Runs.{one_stored, all_stored, stored_kept, length_part, part_at}
 use Rattle.words.proofs.runs.copy_within.Goals as goal
-
-pub loop-i-init : goal.loop-i-init
-loop-i-init c = none_stored
 
 pub loop-i-preserved : goal.loop-i-preserved
 loop-i-preserved c = let a = c.args in

@@ -1,17 +1,19 @@
--- `words::runs::fill_erased` meets its contract. The invariant: the first i words are stored.
-use mathlib.Core.Path.{refl, sym}
-use lib.ListN.{length-replicate, get_or-replicate}
+-- `words::runs::fill_erased` meets its contract: the part filled holds the words stored one after the other.
+use Rattle.std.proofs.Common.{ℕ, ◌+◌, ◌-◌, ◌≡◌, ◌∙◌, arith, length, sym, ap, take_all, replicate}
+use Rattle.std.proofs.lemmas.List.{length-replicate}
+use Rattle.std.proofs.lemmas.Slice.{put_mid-paste}
+use Rattle.std.proofs.lemmas.List.Edits.{sets}
 use Rattle.scope.specs.Lent.{erased}
-use Rattle.words.specs.Runs.{none_stored, one_stored, all_stored}
+use Rattle.words.specs.Runs.{length_part, sets_pasted}
 use Rattle.words.proofs.runs.fill_erased.Goals as goal
 
-pub loop-i-init : goal.loop-i-init
-loop-i-init c = none_stored
-
-pub loop-i-preserved : goal.loop-i-preserved
-loop-i-preserved c = let n = c.args.n in
-    one_stored c.loop-i.invariant (simp length-replicate c.loop-i-test.true) refl
-    (sym (get_or-replicate n c.loop-i.i erased 0 c.loop-i-test.true))
-
 pub returns : goal.returns
-returns c = all_stored c.loop-i.invariant (simp length-replicate c.loop-i-test.false)
+returns c = let a = c.args in
+    let vs = replicate a.n erased in
+    let long : length vs ≡ a.n = length-replicate a.n erased in
+    put_mid-paste _ _ _ _ vs a.n
+    (c.fill.ensures.after (λ y e. e)
+    ∙ ap (λ (m : ℕ). replicate m erased) (length_part a.s.now a.at (a.at + a.n - a.at) (omega arith) ∙ omega arith))
+    (omega arith) (sym long)
+    ∙ sets_pasted a.s.now a.at vs a.n (omega arith) (omega arith)
+    ∙ ap (sets a.s.now a.at) (take_all a.n vs (omega arith))

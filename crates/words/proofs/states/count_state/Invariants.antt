@@ -1,5 +1,5 @@
 -- `words::states::count_state` meets its contract. The invariant: k pages of the first i have the state.
-use Prim.Native.Nat.{◌+◌, ◌-◌, ◌≤◌}
+use Prim.Native.Nat.{◌+◌}
 use mathlib.Core.Path.{◌≡◌}
 use lib.Dec.{eqb}
 use Rattle.scope.specs.Counting.{count}
@@ -7,7 +7,4 @@ use Rattle.scope.specs.Lent.{state_of}
 use Rattle.words.proofs.states.count_state.Given as goal
 
 abbrev pub invariant-loop-i : goal.invariant-loop-i
-invariant-loop-i l = (l.i ≤ l.n) × (l.k ≡ count l.i (λ j. eqb (state_of (l.first + j) l.spare) l.state))
-
-abbrev pub decreases-loop-i : goal.decreases-loop-i
-decreases-loop-i l = l.n - l.i
+invariant-loop-i l = l.k ≡ count l.i (λ j. eqb (state_of (l.first + j) l.spare) l.state)

@@ -12,13 +12,13 @@ use Rattle.requests.proofs.node.Node.drop_entry.Goals as goal
 pub forget-requires : goal.forget-requires
 forget-requires c = let (ready, some) = c.requires in
     let back = c.write_back_if_changed.ensures.does in
-    let used = written_keeps_used ready (c.args.self.now.work.rec.used - 1) (omega (arith, some)) back in
-    (omega (arith, some, ready.sound.rule_5.at_most, written_fits ready (c.args.self.now.work.rec.used - 1) (omega (arith, some)) back), omega (arith, some, used))
+    let used = written_keeps_used ready (c.args.self.now.work.now.rec.used - 1) (omega (arith, some)) back in
+    (omega (arith, some, ready.sound.rule_5.at_most, written_fits ready (c.args.self.now.work.now.rec.used - 1) (omega (arith, some)) back), omega (arith, some, used))
 
 pub invariant_of-self : goal.invariant_of-self
 invariant_of-self c = let (ready, some) = c.requires in
     let back = c.write_back_if_changed.ensures.does in
-    let i = c.args.self.now.work.rec.used - 1 in
+    let i = c.args.self.now.work.now.rec.used - 1 in
     let used = written_keeps_used ready i (omega (arith, some)) back in
     record {
       filtered = filtered_of (forgotten_filter {w = c.write_back_if_changed.new.self.work}

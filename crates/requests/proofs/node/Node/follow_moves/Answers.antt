@@ -39,5 +39,5 @@ returns-clause-does_cache c = let left = c.loop-i in
     let a = c.args in
     let n = a.self.now in
     let end : left.i ≡ a.n = omega (arith, left.invariant.0.upto) in
-    (subst (λ (k : ℕ). FollowedUpto (under n) a.n k left.waiting n.cache.now a.moves.now n.work left.self.cache.now left.moves)
+    (subst (λ (k : ℕ). FollowedUpto (under n) a.n k left.waiting n.cache.now a.moves.now n.work.now left.self.cache.now left.moves)
     end left.invariant.0).does

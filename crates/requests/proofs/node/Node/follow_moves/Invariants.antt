@@ -6,7 +6,7 @@ use Rattle.requests.specs.Following.{FollowedUpto}
 use Rattle.requests.proofs.node.Node.follow_moves.Given as goal
 
 abbrev pub invariant-loop-i : goal.invariant-loop-i
-invariant-loop-i l = FollowedUpto (under l.initial.self) l.n l.i l.waiting l.initial.self.cache.now l.initial.moves l.initial.self.work l.self.cache.now l.moves
+invariant-loop-i l = FollowedUpto (under l.initial.self) l.n l.i l.waiting l.initial.self.cache.now l.initial.moves l.initial.self.work.now l.self.cache.now l.moves
     × OnlyCache l.initial.self l.self
-    × Different l.self.cache.now l.initial.self.work.rec.used
+    × Different l.self.cache.now l.initial.self.work.now.rec.used
     × WaitsIn (under l.initial.self) l.waiting l.moves

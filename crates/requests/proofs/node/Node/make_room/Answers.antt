@@ -12,21 +12,21 @@ use Rattle.requests.proofs.node.Node.make_room.Goals as goal
 
 pub invariant_of-self : goal.invariant_of-self
 invariant_of-self c = let n = c.args.self.now in
-    let used = chosen_keeps_used (under n) Data n.flash.spare.now n.work c.choose.new.work c.choose.result c.choose.ensures in
+    let used = chosen_keeps_used (under n) Data n.flash.now.spare.now n.work.now c.choose.new.work c.choose.result c.choose.ensures in
     record { filtered = filtered_of (filter_still used (filter_of n.filtered)) }
 
 pub returns-in_default : goal.returns-in_default
 returns-in_default c = let n = c.args.self.now in
-    let chosen = subst (λ (o : Option ℕ). Chosen (under n) Data n.flash.spare.now n.work o c.choose.new.work) c.in_default.is c.choose.ensures in
+    let chosen = subst (λ (o : Option ℕ). Chosen (under n) Data n.flash.now.spare.now n.work.now o c.choose.new.work) c.in_default.is c.choose.ensures in
     record { does = chosen_does c.requires.ready chosen; same = (same_lent, same_lists) }
 
 pub collect-requires : goal.collect-requires
 collect-requires c = let n = c.args.self.now in
-    let chosen = subst (λ (o : Option ℕ). Chosen (under n) Data n.flash.spare.now n.work o c.choose.new.work) c.in-Some.is c.choose.ensures in
+    let chosen = subst (λ (o : Option ℕ). Chosen (under n) Data n.flash.now.spare.now n.work.now o c.choose.new.work) c.in-Some.is c.choose.ensures in
     rw chosen.1 (c.requires, chosen.0)
 
 pub returns-in-Some : goal.returns-in-Some
 returns-in-Some c = let n = c.args.self.now in
-    let chosen = subst (λ (o : Option ℕ). Chosen (under n) Data n.flash.spare.now n.work o c.choose.new.work) c.in-Some.is c.choose.ensures in
+    let chosen = subst (λ (o : Option ℕ). Chosen (under n) Data n.flash.now.spare.now n.work.now o c.choose.new.work) c.in-Some.is c.choose.ensures in
     let collects = rw chosen.1 at c.collect.ensures.does in
     record { does = collects; same = c.collect.ensures.same }

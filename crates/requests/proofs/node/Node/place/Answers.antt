@@ -51,7 +51,7 @@ returns c = let n = c.args.self.now in
     let marked = c.mark_old.ensures in
     let is_old = ap decode (sym c.physical.ensures) ∙ sym c.decode-old.ensures in
     record {
-      does = subst (λ (chip : List ℕ). DoesPlacing (placing (under n) a.l a.i a.buffer.now) n.flash.chip.now n.flash.spare.now n.cache.now n.work
+      does = subst (λ (chip : List ℕ). DoesPlacing (placing (under n) a.l a.i a.buffer.now) n.flash.now.chip.now n.flash.now.spare.now n.cache.now n.work.now
           (replied a.buffer.now 0) chip c.mark_old.new.self.spare.now c.set_entry.new.cache w) (sym marked.only_spare.words)
           (placing_does (under n) a.l a.i c.program_next-q.ensures.does is_old marked.spare_after (c.set_entry.ensures w))
           (held n);

@@ -18,8 +18,8 @@ touch-requires c = omega (arith, c.if-i-self.true, c.requires.ready.lengths.cach
 
 pub invariant_of-self : goal.invariant_of-self
 invariant_of-self c = let n = c.args.self.now in
-    let in_use = found_in_use (under n) n.cache.now n.work.rec.used c.args.l c.rank_of-i.ensures.1 c.if-i-self.true in
-    record { filtered = filtered_of (touched_filter {w = n.work} (filter_of n.filtered) (under n) in_use c.touch.ensures) }
+    let in_use = found_in_use (under n) n.cache.now n.work.now.rec.used c.args.l c.rank_of-i.ensures.1 c.if-i-self.true in
+    record { filtered = filtered_of (touched_filter {w = n.work.now} (filter_of n.filtered) (under n) in_use c.touch.ensures) }
 
 pub returns-then-i-self : goal.returns-then-i-self
 returns-then-i-self c = let n = c.args.self.now in
