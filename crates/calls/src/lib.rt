@@ -18,7 +18,7 @@ use replies::counting::{NO_COUNTS, put_counts, put_none};
 use replies::tests::{lengths_right, test_sizes};
 use replies::{Kind, Out, Request};
 use requests::node::Node;
-use steps::flash::Flash;
+use steps::Flash;
 
 // The old state isn't tested.
 pub fn format(

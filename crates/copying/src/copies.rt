@@ -11,7 +11,7 @@ ghost use Rattle.copying.specs.Copies.{PageToCopy, DoesNoting, CopyReady};
 ghost use Rattle.copying.specs.Starting.{CollectReady, Started};
 
 use lent::{Region, Work};
-use steps::flash::Flash;
+use steps::Flash;
 
 // The words of a move, and of as many as a block has pages at most.
 pub const MOVE_WORDS: usize = 3;

@@ -146,16 +146,16 @@ pub fn rank_from_last(
     if !bitmap::has(filter, bit_of(l)) {
         return n;
     }
-    let mut i = rec.used as usize;
-    while 4 <= i {
-        i -= 4;
-        let k = among_four(cache, i, l);
+    let used = rec.used as usize;
+    let rest = used % 4;
+    for turn in (0..used / 4).rev() {
+        let first = rest + turn * 4;
+        let k = among_four(cache, first, l);
         if k < 4 {
-            return i + k;
+            return first + k;
         }
     }
-    while 0 < i {
-        i -= 1;
+    for i in (0..rest).rev() {
         if cache[i * ENTRY_WORDS] == l {
             return i;
         }

@@ -16,7 +16,7 @@ use Rattle.lent.specs.declared.Work.{Work}
 use Rattle.lent.specs.Model.{Lists, with_rec, counts}
 use Rattle.lent.specs.Does.{Does}
 use Rattle.lent.specs.Shapes.{DoesFlash, RoomToCount}
-use Rattle.steps.specs.declared.flash.Flash.{Flash}
+use Rattle.steps.specs.declared.Flash.{Flash}
 use Rattle.steps.specs.Flash.{SameFlash}
 use Rattle.steps.specs.Lies.{ChipLent, SpareLent}
 

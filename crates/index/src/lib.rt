@@ -17,7 +17,7 @@ use copying::copies::MOVES_WORDS;
 use lent::{Region, Work};
 use page::{begin, finish};
 use steps::chip::next_page;
-use steps::flash::Flash;
+use steps::Flash;
 use touched::{Left, lowest, take_words};
 
 pub mod changed;

@@ -16,7 +16,7 @@ use copying::choice::choose;
 use copying::copies::{MOVE_WORDS, MOVES_WORDS, start};
 use lent::{Region, Work};
 use steps::directory::names_it;
-use steps::flash::Flash;
+use steps::Flash;
 
 // The directory names the pages of the first n moves.
 fn names_moved(n: usize, moves: &[u32; MOVES_WORDS], directory: &mut [u32])

@@ -26,30 +26,25 @@ use Rattle.entries.specs.Filter.{filter_moved, filter_forgotten, filter_ranks_ke
 pub found_in_use : (g : Geometry) (cache : List ℕ) (used l : ℕ) {i : ℕ} → rank_of g cache used l ≡ i → i < g.C → i < used
 found_in_use g cache used l is h = omega (arith, is, (rank_found g cache used l (omega (arith, is))).in_use)
 
--- The filter of what was cached is one of what is cached now.
-abbrev pub KeepsFilters : List ℕ → ℕ → List ℕ → ℕ → Type 0
-KeepsFilters cache used cache' used' = (filter : List ℕ) → Filter cache used filter → Filter cache' used' filter
-
--- The last entry is dropped.
-pub forgotten_filter : {cache cache' : List ℕ} {w w' : Work} (i : ℕ) → i + 1 ≡ w.rec.used → DoesCache (forget i) cache w tt cache' w'
-    → KeepsFilters cache w.rec.used cache' w'.rec.used
-unfolding forget set_cache set_small ◌>>=◌
-forgotten_filter {cache} {cache'} {w} {w'} i last does filter f =
-    let after = (does some_state).after in
-    subst₂ (λ (x : List ℕ) (n : ℕ). Filter x n filter) (ap (λ (s : State). s.cache) after)
-    (omega (arith, ap (λ (s : State). s.small.used) after)) (filter_forgotten f i (omega arith))
-
--- The write-back before that changes no entry's page, and as many are in use.
-pub written_filter : {cache cache' : List ℕ} {used used' : ℕ} → length cache' ≡ length cache → used' ≡ used
-    → ((i : ℕ) → logical_at i cache' ≡ logical_at i cache) → KeepsFilters cache used cache' used'
-written_filter {cache' = cache'} long same ranks filter f =
-    subst (λ (n : ℕ). Filter cache' n filter) (sym same) (filter_ranks_kept f long ranks)
-
 -- As many are in use.
 pub filter_still : {cache filter : List ℕ} {n m : ℕ} → m ≡ n → Filter cache n filter → Filter cache m filter
 filter_still {cache} {filter} e f = subst (λ (k : ℕ). Filter cache k filter) (sym e) f
 
+-- A write-back changes no entry's page, and leaves as many in use.
+pub written_filter : {cache cache' filter : List ℕ} {used used' : ℕ} → Filter cache used filter → length cache' ≡ length cache → used' ≡ used
+    → ((i : ℕ) → logical_at i cache' ≡ logical_at i cache) → Filter cache' used' filter
+written_filter f long same ranks = filter_still same (filter_ranks_kept f long ranks)
+
+-- The last entry is dropped, one comes to the front, and one names another place.
 module _ {cache cache' filter : List ℕ} {w : Work} (f : Filter cache w.rec.used filter) where
+  pub forgotten_filter : (i : ℕ) {w' : Work} → i + 1 ≡ w.rec.used → DoesCache (forget i) cache w tt cache' w'
+      → Filter cache' w'.rec.used filter
+  unfolding forget set_cache set_small ◌>>=◌
+  forgotten_filter i last does =
+      let after = (does some_state).after in
+      subst₂ (λ (x : List ℕ) (n : ℕ). Filter x n filter) (ap (λ (s : State). s.cache) after)
+      (omega (arith, ap (λ (s : State). s.small.used) after)) (filter_forgotten f i (omega arith))
+
   pub touched_filter : (g : Geometry) {i : ℕ} {w' : Work} → i < w.rec.used → DoesCache (touch g i) cache w 0 cache' w'
       → Filter cache' w'.rec.used filter
   unfolding touch set_cache set_small give ◌>>=◌
@@ -91,12 +86,6 @@ pub read_page_keeps_used : (g : Geometry) (p : ℕ) {chip : List ℕ} {w w' : Wo
     → w'.rec.used ≡ w.rec.used
 unfolding read_page perform apply look give ◌>>=◌
 read_page_keeps_used g p does = sym (ap (λ (s : State). s.small.used) (does some_state).after)
-
-pub read_place_keeps_used : (g : Geometry) (buffer : List ℕ) (place : Entry) {chip : List ℕ} {w w' : Work} {r : Replied}
-    → DoesByChip (read_place g buffer place) chip w r w' → w'.rec.used ≡ w.rec.used
-unfolding read_place read_page perform apply look give ◌>>=◌
-read_place_keeps_used g buffer (Place p) does = sym (ap (λ (s : State). s.small.used) (does some_state).after)
-read_place_keeps_used g buffer Nowhere does = sym (ap (λ (s : State). s.small.used) (does some_state).after)
 
 -- The choice of how room is made leaves it too.
 pub chosen_keeps_used : (g : Geometry) (r : Region) (spare : List ℕ) (w w' : Work) (o : Option ℕ) → Chosen g r spare w o w'

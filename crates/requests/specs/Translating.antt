@@ -37,13 +37,6 @@ pub record Fetches (g : Geometry) (l : ℕ) (chip directory cache : List ℕ) (w
   pub border : w.rec.protected ≤ w.rec.used
   pub countable : RoomToCount 1 w.counts
 
--- It is done whatever else the state holds.
-abbrev pub DoesFetch : {A : Type 0} → Step A → List ℕ → List ℕ → List ℕ → Work → A → List ℕ → Work → Type 0
-DoesFetch m chip directory cache w x cache' w' =
-    (s : State)
-    → DoesAll m (with_cache cache (with_directory directory (with_flash chip s.spare (with_rec w.rec s)))) w x
-    (with_cache cache' (with_directory directory (with_flash chip s.spare (with_rec w'.rec s)))) w'
-
 -- The index names pages on the chip.
 named_on_chip : {g : Geometry} → Accepted g → (s : State) → IndexFits g s → (l : ℕ) → l < g.L → (q : ℕ)
     → named (translation_page g l) s.directory ≡ Place q → q < pages g

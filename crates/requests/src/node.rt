@@ -9,7 +9,7 @@ ghost use Rattle.entries.specs.Entries.{CacheLent, Different};
 ghost use Rattle.words.specs.Filter.{Filtered};
 
 use lent::{FILTER_WORDS, Work};
-use steps::flash::Flash;
+use steps::Flash;
 
 #[derive(Drop)]
 pub struct Node<'w, 'f, 'x, 'd, 'c, 'n> {

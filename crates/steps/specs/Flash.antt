@@ -8,7 +8,7 @@ use Rattle.lent.specs.declared.Geometry.{Geometry as Numbers}
 use Rattle.lent.specs.declared.Work.{Work}
 use Rattle.lent.specs.Model.{geometry}
 use Rattle.lent.specs.Shapes.{DoesFlash}
-use Rattle.steps.specs.declared.flash.Flash.{Flash}
+use Rattle.steps.specs.declared.Flash.{Flash}
 use Rattle.steps.specs.Lies.{ChipLent, SpareLent}
 
 -- The geometry and the slices are those before.

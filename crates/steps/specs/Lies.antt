@@ -21,12 +21,9 @@ pub record SpareLent (g : Geometry) (spare : List ℕ) : Type 0 where
   pub bounded : Bounded g
   pub spare_fits : length spare ≡ spare_size g
 
--- So it stays where its length does.
+-- A chip stays one where its length does.
 pub chip_still : {g : Geometry} {chip chip' : List ℕ} → ChipLent g chip → length chip' ≡ length chip → ChipLent g chip'
 chip_still lent e = record { bounded = lent.bounded; chip_fits = e ∙ lent.chip_fits }
-
-pub spare_still : {g : Geometry} {spare spare' : List ℕ} → SpareLent g spare → length spare' ≡ length spare → SpareLent g spare'
-spare_still lent e = record { bounded = lent.bounded; spare_fits = e ∙ lent.spare_fits }
 
 -- ---- pages
 
@@ -129,13 +126,10 @@ next_on_chip {g} {r} {s} h =
 pub next_to : {g : Geometry} {r : Region} {s : SmallRecord} → Bounded g → HasNext g r s → next_page g r s < most_pages
 next_to bounded h = omega (arith, few_pages bounded, next_on_chip h)
 
--- Its words lie in the chip, and its spare words in the spare.
+-- Its words lie in the chip.
 module _ {g : Geometry} {r : Region} {s : SmallRecord} (next : HasNext g r s) {q : ℕ} (is_next : q ≡ next_page g r s) where
   pub next_words_lie : {chip : List ℕ} → ChipLent g chip → WordsLie g chip q
   next_words_lie lent = words_lie lent q (rw is_next (next_on_chip next))
-
-  pub next_spare_lies : {spare : List ℕ} → SpareLent g spare → SpareLies spare q
-  next_spare_lies lent = spare_lies lent q (rw is_next (next_on_chip next))
 
 -- The same by the record's numbers, and the record that names the page behind it.
 module _ (r : Region) (s : SmallRecord) {b i : ℕ} (is_b : b ≡ open_block r s) (is_i : i ≡ next_offset r s) where

@@ -7,7 +7,7 @@ ghost use Rattle.scope.specs.Lent.{State};
 ghost use Rattle.scope.specs.Room.{erased_blocks, lowest_erased, victim, open_lowest};
 ghost use Rattle.lent.specs.Shapes.{DoesBySpare};
 
-use crate::flash::Flash;
+use crate::Flash;
 use lent::{Geometry, Record, Region, Work};
 use words::census::{ERASED_PAGE, count_equal, fewest_below, lowest_equal};
 

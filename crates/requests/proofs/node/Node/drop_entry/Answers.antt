@@ -21,8 +21,8 @@ invariant_of-self c = let (ready, some) = c.requires in
     let i = c.args.self.now.work.now.rec.used - 1 in
     let used = written_keeps_used ready i (omega (arith, some)) back in
     record {
-      filtered = filtered_of (forgotten_filter _ (omega (arith, some, used)) c.forget.ensures _
-          (filter_of c.write_back_if_changed.new.self.filtered));
+      filtered = filtered_of (forgotten_filter {w = c.write_back_if_changed.new.self.work.now}
+          (filter_of c.write_back_if_changed.new.self.filtered) _ (omega (arith, some, used)) c.forget.ensures);
     }
 
 pub returns : goal.returns

@@ -41,8 +41,8 @@ invariant_of-self c = let a = c.args in
     (c.update_changed.ensures.does_index.does (ready_state ready)) c.update_changed.ensures.cache_after) in
     let long : length c.update_changed.new.cache ≡ length n.cache.now = omega (arith, c.update_changed.auto) in
     record {
-      filtered = filtered_of (written_filter long (written_keeps_used ready a.i in_use does) (written_keeps_ranks ready a.i in_use does)
-          _ (filter_of n.filtered));
+      filtered = filtered_of (written_filter (filter_of n.filtered) long (written_keeps_used ready a.i in_use does)
+          (written_keeps_ranks ready a.i in_use does));
     }
 
 pub returns-then-is_changed : goal.returns-then-is_changed

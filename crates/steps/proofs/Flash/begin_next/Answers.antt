@@ -1,11 +1,11 @@
--- `steps::flash::Flash::begin_next` meets its contract, for a former page and for none.
+-- `steps::Flash::begin_next` meets its contract, for a former page and for none.
 use mathlib.Core.Path.{refl, ap}
 use native.Mathlib.Omega.{arith}
 use Rattle.steps.specs.Lies.{next_words_lie, words_lie, pages_apart}
 use Rattle.steps.specs.Flash.{bounded, chip_lent, same_lent}
 use Rattle.steps.specs.Chip.{begun_is}
 use Rattle.lent.specs.Model.{geometry, region, entry}
-use Rattle.steps.proofs.flash.Flash.begin_next.Goals as goal
+use Rattle.steps.proofs.Flash.begin_next.Goals as goal
 
 pub next_page-q-requires : goal.next_page-q-requires
 next_page-q-requires c = (bounded c.args.self.now, c.requires.has_next.0)

@@ -1,9 +1,9 @@
--- `steps::flash::Flash::victim` meets its contract: a block with no erased page has a number below that of one.
+-- `steps::Flash::victim` meets its contract: a block with no erased page has a number below that of one.
 use native.Mathlib.Omega.{arith}
 use Rattle.lent.specs.Model.{region}
 use Rattle.steps.specs.Flash.{bounded}
 use Rattle.steps.specs.Census.{numbers_lie, blocks_few, victim_found}
-use Rattle.steps.proofs.flash.Flash.victim.Goals as goal
+use Rattle.steps.proofs.Flash.victim.Goals as goal
 
 pub fewest_below-requires : goal.fewest_below-requires
 fewest_below-requires c = numbers_lie (bounded c.args.self.now) c.args.self.now.counted (region c.args.r) c.first_block-first.ensures c.region_blocks-n.ensures

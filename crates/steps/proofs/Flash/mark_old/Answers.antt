@@ -1,10 +1,10 @@
--- `steps::flash::Flash::mark_old` meets its contract, for a place and for none.
+-- `steps::Flash::mark_old` meets its contract, for a place and for none.
 use mathlib.Core.Path.{refl, sym, ap, ◌∙◌}
 use Rattle.std.specs.Prelude.{ℕ, Option}
 use Rattle.lent.specs.Model.{entry}
 use Rattle.steps.specs.Chip.{marked}
 use Rattle.steps.specs.Flash.{same_lent}
-use Rattle.steps.proofs.flash.Flash.mark_old.Goals as goal
+use Rattle.steps.proofs.Flash.mark_old.Goals as goal
 
 pub returns-in_default : goal.returns-in_default
 returns-in_default c = let spare = c.args.self.now.spare.now in

@@ -1,4 +1,4 @@
--- `steps::flash::Flash::read_page` meets its contract.
+-- `steps::Flash::read_page` meets its contract.
 use Prim.Native.Nat.{ℕ, ◌*◌}
 use mathlib.Core.Path.{refl, sym, ap, ◌∙◌}
 use native.Mathlib.Omega.{arith}
@@ -8,7 +8,7 @@ use Rattle.steps.specs.Flash.{chip_lent}
 use Rattle.steps.specs.Chip.{read_by_chip}
 use Rattle.lent.specs.Model.{geometry}
 use Rattle.lent.specs.DoesLaws.{does_value}
-use Rattle.steps.proofs.flash.Flash.read_page.Goals as goal
+use Rattle.steps.proofs.Flash.read_page.Goals as goal
 
 pub overflow_mul-p : goal.overflow_mul-p
 overflow_mul-p c = omega (arith, words_lie (chip_lent c.args.self.now) c.args.p c.requires.on_chip)

@@ -1,11 +1,11 @@
--- `steps::flash::Flash::program_next` meets its contract: the words are copied in, and the page is claimed.
+-- `steps::Flash::program_next` meets its contract: the words are copied in, and the page is claimed.
 use native.Mathlib.Omega.{arith}
 use mathlib.Core.Path.{◌∙◌}
 use Rattle.steps.specs.Lies.{WordsLie, next_words_lie}
 use Rattle.steps.specs.Flash.{bounded, chip_lent}
 use Rattle.steps.specs.Chip.{program_does}
 use Rattle.lent.specs.Model.{geometry}
-use Rattle.steps.proofs.flash.Flash.program_next.Goals as goal
+use Rattle.steps.proofs.Flash.program_next.Goals as goal
 
 pub next_page-q-requires : goal.next_page-q-requires
 next_page-q-requires c = (bounded c.args.self.now, c.requires.has_next.0)

@@ -1,9 +1,9 @@
--- `steps::flash::Flash::claim_next` meets its contract: the page is claimed, and the record names the one behind it.
+-- `steps::Flash::claim_next` meets its contract: the page is claimed, and the record names the one behind it.
 use mathlib.Core.Path.{refl, sym, ◌∙◌}
 use Rattle.steps.specs.Lies.{next_is, open_on_chip, offset_in_block, advanced_is}
 use Rattle.steps.specs.Flash.{same_lent, bounded, spare_lent}
 use Rattle.lent.specs.Model.{geometry, small, region}
-use Rattle.steps.proofs.flash.Flash.claim_next.Goals as goal
+use Rattle.steps.proofs.Flash.claim_next.Goals as goal
 
 pub next_page-q-requires : goal.next_page-q-requires
 next_page-q-requires c = (bounded c.args.self.now, c.requires.0)

@@ -1,4 +1,4 @@
--- `steps::flash::Flash::word_for` meets its contract, for a place and for none.
+-- `steps::Flash::word_for` meets its contract, for a place and for none.
 use mathlib.Core.Path.{refl, sym, ap, ◌∙◌}
 use native.Mathlib.Omega.{arith}
 use Rattle.std.specs.Prelude.{ℕ, Option}
@@ -9,7 +9,7 @@ use Rattle.steps.specs.Chip.{word_does, read_if_place}
 use Rattle.scope.specs.Sound.{in_page}
 use Rattle.words.specs.Runs.{get_d_any}
 use Rattle.lent.specs.Model.{geometry, counts, entry}
-use Rattle.steps.proofs.flash.Flash.word_for.Goals as goal
+use Rattle.steps.proofs.Flash.word_for.Goals as goal
 
 pub returns-in_default : goal.returns-in_default
 returns-in_default c = let a = c.args in

@@ -1,9 +1,9 @@
--- `steps::flash::Flash::erased_blocks` meets its contract: the erased blocks have the number of P erased pages.
+-- `steps::Flash::erased_blocks` meets its contract: the erased blocks have the number of P erased pages.
 use native.Mathlib.Omega.{arith}
 use Rattle.lent.specs.Model.{region}
 use Rattle.steps.specs.Flash.{bounded}
 use Rattle.steps.specs.Census.{numbers_lie, blocks_few, erased_counted}
-use Rattle.steps.proofs.flash.Flash.erased_blocks.Goals as goal
+use Rattle.steps.proofs.Flash.erased_blocks.Goals as goal
 
 pub overflow_mul-self : goal.overflow_mul-self
 overflow_mul-self c = omega (arith, (bounded c.args.self.now).P_to)

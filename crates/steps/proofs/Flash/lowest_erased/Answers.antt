@@ -1,9 +1,9 @@
--- `steps::flash::Flash::lowest_erased` meets its contract: the erased blocks have the number of P erased pages.
+-- `steps::Flash::lowest_erased` meets its contract: the erased blocks have the number of P erased pages.
 use native.Mathlib.Omega.{arith}
 use Rattle.lent.specs.Model.{region}
 use Rattle.steps.specs.Flash.{bounded}
 use Rattle.steps.specs.Census.{numbers_lie, blocks_few, lowest_found}
-use Rattle.steps.proofs.flash.Flash.lowest_erased.Goals as goal
+use Rattle.steps.proofs.Flash.lowest_erased.Goals as goal
 
 pub overflow_mul-self : goal.overflow_mul-self
 overflow_mul-self c = omega (arith, (bounded c.args.self.now).P_to)

@@ -1,11 +1,11 @@
--- `steps::flash::Flash::erase` meets its contract: the block's words and states are filled, and an erase is counted.
+-- `steps::Flash::erase` meets its contract: the block's words and states are filled, and an erase is counted.
 use native.Mathlib.Omega.{arith}
 use mathlib.Core.Path.{refl}
 use Rattle.steps.specs.Lies.{BlockLies, block_lies}
 use Rattle.steps.specs.Flash.{same_lent, chip_lent, spare_lent}
 use Rattle.steps.specs.Chip.{erase_does}
 use Rattle.lent.specs.Model.{geometry}
-use Rattle.steps.proofs.flash.Flash.erase.Goals as goal
+use Rattle.steps.proofs.Flash.erase.Goals as goal
 
 pub overflow_mul-b : goal.overflow_mul-b
 overflow_mul-b c = let f = c.args.self.now in omega (arith, block_lies (chip_lent f) (spare_lent f) c.args.b c.requires.0)
