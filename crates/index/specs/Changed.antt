@@ -8,7 +8,7 @@ use Rattle.std.proofs.Math.ListN.{length-set}
 use Rattle.std.proofs.lemmas.List.Edits.{sets}
 use Rattle.std.proofs.lemmas.List.{set_comm}
 use Rattle.std.proofs.Math.Seq.{get_or-set_other}
-use Rattle.std.proofs.lemmas.Bool.{eqb-false}
+use Rattle.std.proofs.lemmas.Bool.{eqb-false, eqb-true}
 use Rattle.scope.specs.Geometry.{Geometry, pages}
 use Rattle.scope.specs.Counting.{count}
 use Rattle.scope.specs.Lent.{none, Mapping, entry_words, words_of, logical_at, physical_at, translation_page, translation_word}
@@ -125,19 +125,13 @@ module _ {g : Geometry} {q t n i : ℕ} {cache₀ chip₀ cache chip : List ℕ}
 
 -- ---- as the code goes
 
--- What the test of the page says of an entry, as 1 or 0.
-module _ (g : Geometry) (t i : ℕ) (cache : List ℕ) {r : ℕ} (found : r ≡ cond (of_page_at g t cache i) 1 0) where
-  pub of_other_page : r ≡ 0 → is_changed_of g t i cache ≡ false
-  of_other_page e =
-      test_of_other g t cache i (λ same.
-      let one : r ≡ 1 = found ∙ ap (λ b. cond b 1 0) (eq-eqb (translation_page g (logical_at i cache)) t same) in
-      omega arith)
+-- What the test of the page says of an entry.
+module _ (g : Geometry) (t i : ℕ) (cache : List ℕ) where
+  pub of_other_page : of_page_at g t cache i ≡ false → is_changed_of g t i cache ≡ false
+  of_other_page e = test_of_other g t cache i (eqb-false (translation_page g (logical_at i cache)) t e)
 
-  pub of_this_page : r ≢ 0 → is_changed_of g t i cache ≡ is_changed i cache
-  of_this_page some =
-      test_of_page g t cache i
-      (same? (translation_page g (logical_at i cache)) t (λ q. q)
-      (λ q. absurd (some (found ∙ ap (λ b. cond b 1 0) (ne_eqb (translation_page g (logical_at i cache)) t q)))))
+  pub of_this_page : of_page_at g t cache i ≡ true → is_changed_of g t i cache ≡ is_changed i cache
+  of_this_page e = test_of_page g t cache i (eqb-true (translation_page g (logical_at i cache)) t e)
 
 -- What the pass over the first n entries asks for.
 pub record EntriesLent (g : Geometry) (t n : ℕ) (cache : List ℕ) : Type 0 where
@@ -175,9 +169,7 @@ looks_past {g} {q} {t} {i} {cache} {chip} zero none_met =
     subst (λ (k : ℕ). LooksAt g q t i k cache chip cache chip) (sym (add-zero i)) (λ n cache₀ chip₀ before. before)
 looks_past {g} {t = t} {i} {cache} (suc n) none_met =
     looks_on (omega arith)
-    (looks_at_another (test_of_other g t cache (i + n)
-    (eqb-false (translation_page g (logical_at (i + n) cache)) t
-    (none_counted (suc n) (λ j. of_page_at g t cache (i + j)) none_met n (omega arith)))))
+    (looks_at_another (of_other_page g t (i + n) cache (none_counted (suc n) (λ j. of_page_at g t cache (i + j)) none_met n (omega arith))))
     (looks_past n (omega arith))
 
 -- No logical page changes.
@@ -188,9 +180,6 @@ looked_keeps {k = k} {cache} {chip} lent on_chip looked j h = same_logical (look
 -- Of the n entries from rank i on those from rank k on have been looked at, and so many of the others are of the page.
 pub record OwnLeft (g : Geometry) (q t i n : ℕ) (cache₀ chip₀ cache chip : List ℕ) (left k : ℕ) : Type 0 where
   pub from : i ≤ k
-  pub upto : k ≤ i + n
-  pub cache_long : length cache ≡ length cache₀
-  pub chip_long : length chip ≡ length chip₀
   pub ahead : (j : ℕ) → j < k → logical_at j cache ≡ logical_at j cache₀
   pub are_left : left ≡ count (k - i) (λ j. of_page_at g t cache₀ (i + j))
   pub looked : LooksAt g q t k (i + n) cache₀ chip₀ cache chip
@@ -201,9 +190,6 @@ all_own_left {g} {t = t} {i} {n} {cache} e =
     let all : i + n - i ≡ n = omega arith in
     record {
       from = omega arith;
-      upto = omega arith;
-      cache_long = refl;
-      chip_long = refl;
       ahead = λ j h. refl;
       are_left = e ∙ ap (λ (k : ℕ). count k (λ j. of_page_at g t cache (i + j))) (sym all);
       looked = λ m cache₀ chip₀ before. before;
@@ -213,9 +199,6 @@ module _ {g : Geometry} {q t i n : ℕ} {cache₀ chip₀ cache chip : List ℕ}
     (before : OwnLeft g q t i n cache₀ chip₀ cache chip left k) where
   abbrev own : ℕ → Bool
   own j = of_page_at g t cache₀ (i + j)
-
-  pub some_left : 0 < left → i < k
-  some_left some = omega (arith, before.are_left, count_le (k - i) own, before.from)
 
   -- Whether the entry before rank k is of the page, as 1 or 0.
   module _ (some : i < k) {r : ℕ} (found : r ≡ cond (of_page_at g t cache (k - 1)) 1 0) where
@@ -228,18 +211,11 @@ module _ {g : Geometry} {q t i n : ℕ} {cache₀ chip₀ cache chip : List ℕ}
         (ap (λ (j : ℕ). cond (of_page_at g t cache₀ j) 1 0) there
         ∙ ap (λ (l : ℕ). cond (translation_page g l == t) 1 0) (sym (before.ahead (k - 1) (omega arith))) ∙ sym found)
 
-    pub is_left : r ≤ left
-    is_left = omega (arith, counted)
-
     pub one_less_left : {cache' chip' : List ℕ} → ChipLent g chip → q < pages g
-        → LooksAt g q t (k - 1) (k - 1 + 1) cache chip cache' chip' → length cache' ≡ length cache → length chip' ≡ length chip
-        → OwnLeft g q t i n cache₀ chip₀ cache' chip' (left - r) (k - 1)
-    one_less_left lent on_chip looks cache_kept chip_kept =
+        → LooksAt g q t (k - 1) (k - 1 + 1) cache chip cache' chip' → OwnLeft g q t i n cache₀ chip₀ cache' chip' (left - r) (k - 1)
+    one_less_left lent on_chip looks =
         record {
           from = omega arith;
-          upto = omega (arith, before.upto);
-          cache_long = cache_kept ∙ before.cache_long;
-          chip_long = chip_kept ∙ before.chip_long;
           ahead = λ j h. looked_keeps lent on_chip looks j h ∙ before.ahead j (omega arith);
           are_left = omega (arith, counted);
           looked = looks_on refl before.looked (looks_on (omega arith) looks (λ m c d set. set));
@@ -271,6 +247,14 @@ met_more {g} {t = t} i m {cache₀} {cache = cache} before met e =
             (λ k h. ap (λ (l : ℕ). nat_eq (translation_page g l) t) (same_logical before (i + k) (omega arith))),
       );
     }
+
+-- One stretch of m more is looked at.
+pub stretch_passed : {g : Geometry} {q t n j : ℕ} (i m : ℕ) {cache₀ chip₀ cache chip cache' chip' : List ℕ} {met met' : ℕ} → j ≡ i + m
+    → SetFrom g q t n j cache₀ chip₀ cache chip × MetFrom g t n j cache₀ met → LooksAt g q t i (i + m) cache chip cache' chip'
+    → met' ≡ met + count m (λ k. of_page_at g t cache (i + k)) → SetFrom g q t n i cache₀ chip₀ cache' chip' × MetFrom g t n i cache₀ met'
+stretch_passed {n = n} i m {cache₀} {chip₀} e before looks value =
+    let (set, met) = rw e at before in
+    (looks n cache₀ chip₀ set, met_more i m set met value)
 
 -- None is left where they are as many as the page has words.
 pub all_met : {g : Geometry} {t n i met : ℕ} {cache : List ℕ} → EntriesLent g t n cache → MetFrom g t n i cache met → g.W ≤ met

@@ -9,7 +9,7 @@ ghost use Rattle.lent.specs.Model.{geometry};
 ghost use Rattle.steps.specs.Lies.{ChipLent};
 ghost use Rattle.copying.specs.Moves.{moves_words, first_moves};
 ghost use Rattle.index.specs.Moves.{WaitsIn, waits_too};
-ghost use Rattle.index.specs.Taking.{lower, Lowest, LeftAfter, TakenOut, Stays};
+ghost use Rattle.index.specs.Taking.{Lowest, LeftAfter, TakenOut, Stays};
 
 use copying::copies::{MOVE_WORDS, MOVES_WORDS};
 use lent::Geometry;
@@ -38,13 +38,6 @@ pub fn put_behind(
     waiting[n * MOVE_WORDS + 2] = page;
 }
 
-// The lower of two translation pages.
-fn lower(best: u32, t: u32) -> u32
-    ensures { result ≡ lower best t }
-{
-    if t < best { t } else { best }
-}
-
 // A mapping of translation page t: its word is set in the page at q. One of another page is left, behind the n that are. The two numbers
 // come apart: as a struct they would be read, each turn, in words wider than those just written (docs/DECISIONS.md).
 fn take(
@@ -71,11 +64,9 @@ fn take(
         return Left { n, lowest };
     }
     put_behind(n, logical, physical, page, waiting);
-    let more = n + 1;
-    let less = lower(lowest, page);
     Left {
-        n: more,
-        lowest: less,
+        n: n + 1,
+        lowest: lowest.min(page),
     }
 }
 
@@ -96,15 +87,13 @@ pub(crate) fn take_words(
 {
     let mut k = 0;
     let mut best = m;
-    let mut i = 0;
-    while i < n {
+    for i in 0..n {
         let logical = waiting[i * MOVE_WORDS];
         let physical = waiting[i * MOVE_WORDS + 1];
         let page = waiting[i * MOVE_WORDS + 2];
         let left = take(k, best, g, q, t, logical, physical, page, waiting, chip);
         k = left.n;
         best = left.lowest;
-        i += 1;
     }
     Left { n: k, lowest: best }
 }
@@ -116,10 +105,8 @@ pub(crate) fn lowest(n: usize, waiting: &[u32; MOVES_WORDS], m: u32) -> u32
         → Lowest (geometry g) (first_moves n waiting.now) m result }
 {
     let mut best = m;
-    let mut i = 0;
-    while i < n {
-        best = lower(best, waiting[i * MOVE_WORDS + 2]);
-        i += 1;
+    for i in 0..n {
+        best = best.min(waiting[i * MOVE_WORDS + 2]);
     }
     best
 }
