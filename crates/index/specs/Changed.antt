@@ -177,21 +177,18 @@ looked_keeps : {g : Geometry} {q t i k : ℕ} {cache chip cache' chip' : List �
     → LooksAt g q t i k cache chip cache' chip' → (j : ℕ) → j < i → logical_at j cache' ≡ logical_at j cache
 looked_keeps {k = k} {cache} {chip} lent on_chip looked j h = same_logical (looked k cache chip (all_left lent on_chip)) j h
 
--- Of the n entries from rank i on those from rank k on have been looked at, and so many of the others are of the page.
+-- Of the n entries from rank i on those behind the first k have been looked at, and so many of these k are of the page.
 pub record OwnLeft (g : Geometry) (q t i n : ℕ) (cache₀ chip₀ cache chip : List ℕ) (left k : ℕ) : Type 0 where
-  pub from : i ≤ k
-  pub ahead : (j : ℕ) → j < k → logical_at j cache ≡ logical_at j cache₀
-  pub are_left : left ≡ count (k - i) (λ j. of_page_at g t cache₀ (i + j))
-  pub looked : LooksAt g q t k (i + n) cache₀ chip₀ cache chip
+  pub ahead : (j : ℕ) → j < i + k → logical_at j cache ≡ logical_at j cache₀
+  pub are_left : left ≡ count k (λ j. of_page_at g t cache₀ (i + j))
+  pub looked : LooksAt g q t (i + k) (i + n) cache₀ chip₀ cache chip
 
 pub all_own_left : {g : Geometry} {q t i n : ℕ} {cache chip : List ℕ} {own : ℕ} → own ≡ count n (λ j. of_page_at g t cache (i + j))
-    → OwnLeft g q t i n cache chip cache chip own (i + n)
-all_own_left {g} {t = t} {i} {n} {cache} e =
-    let all : i + n - i ≡ n = omega arith in
+    → OwnLeft g q t i n cache chip cache chip own n
+all_own_left e =
     record {
-      from = omega arith;
       ahead = λ j h. refl;
-      are_left = e ∙ ap (λ (k : ℕ). count k (λ j. of_page_at g t cache (i + j))) (sym all);
+      are_left = e;
       looked = λ m cache₀ chip₀ before. before;
     }
 
@@ -200,34 +197,25 @@ module _ {g : Geometry} {q t i n : ℕ} {cache₀ chip₀ cache chip : List ℕ}
   abbrev own : ℕ → Bool
   own j = of_page_at g t cache₀ (i + j)
 
-  -- Whether the entry before rank k is of the page, as 1 or 0.
-  module _ (some : i < k) {r : ℕ} (found : r ≡ cond (of_page_at g t cache (k - 1)) 1 0) where
-    counted : left ≡ count (k - 1 - i) own + r
-    counted =
-        let one : k - i ≡ suc (k - 1 - i) = omega arith in
-        let there : i + (k - 1 - i) ≡ k - 1 = omega arith in
-        before.are_left ∙ ap (λ (m : ℕ). count m own) one
-        ∙ ap (λ (x : ℕ). count (k - 1 - i) own + x)
-        (ap (λ (j : ℕ). cond (of_page_at g t cache₀ j) 1 0) there
-        ∙ ap (λ (l : ℕ). cond (translation_page g l == t) 1 0) (sym (before.ahead (k - 1) (omega arith))) ∙ sym found)
-
-    pub one_less_left : {cache' chip' : List ℕ} → ChipLent g chip → q < pages g
-        → LooksAt g q t (k - 1) (k - 1 + 1) cache chip cache' chip' → OwnLeft g q t i n cache₀ chip₀ cache' chip' (left - r) (k - 1)
-    one_less_left lent on_chip looks =
-        record {
-          from = omega arith;
-          ahead = λ j h. looked_keeps lent on_chip looks j h ∙ before.ahead j (omega arith);
-          are_left = omega (arith, counted);
-          looked = looks_on refl before.looked (looks_on (omega arith) looks (λ m c d set. set));
-        }
+  -- The last of the k is of the page or not, as 1 or 0.
+  pub one_less_left : 0 < k → {r : ℕ} → r ≡ cond (of_page_at g t cache (i + (k - 1))) 1 0 → {cache' chip' : List ℕ} → ChipLent g chip
+      → q < pages g → LooksAt g q t (i + (k - 1)) (i + (k - 1) + 1) cache chip cache' chip'
+      → OwnLeft g q t i n cache₀ chip₀ cache' chip' (left - r) (k - 1)
+  one_less_left some {r} found lent on_chip looks =
+      let one : k ≡ suc (k - 1) = omega arith in
+      let counted : left ≡ count (k - 1) own + r = before.are_left ∙ ap (λ (m : ℕ). count m own) one
+      ∙ ap (λ (x : ℕ). count (k - 1) own + x)
+      (ap (λ (l : ℕ). cond (translation_page g l == t) 1 0) (sym (before.ahead (i + (k - 1)) (omega arith))) ∙ sym found) in
+      record {
+        ahead = λ j h. looked_keeps lent on_chip looks j h ∙ before.ahead j (omega arith);
+        are_left = omega (arith, counted);
+        looked = looks_on refl before.looked (looks_on (omega arith) looks (λ m c d set. set));
+      }
 
   pub none_own_left : left ≡ 0 → LooksAt g q t i (i + n) cache₀ chip₀ cache chip
   none_own_left e =
-      let upto : k ≡ i + (k - i) = omega (arith, before.from) in
-      looks_on refl before.looked (looks_on upto
-      (looks_past (k - i) (count_same (k - i) (λ j. of_page_at g t cache (i + j)) own
-      (λ j h. ap (λ (l : ℕ). nat_eq (translation_page g l) t) (before.ahead (i + j) (omega (arith, before.from))))
-      ∙ sym before.are_left ∙ e)) (λ m c d set. set))
+      looks_on refl before.looked (looks_past k (count_same k (λ j. of_page_at g t cache (i + j)) own
+      (λ j h. ap (λ (l : ℕ). nat_eq (translation_page g l) t) (before.ahead (i + j) (omega arith))) ∙ sym before.are_left ∙ e))
 
 -- So many entries of the page were met from rank i on.
 pub record MetFrom (g : Geometry) (t n i : ℕ) (cache : List ℕ) (met : ℕ) : Type 0 where

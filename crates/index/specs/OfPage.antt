@@ -1,7 +1,7 @@
 -- The entries of a translation page: the logical pages that are its own, told by one comparison, and that there are no more than W.
 use Rattle.std.specs.Prelude.{◌≡◌, ℕ, suc, ◌+◌, ◌*◌, ◌-◌, ◌%◌, ◌<◌, ◌≤◌, Bool, true, false, cond, List, ◌==◌, nat_lt}
 use Rattle.std.specs.Int.{from_bool}
-use Rattle.std.proofs.Common.{refl, div-add-mod', mod-lt, div-mul-le_self, le-div_iff_mul-le, arith, sym, ap, ◌∙◌, eqb-true, eq-eqb, ne_eqb, lt-ltb, le-ltb}
+use Rattle.std.proofs.Common.{div-add-mod', mod-lt, div-mul-le_self, le-div_iff_mul-le, arith, sym, ap, ◌∙◌, eqb-true, eq-eqb, ne_eqb, lt-ltb, le-ltb}
 use Rattle.scope.specs.Geometry.{Geometry, Accepted}
 use Rattle.scope.specs.Counting.{count}
 use Rattle.scope.specs.Regions.{Data}
@@ -49,9 +49,9 @@ abbrev pub of_page_at : Geometry → ℕ → List ℕ → ℕ → Bool
 of_page_at g t cache i = translation_page g (logical_at i cache) == t
 
 -- The number that a test is counted as.
-pub counted_as : (b : Bool) → from_bool b ≡ cond b 1 0
-counted_as true = refl
-counted_as false = refl
+pub counted_as : {r : ℕ} {b b' : Bool} → r ≡ from_bool b → b ≡ b' → r ≡ cond b' 1 0
+counted_as {b = true} e same = e ∙ ap (λ (x : Bool). cond x 1 0) same
+counted_as {b = false} e same = e ∙ ap (λ (x : Bool). cond x 1 0) same
 
 -- How many entries the pass over the cache passes by at once.
 abbrev pub stretch : ℕ

@@ -76,12 +76,12 @@ fn set_own(own: usize, g: Geometry, q: u32, t: u32, i: usize, cache: &mut [u32],
     ensures { LooksAt (geometry g) q t i (i + stretch) cache.old chip.old cache.new chip.new }
 {
     let mut left = own;
-    for k in (i..i + STRETCH).rev() {
+    for k in (0..STRETCH).rev() {
         if left == 0 {
             return;
         }
-        left -= usize::from(of_page(g, t, k, cache));
-        set_if_changed(g, q, t, k, cache, chip);
+        left -= usize::from(of_page(g, t, i + k, cache));
+        set_if_changed(g, q, t, i + k, cache, chip);
     }
 }
 
