@@ -6,4 +6,4 @@ pub loop-i-init : goal.loop-i-init
 loop-i-init c = none_taken c.requires.0 c.requires.1 c.requires.2
 
 pub loop-i-preserved : goal.loop-i-preserved
-loop-i-preserved c = one_taken c.requires.0 c.requires.1 c.requires.2 c.loop-i.invariant c.loop-i-test.true c.take-left.ensures
+loop-i-preserved c = one_taken c.requires.0 c.requires.1 c.requires.2 c.loop-i.invariant c.loop-i-test.true c.take.ensures
