@@ -125,9 +125,8 @@ stays_so x {k} {lowest} {words = words} is_page other is_lower behind =
       behind = behind ∙ ap (λ (p : ℕ). waits_too k x.logical x.physical p words) is_page;
     }
 
--- The first i of n mappings are taken out or left, and the words of those ahead are as they were.
-pub record TakenUpto (g : Geometry) (q t m n i : ℕ) (words₀ chip₀ : List ℕ) (k lowest : ℕ) (words chip : List ℕ) : Type 0 where
-  pub upto : i ≤ n
+-- The first i mappings are taken out or left, and the words of those ahead are as they were.
+pub record TakenUpto (g : Geometry) (q t m i : ℕ) (words₀ chip₀ : List ℕ) (k lowest : ℕ) (words chip : List ℕ) : Type 0 where
   pub most : k ≤ i
   pub ahead : (j : ℕ) → i * move_words ≤ j → slice_index words j ≡ slice_index words₀ j
   pub is_set : WordsSet g q chip₀ (of_page g t (first_moves i words₀)) chip
@@ -135,10 +134,9 @@ pub record TakenUpto (g : Geometry) (q t m n i : ℕ) (words₀ chip₀ : List �
 
 module _ {g : Geometry} {q t m n : ℕ} {words₀ chip₀ : List ℕ} (lent : ChipLent g chip₀) (on_chip : q < pages g)
     (waits : WaitsIn g n words₀) where
-  pub none_taken : TakenUpto g q t m n 0 words₀ chip₀ 0 m words₀ chip₀
+  pub none_taken : TakenUpto g q t m 0 words₀ chip₀ 0 m words₀ chip₀
   none_taken =
       record {
-        upto = omega arith;
         most = omega arith;
         ahead = λ j h. refl;
         is_set = rw (no_moves words₀, none_of_page g t) (none_set lent on_chip);
@@ -149,7 +147,7 @@ module _ {g : Geometry} {q t m n : ℕ} {words₀ chip₀ : List ℕ} (lent : Ch
         };
       }
 
-  module _ {i k lowest : ℕ} {words chip : List ℕ} (before : TakenUpto g q t m n i words₀ chip₀ k lowest words chip) (more : i < n) where
+  module _ {i k lowest : ℕ} {words chip : List ℕ} (before : TakenUpto g q t m i words₀ chip₀ k lowest words chip) (more : i < n) where
     abbrev x : Mapping
     x = move_at i words
 
@@ -163,10 +161,9 @@ module _ {g : Geometry} {q t m n : ℕ} {words₀ chip₀ : List ℕ} (lent : Ch
         ∙ ap (translation_page g) (sym (before.ahead (i * move_words) (omega arith)))
 
     module _ {k' lowest' : ℕ} {words' chip' : List ℕ} where
-      taken : TakenOut g q t x k lowest words chip k' lowest' words' chip' → TakenUpto g q t m n (i + 1) words₀ chip₀ k' lowest' words' chip'
+      taken : TakenOut g q t x k lowest words chip k' lowest' words' chip' → TakenUpto g q t m (i + 1) words₀ chip₀ k' lowest' words' chip'
       taken out =
           rw (out.as_many, out.as_low, out.same_words) (record {
-            upto = omega arith;
             most = omega (arith, before.most);
             ahead = λ j h. before.ahead j (omega arith);
             is_set = rw (is_x, of_page_more g t (first_moves i words₀) x out.of_t) (one_set lent on_chip x before.is_set out.stored);
@@ -177,7 +174,7 @@ module _ {g : Geometry} {q t m n : ℕ} {words₀ chip₀ : List ℕ} (lent : Ch
             };
           })
 
-      stays : Stays g t x k lowest words chip k' lowest' words' chip' → TakenUpto g q t m n (i + 1) words₀ chip₀ k' lowest' words' chip'
+      stays : Stays g t x k lowest words chip k' lowest' words' chip' → TakenUpto g q t m (i + 1) words₀ chip₀ k' lowest' words' chip'
       stays stay =
           let few : k < most_pages_in_block = omega (arith, before.most, waits.few) in
           let room : k * move_words + move_words ≤ length words = omega (arith, before.left.waits.long) in
@@ -185,7 +182,6 @@ module _ {g : Geometry} {q t m n : ℕ} {words₀ chip₀ : List ℕ} (lent : Ch
           let is_more : first_moves (k + 1) (waits_too k x.logical x.physical p words) ≡ first_moves k words ++ x ∷ [] =
           wait_more words k x.logical x.physical p room in
           rw (stay.one_left, stay.behind) (record {
-            upto = omega arith;
             most = omega (arith, before.most);
             ahead = λ j h. (one_ahead words k x.logical x.physical p).behind j (omega (arith, before.most)) ∙ before.ahead j (omega arith);
             is_set = rw (is_x, of_page_other g t (first_moves i words₀) x stay.other, stay.same_chip) before.is_set;
@@ -197,6 +193,6 @@ module _ {g : Geometry} {q t m n : ℕ} {words₀ chip₀ : List ℕ} (lent : Ch
           })
 
       pub one_taken : TakenOut g q t x k lowest words chip k' lowest' words' chip' ⊎ Stays g t x k lowest words chip k' lowest' words' chip'
-          → TakenUpto g q t m n (i + 1) words₀ chip₀ k' lowest' words' chip'
+          → TakenUpto g q t m (i + 1) words₀ chip₀ k' lowest' words' chip'
       one_taken (inl out) = taken out
       one_taken (inr stay) = stays stay

@@ -3,5 +3,5 @@ use Rattle.index.specs.Collecting.{NamedUpto}
 use Rattle.index.proofs.room.names_moved.Given as goal
 
 abbrev pub invariant-loop-i : goal.invariant-loop-i
-invariant-loop-i l = NamedUpto l.moves l.n l.i l.initial.directory l.directory
+invariant-loop-i l = NamedUpto l.moves l.i l.initial.directory l.directory
 
