@@ -8,7 +8,7 @@ use Rattle.std.proofs.Math.ListN.{length-set}
 use Rattle.std.proofs.lemmas.List.Edits.{sets}
 use Rattle.std.proofs.lemmas.List.{set_comm}
 use Rattle.std.proofs.Math.Seq.{get_or-set_other}
-use Rattle.std.proofs.lemmas.Bool.{eqb-false}
+use Rattle.std.proofs.lemmas.Bool.{eqb-false, eqb-true}
 use Rattle.scope.specs.Geometry.{Geometry, pages}
 use Rattle.scope.specs.Counting.{count}
 use Rattle.scope.specs.Lent.{none, Mapping, entry_words, words_of, logical_at, physical_at, translation_page, translation_word}
@@ -125,19 +125,13 @@ module _ {g : Geometry} {q t n i : ℕ} {cache₀ chip₀ cache chip : List ℕ}
 
 -- ---- as the code goes
 
--- What the test of the page says of an entry, as 1 or 0.
-module _ (g : Geometry) (t i : ℕ) (cache : List ℕ) {r : ℕ} (found : r ≡ cond (of_page_at g t cache i) 1 0) where
-  pub of_other_page : r ≡ 0 → is_changed_of g t i cache ≡ false
-  of_other_page e =
-      test_of_other g t cache i (λ same.
-      let one : r ≡ 1 = found ∙ ap (λ b. cond b 1 0) (eq-eqb (translation_page g (logical_at i cache)) t same) in
-      omega arith)
+-- What the test of the page says of an entry.
+module _ (g : Geometry) (t i : ℕ) (cache : List ℕ) where
+  pub of_other_page : of_page_at g t cache i ≡ false → is_changed_of g t i cache ≡ false
+  of_other_page e = test_of_other g t cache i (eqb-false (translation_page g (logical_at i cache)) t e)
 
-  pub of_this_page : r ≢ 0 → is_changed_of g t i cache ≡ is_changed i cache
-  of_this_page some =
-      test_of_page g t cache i
-      (same? (translation_page g (logical_at i cache)) t (λ q. q)
-      (λ q. absurd (some (found ∙ ap (λ b. cond b 1 0) (ne_eqb (translation_page g (logical_at i cache)) t q)))))
+  pub of_this_page : of_page_at g t cache i ≡ true → is_changed_of g t i cache ≡ is_changed i cache
+  of_this_page e = test_of_page g t cache i (eqb-true (translation_page g (logical_at i cache)) t e)
 
 -- What the pass over the first n entries asks for.
 pub record EntriesLent (g : Geometry) (t n : ℕ) (cache : List ℕ) : Type 0 where
@@ -175,9 +169,7 @@ looks_past {g} {q} {t} {i} {cache} {chip} zero none_met =
     subst (λ (k : ℕ). LooksAt g q t i k cache chip cache chip) (sym (add-zero i)) (λ n cache₀ chip₀ before. before)
 looks_past {g} {t = t} {i} {cache} (suc n) none_met =
     looks_on (omega arith)
-    (looks_at_another (test_of_other g t cache (i + n)
-    (eqb-false (translation_page g (logical_at (i + n) cache)) t
-    (none_counted (suc n) (λ j. of_page_at g t cache (i + j)) none_met n (omega arith)))))
+    (looks_at_another (of_other_page g t (i + n) cache (none_counted (suc n) (λ j. of_page_at g t cache (i + j)) none_met n (omega arith))))
     (looks_past n (omega arith))
 
 -- No logical page changes.
@@ -185,27 +177,18 @@ looked_keeps : {g : Geometry} {q t i k : ℕ} {cache chip cache' chip' : List �
     → LooksAt g q t i k cache chip cache' chip' → (j : ℕ) → j < i → logical_at j cache' ≡ logical_at j cache
 looked_keeps {k = k} {cache} {chip} lent on_chip looked j h = same_logical (looked k cache chip (all_left lent on_chip)) j h
 
--- Of the n entries from rank i on those from rank k on have been looked at, and so many of the others are of the page.
+-- Of the n entries from rank i on those behind the first k have been looked at, and so many of these k are of the page.
 pub record OwnLeft (g : Geometry) (q t i n : ℕ) (cache₀ chip₀ cache chip : List ℕ) (left k : ℕ) : Type 0 where
-  pub from : i ≤ k
-  pub upto : k ≤ i + n
-  pub cache_long : length cache ≡ length cache₀
-  pub chip_long : length chip ≡ length chip₀
-  pub ahead : (j : ℕ) → j < k → logical_at j cache ≡ logical_at j cache₀
-  pub are_left : left ≡ count (k - i) (λ j. of_page_at g t cache₀ (i + j))
-  pub looked : LooksAt g q t k (i + n) cache₀ chip₀ cache chip
+  pub ahead : (j : ℕ) → j < i + k → logical_at j cache ≡ logical_at j cache₀
+  pub are_left : left ≡ count k (λ j. of_page_at g t cache₀ (i + j))
+  pub looked : LooksAt g q t (i + k) (i + n) cache₀ chip₀ cache chip
 
 pub all_own_left : {g : Geometry} {q t i n : ℕ} {cache chip : List ℕ} {own : ℕ} → own ≡ count n (λ j. of_page_at g t cache (i + j))
-    → OwnLeft g q t i n cache chip cache chip own (i + n)
-all_own_left {g} {t = t} {i} {n} {cache} e =
-    let all : i + n - i ≡ n = omega arith in
+    → OwnLeft g q t i n cache chip cache chip own n
+all_own_left e =
     record {
-      from = omega arith;
-      upto = omega arith;
-      cache_long = refl;
-      chip_long = refl;
       ahead = λ j h. refl;
-      are_left = e ∙ ap (λ (k : ℕ). count k (λ j. of_page_at g t cache (i + j))) (sym all);
+      are_left = e;
       looked = λ m cache₀ chip₀ before. before;
     }
 
@@ -214,44 +197,25 @@ module _ {g : Geometry} {q t i n : ℕ} {cache₀ chip₀ cache chip : List ℕ}
   abbrev own : ℕ → Bool
   own j = of_page_at g t cache₀ (i + j)
 
-  pub some_left : 0 < left → i < k
-  some_left some = omega (arith, before.are_left, count_le (k - i) own, before.from)
-
-  -- Whether the entry before rank k is of the page, as 1 or 0.
-  module _ (some : i < k) {r : ℕ} (found : r ≡ cond (of_page_at g t cache (k - 1)) 1 0) where
-    counted : left ≡ count (k - 1 - i) own + r
-    counted =
-        let one : k - i ≡ suc (k - 1 - i) = omega arith in
-        let there : i + (k - 1 - i) ≡ k - 1 = omega arith in
-        before.are_left ∙ ap (λ (m : ℕ). count m own) one
-        ∙ ap (λ (x : ℕ). count (k - 1 - i) own + x)
-        (ap (λ (j : ℕ). cond (of_page_at g t cache₀ j) 1 0) there
-        ∙ ap (λ (l : ℕ). cond (translation_page g l == t) 1 0) (sym (before.ahead (k - 1) (omega arith))) ∙ sym found)
-
-    pub is_left : r ≤ left
-    is_left = omega (arith, counted)
-
-    pub one_less_left : {cache' chip' : List ℕ} → ChipLent g chip → q < pages g
-        → LooksAt g q t (k - 1) (k - 1 + 1) cache chip cache' chip' → length cache' ≡ length cache → length chip' ≡ length chip
-        → OwnLeft g q t i n cache₀ chip₀ cache' chip' (left - r) (k - 1)
-    one_less_left lent on_chip looks cache_kept chip_kept =
-        record {
-          from = omega arith;
-          upto = omega (arith, before.upto);
-          cache_long = cache_kept ∙ before.cache_long;
-          chip_long = chip_kept ∙ before.chip_long;
-          ahead = λ j h. looked_keeps lent on_chip looks j h ∙ before.ahead j (omega arith);
-          are_left = omega (arith, counted);
-          looked = looks_on refl before.looked (looks_on (omega arith) looks (λ m c d set. set));
-        }
+  -- The last of the k is of the page or not, as 1 or 0.
+  pub one_less_left : 0 < k → {r : ℕ} → r ≡ cond (of_page_at g t cache (i + (k - 1))) 1 0 → {cache' chip' : List ℕ} → ChipLent g chip
+      → q < pages g → LooksAt g q t (i + (k - 1)) (i + (k - 1) + 1) cache chip cache' chip'
+      → OwnLeft g q t i n cache₀ chip₀ cache' chip' (left - r) (k - 1)
+  one_less_left some {r} found lent on_chip looks =
+      let one : k ≡ suc (k - 1) = omega arith in
+      let counted : left ≡ count (k - 1) own + r = before.are_left ∙ ap (λ (m : ℕ). count m own) one
+      ∙ ap (λ (x : ℕ). count (k - 1) own + x)
+      (ap (λ (l : ℕ). cond (translation_page g l == t) 1 0) (sym (before.ahead (i + (k - 1)) (omega arith))) ∙ sym found) in
+      record {
+        ahead = λ j h. looked_keeps lent on_chip looks j h ∙ before.ahead j (omega arith);
+        are_left = omega (arith, counted);
+        looked = looks_on refl before.looked (looks_on (omega arith) looks (λ m c d set. set));
+      }
 
   pub none_own_left : left ≡ 0 → LooksAt g q t i (i + n) cache₀ chip₀ cache chip
   none_own_left e =
-      let upto : k ≡ i + (k - i) = omega (arith, before.from) in
-      looks_on refl before.looked (looks_on upto
-      (looks_past (k - i) (count_same (k - i) (λ j. of_page_at g t cache (i + j)) own
-      (λ j h. ap (λ (l : ℕ). nat_eq (translation_page g l) t) (before.ahead (i + j) (omega (arith, before.from))))
-      ∙ sym before.are_left ∙ e)) (λ m c d set. set))
+      looks_on refl before.looked (looks_past k (count_same k (λ j. of_page_at g t cache (i + j)) own
+      (λ j h. ap (λ (l : ℕ). nat_eq (translation_page g l) t) (before.ahead (i + j) (omega arith))) ∙ sym before.are_left ∙ e))
 
 -- So many entries of the page were met from rank i on.
 pub record MetFrom (g : Geometry) (t n i : ℕ) (cache : List ℕ) (met : ℕ) : Type 0 where
@@ -271,6 +235,14 @@ met_more {g} {t = t} i m {cache₀} {cache = cache} before met e =
             (λ k h. ap (λ (l : ℕ). nat_eq (translation_page g l) t) (same_logical before (i + k) (omega arith))),
       );
     }
+
+-- One stretch of m more is looked at.
+pub stretch_passed : {g : Geometry} {q t n j : ℕ} (i m : ℕ) {cache₀ chip₀ cache chip cache' chip' : List ℕ} {met met' : ℕ} → j ≡ i + m
+    → SetFrom g q t n j cache₀ chip₀ cache chip × MetFrom g t n j cache₀ met → LooksAt g q t i (i + m) cache chip cache' chip'
+    → met' ≡ met + count m (λ k. of_page_at g t cache (i + k)) → SetFrom g q t n i cache₀ chip₀ cache' chip' × MetFrom g t n i cache₀ met'
+stretch_passed {n = n} i m {cache₀} {chip₀} e before looks value =
+    let (set, met) = rw e at before in
+    (looks n cache₀ chip₀ set, met_more i m set met value)
 
 -- None is left where they are as many as the page has words.
 pub all_met : {g : Geometry} {t n i met : ℕ} {cache : List ℕ} → EntriesLent g t n cache → MetFrom g t n i cache met → g.W ≤ met

@@ -22,32 +22,20 @@ use Rattle.index.specs.Index.{Index, with_pages, with_names, with_index, DoesInd
 -- ---- the directory follows
 
 -- The first i of the moves are followed.
-pub record NamedUpto (moves : List ℕ) (n i : ℕ) (directory₀ directory : List ℕ) : Type 0 where
-  pub upto : i ≤ n
-  pub as_long : length directory ≡ length directory₀
-  pub does : (w : Work) → DoesDirectory (follow_each directory_follows (first_moves i moves)) directory₀ w [] directory w
+abbrev pub NamedUpto : List ℕ → ℕ → List ℕ → List ℕ → Type 0
+NamedUpto moves i directory directory' =
+    (w : Work) → DoesDirectory (follow_each directory_follows (first_moves i moves)) directory w [] directory' w
 
-pub none_named : (moves : List ℕ) (n : ℕ) {directory : List ℕ} → NamedUpto moves n 0 directory directory
-none_named moves n =
-    record {
-      upto = omega arith;
-      as_long = refl;
-      does = λ w s. rw (no_moves moves) (follow_none_does directory_follows);
-    }
+pub none_named : (moves : List ℕ) {directory : List ℕ} → NamedUpto moves 0 directory directory
+none_named moves w s = rw (no_moves moves) (follow_none_does directory_follows)
 
-pub one_named : {moves : List ℕ} {n i : ℕ} {directory₀ directory directory' : List ℕ} → NamedUpto moves n i directory₀ directory → i < n
-    → length directory' ≡ length directory
+pub one_named : (moves : List ℕ) (i : ℕ) {directory₀ directory directory' : List ℕ} → NamedUpto moves i directory₀ directory
     → ((w : Work) → DoesDirectory (directory_names_it (slice_index moves (i * move_words)) (slice_index moves (i * move_words + 1)))
     directory w tt directory' w)
-    → NamedUpto moves n (i + 1) directory₀ directory'
-one_named {moves} {i = i} before more long names =
-    record {
-      upto = omega arith;
-      as_long = long ∙ before.as_long;
-      does = λ w s. rw (one_more moves i)
-          (follow_more_does directory_apart (first_moves i moves) (move_at i moves) (before.does w s)
-          (does_bind _ (names w s) (does_give [])));
-    }
+    → NamedUpto moves (i + 1) directory₀ directory'
+one_named moves i before names w s =
+    rw (one_more moves i)
+    (follow_more_does directory_apart (first_moves i moves) (move_at i moves) (before w s) (does_bind _ (names w s) (does_give [])))
 
 -- ---- the collection
 

@@ -1,6 +1,7 @@
 -- The entries of a translation page: the logical pages that are its own, told by one comparison, and that there are no more than W.
-use Rattle.std.specs.Prelude.{◌≡◌, ℕ, suc, ◌+◌, ◌*◌, ◌%◌, ◌^◌, ◌<◌, ◌≤◌, Bool, ◌≢◌, List, ◌==◌}
-use Rattle.std.proofs.Common.{div-add-mod', mod-lt, div-mul-le_self, le-div_iff_mul-le, arith, sym, ap, ◌∙◌, eqb-true}
+use Rattle.std.specs.Prelude.{◌≡◌, ℕ, suc, ◌+◌, ◌*◌, ◌-◌, ◌%◌, ◌<◌, ◌≤◌, Bool, true, false, cond, List, ◌==◌, nat_lt}
+use Rattle.std.specs.Int.{from_bool}
+use Rattle.std.proofs.Common.{div-add-mod', mod-lt, div-mul-le_self, le-div_iff_mul-le, arith, sym, ap, ◌∙◌, eqb-true, eq-eqb, ne_eqb, lt-ltb, le-ltb}
 use Rattle.scope.specs.Geometry.{Geometry, Accepted}
 use Rattle.scope.specs.Counting.{count}
 use Rattle.scope.specs.Regions.{Data}
@@ -34,19 +35,23 @@ module _ {g : Geometry} {t : ℕ} (pages : OfPages g t) (l : ℕ) where
       below? (translation_page g l) (suc t) (λ h. omega arith)
       (λ h. let past : suc t * g.W ≤ l = (le-div_iff_mul-le pages.some).0 h in absurd (omega arith))
 
-  -- How far l lies behind the page's first one, by 32 bits: one that lies before it is far behind.
-  module _ (r : ℕ) (small : r < 4294967296) (wraps : (r + t * g.W) % 2 ^ 32 ≡ l) where
-    pub near_is_own : r < g.W → translation_page g l ≡ t
-    near_is_own h =
-        let same : r + t * g.W ≡ l = omega (arith, wraps, pages.reach) in
-        own (omega arith) (omega arith)
-
-    pub far_is_other : g.W ≤ r → translation_page g l ≢ t
-    far_is_other h e = omega (arith, wraps, pages.reach, own_begins e, own_ends e)
+  -- By how far l lies behind the page's first one, by 32 bits: one that lies before it is far behind.
+  pub own_is_near : l < 4294967296 → nat_lt ((l + (4294967296 - t * g.W)) % 4294967296) g.W ≡ (translation_page g l == t)
+  own_is_near small =
+      let r : ℕ = (l + (4294967296 - t * g.W)) % 4294967296 in
+      below? r g.W
+      (λ h. lt-ltb r g.W h ∙ sym (eq-eqb (translation_page g l) t (own (omega (arith, h, small, pages.reach)) (omega (arith, h, small, pages.reach)))))
+      (λ h. le-ltb r g.W h
+      ∙ sym (ne_eqb (translation_page g l) t (λ e. omega (arith, h, small, pages.reach, own_begins e, own_ends e))))
 
 -- Whether the entry at a rank is of translation page t.
 abbrev pub of_page_at : Geometry → ℕ → List ℕ → ℕ → Bool
 of_page_at g t cache i = translation_page g (logical_at i cache) == t
+
+-- The number that a test is counted as.
+pub counted_as : {r : ℕ} {b b' : Bool} → r ≡ from_bool b → b ≡ b' → r ≡ cond b' 1 0
+counted_as {b = true} e same = e ∙ ap (λ (x : Bool). cond x 1 0) same
+counted_as {b = false} e same = e ∙ ap (λ (x : Bool). cond x 1 0) same
 
 -- How many entries the pass over the cache passes by at once.
 abbrev pub stretch : ℕ

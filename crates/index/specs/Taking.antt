@@ -1,6 +1,7 @@
 -- What waits for one translation page taken out: the words that it sets there, what is left, and the lowest page of that.
-use Rattle.std.specs.Prelude.{◌≡◌, ℕ, ◌+◌, ◌*◌, ◌<◌, ◌≤◌, cond, ◌≢◌, ◌⊎◌, List, [], ◌∷◌, ◌++◌, length, nat_lt, slice_index, slice_index_or, slice_set, refl}
-use Rattle.std.proofs.Common.{sym, ap, subst, ◌∙◌, inl, inr, arith, length-append, lt-ltb, le-ltb}
+use Rattle.std.specs.Prelude.{◌≡◌, ℕ, ◌+◌, ◌*◌, ◌<◌, ◌≤◌, min, ◌≢◌, ◌⊎◌, List, [], ◌∷◌, ◌++◌, length, slice_index, slice_index_or, slice_set, refl}
+use Rattle.std.proofs.Common.{sym, ap, subst, ◌∙◌, inl, inr, arith, length-append}
+use Rattle.std.proofs.Math.Nat.{min-eq_left, min-eq_right}
 use Rattle.scope.specs.Geometry.{most_pages_in_block, Geometry, pages}
 use Rattle.scope.specs.Lent.{Mapping, translation_page, translation_word}
 use Rattle.scope.specs.Steps.{of_page}
@@ -12,10 +13,6 @@ use Rattle.index.specs.Moves.{none_of_page, of_page_++, of_page_more, of_page_ot
 use Rattle.index.specs.Words.{WordsSet, none_set, one_set}
 
 -- ---- the lowest translation page
-
--- The lower of two.
-abbrev pub lower : ℕ → ℕ → ℕ
-lower best t = cond (nat_lt t best) t best
 
 -- r is the lowest translation page for which something waits; m where there is none below m.
 pub record Lowest (g : Geometry) (w : List Mapping) (m r : ℕ) : Type 0 where
@@ -29,15 +26,17 @@ module _ (g : Geometry) (m : ℕ) where
   none_touched = record { up_to = omega arith; untouched = λ t _. refl; touched = λ k. absurd (omega arith) }
 
   pub one_touched : (w : List Mapping) (x : Mapping) (r r' : ℕ) → Lowest g w m r
-      → r' ≡ lower r (translation_page g x.logical) → Lowest g (w ++ x ∷ []) m r'
+      → r' ≡ min r (translation_page g x.logical) → Lowest g (w ++ x ∷ []) m r'
   one_touched w x r r' before e =
       below? p r
-      (λ near. rw (e, lt-ltb p r near) (record {
+      (λ near.
+      let low : p ≤ r = omega (arith, near) in
+      rw (e, min-eq_right low) (record {
         up_to = omega (arith, before.up_to);
         untouched = λ t h. of_page_other g t w x (omega arith) ∙ before.untouched t (omega arith);
         touched = λ k. omega (arith, ap length (of_page_more g p w x refl), length-append (of_page g p w) (x ∷ []));
       }))
-      (λ far. rw (e, le-ltb p r far) (record {
+      (λ far. rw (e, min-eq_left far) (record {
         up_to = before.up_to;
         untouched = λ t h. of_page_other g t w x (omega arith) ∙ before.untouched t h;
         touched = λ k.
@@ -110,25 +109,24 @@ pub record Stays (g : Geometry) (t : ℕ) (x : Mapping) (k lowest : ℕ) (words 
   pub other : translation_page g x.logical ≢ t
   pub same_chip : chip' ≡ chip
   pub one_left : k' ≡ k + 1
-  pub is_lower : lowest' ≡ lower lowest (translation_page g x.logical)
+  pub is_lower : lowest' ≡ min lowest (translation_page g x.logical)
   pub behind : words' ≡ waits_too k x.logical x.physical (translation_page g x.logical) words
 
 -- As the code has it: its translation page comes along.
 pub stays_so : {g : Geometry} {t : ℕ} (x : Mapping) {k lowest lowest' page : ℕ} {words chip words' : List ℕ}
-    → page ≡ translation_page g x.logical → page ≢ t → lowest' ≡ lower lowest page
+    → page ≡ translation_page g x.logical → page ≢ t → lowest' ≡ min lowest page
     → words' ≡ waits_too k x.logical x.physical page words → Stays g t x k lowest words chip (k + 1) lowest' words' chip
 stays_so x {k} {lowest} {words = words} is_page other is_lower behind =
     record {
       other = λ e. other (is_page ∙ e);
       same_chip = refl;
       one_left = refl;
-      is_lower = is_lower ∙ ap (lower lowest) is_page;
+      is_lower = is_lower ∙ ap (min lowest) is_page;
       behind = behind ∙ ap (λ (p : ℕ). waits_too k x.logical x.physical p words) is_page;
     }
 
--- The first i of n mappings are taken out or left, and the words of those ahead are as they were.
-pub record TakenUpto (g : Geometry) (q t m n i : ℕ) (words₀ chip₀ : List ℕ) (k lowest : ℕ) (words chip : List ℕ) : Type 0 where
-  pub upto : i ≤ n
+-- The first i mappings are taken out or left, and the words of those ahead are as they were.
+pub record TakenUpto (g : Geometry) (q t m i : ℕ) (words₀ chip₀ : List ℕ) (k lowest : ℕ) (words chip : List ℕ) : Type 0 where
   pub most : k ≤ i
   pub ahead : (j : ℕ) → i * move_words ≤ j → slice_index words j ≡ slice_index words₀ j
   pub is_set : WordsSet g q chip₀ (of_page g t (first_moves i words₀)) chip
@@ -136,10 +134,9 @@ pub record TakenUpto (g : Geometry) (q t m n i : ℕ) (words₀ chip₀ : List �
 
 module _ {g : Geometry} {q t m n : ℕ} {words₀ chip₀ : List ℕ} (lent : ChipLent g chip₀) (on_chip : q < pages g)
     (waits : WaitsIn g n words₀) where
-  pub none_taken : TakenUpto g q t m n 0 words₀ chip₀ 0 m words₀ chip₀
+  pub none_taken : TakenUpto g q t m 0 words₀ chip₀ 0 m words₀ chip₀
   none_taken =
       record {
-        upto = omega arith;
         most = omega arith;
         ahead = λ j h. refl;
         is_set = rw (no_moves words₀, none_of_page g t) (none_set lent on_chip);
@@ -150,7 +147,7 @@ module _ {g : Geometry} {q t m n : ℕ} {words₀ chip₀ : List ℕ} (lent : Ch
         };
       }
 
-  module _ {i k lowest : ℕ} {words chip : List ℕ} (before : TakenUpto g q t m n i words₀ chip₀ k lowest words chip) (more : i < n) where
+  module _ {i k lowest : ℕ} {words chip : List ℕ} (before : TakenUpto g q t m i words₀ chip₀ k lowest words chip) (more : i < n) where
     abbrev x : Mapping
     x = move_at i words
 
@@ -164,10 +161,9 @@ module _ {g : Geometry} {q t m n : ℕ} {words₀ chip₀ : List ℕ} (lent : Ch
         ∙ ap (translation_page g) (sym (before.ahead (i * move_words) (omega arith)))
 
     module _ {k' lowest' : ℕ} {words' chip' : List ℕ} where
-      taken : TakenOut g q t x k lowest words chip k' lowest' words' chip' → TakenUpto g q t m n (i + 1) words₀ chip₀ k' lowest' words' chip'
+      taken : TakenOut g q t x k lowest words chip k' lowest' words' chip' → TakenUpto g q t m (i + 1) words₀ chip₀ k' lowest' words' chip'
       taken out =
           rw (out.as_many, out.as_low, out.same_words) (record {
-            upto = omega arith;
             most = omega (arith, before.most);
             ahead = λ j h. before.ahead j (omega arith);
             is_set = rw (is_x, of_page_more g t (first_moves i words₀) x out.of_t) (one_set lent on_chip x before.is_set out.stored);
@@ -178,7 +174,7 @@ module _ {g : Geometry} {q t m n : ℕ} {words₀ chip₀ : List ℕ} (lent : Ch
             };
           })
 
-      stays : Stays g t x k lowest words chip k' lowest' words' chip' → TakenUpto g q t m n (i + 1) words₀ chip₀ k' lowest' words' chip'
+      stays : Stays g t x k lowest words chip k' lowest' words' chip' → TakenUpto g q t m (i + 1) words₀ chip₀ k' lowest' words' chip'
       stays stay =
           let few : k < most_pages_in_block = omega (arith, before.most, waits.few) in
           let room : k * move_words + move_words ≤ length words = omega (arith, before.left.waits.long) in
@@ -186,7 +182,6 @@ module _ {g : Geometry} {q t m n : ℕ} {words₀ chip₀ : List ℕ} (lent : Ch
           let is_more : first_moves (k + 1) (waits_too k x.logical x.physical p words) ≡ first_moves k words ++ x ∷ [] =
           wait_more words k x.logical x.physical p room in
           rw (stay.one_left, stay.behind) (record {
-            upto = omega arith;
             most = omega (arith, before.most);
             ahead = λ j h. (one_ahead words k x.logical x.physical p).behind j (omega (arith, before.most)) ∙ before.ahead j (omega arith);
             is_set = rw (is_x, of_page_other g t (first_moves i words₀) x stay.other, stay.same_chip) before.is_set;
@@ -198,6 +193,6 @@ module _ {g : Geometry} {q t m n : ℕ} {words₀ chip₀ : List ℕ} (lent : Ch
           })
 
       pub one_taken : TakenOut g q t x k lowest words chip k' lowest' words' chip' ⊎ Stays g t x k lowest words chip k' lowest' words' chip'
-          → TakenUpto g q t m n (i + 1) words₀ chip₀ k' lowest' words' chip'
+          → TakenUpto g q t m (i + 1) words₀ chip₀ k' lowest' words' chip'
       one_taken (inl out) = taken out
       one_taken (inr stay) = stays stay

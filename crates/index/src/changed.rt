@@ -13,17 +13,15 @@ ghost use Rattle.index.specs.OfPage.{OfPages, of_page_at, stretch};
 ghost use Rattle.index.specs.Changed.{EntriesLent, LooksAt};
 
 use lent::{ENTRY_WORDS, Geometry};
-use std::num::wrapping_sub_u32;
 use steps::chip::set_word;
 
-// 1 where the entry at rank i is of translation page t, else 0. By one comparison, since nobody can guess on which side of the page its logical
+// Whether the entry at rank i is of translation page t. By one comparison, since nobody can guess on which side of the page its logical
 // page lies: one before the page's first is far behind it by 32 bits.
-fn of_page(g: Geometry, t: u32, i: usize, cache: &[u32]) -> usize
+fn of_page(g: Geometry, t: u32, i: usize, cache: &[u32]) -> bool
     requires { OfPages (geometry g) t × (i * entry_words + entry_words ≤ length cache.now) }
-    ensures { result ≡ (if of_page_at (geometry g) t cache.now i then 1 else 0) }
+    ensures { result ≡ of_page_at (geometry g) t cache.now i }
 {
-    let behind = wrapping_sub_u32(cache[i * ENTRY_WORDS], t * g.w);
-    if behind < g.w { 1 } else { 0 }
+    cache[i * ENTRY_WORDS].wrapping_sub(t * g.w) < g.w
 }
 
 // The entries that are passed by at once where none of them is of the page, as mostly none is.
@@ -35,10 +33,8 @@ fn own_in(g: Geometry, t: u32, i: usize, cache: &[u32]) -> usize
     ensures { result ≡ count stretch (λ k. of_page_at (geometry g) t cache.now (i + k)) }
 {
     let mut own = 0;
-    let mut k = 0;
-    while k < STRETCH {
-        own += of_page(g, t, i + k, cache);
-        k += 1;
+    for k in 0..STRETCH {
+        own += usize::from(of_page(g, t, i + k, cache));
     }
     own
 }
@@ -49,7 +45,7 @@ fn set_if_changed(g: Geometry, q: u32, t: u32, i: usize, cache: &mut [u32], chip
     requires of_pages { OfPages (geometry g) t × (i * entry_words + entry_words ≤ length cache.old) }
     ensures { LooksAt (geometry g) q t i (i + 1) cache.old chip.old cache.new chip.new }
 {
-    if of_page(g, t, i, cache) == 0 {
+    if !of_page(g, t, i, cache) {
         return;
     }
     if cache[i * ENTRY_WORDS + 2] != 1 {
@@ -67,9 +63,7 @@ fn set_first(g: Geometry, q: u32, t: u32, n: usize, cache: &mut [u32], chip: &mu
     requires of_pages { OfPages (geometry g) t × (n * entry_words ≤ length cache.old) }
     ensures { LooksAt (geometry g) q t 0 n cache.old chip.old cache.new chip.new }
 {
-    let mut k = n;
-    while 0 < k {
-        k -= 1;
+    for k in (0..n).rev() {
         set_if_changed(g, q, t, k, cache, chip);
     }
 }
@@ -82,11 +76,12 @@ fn set_own(own: usize, g: Geometry, q: u32, t: u32, i: usize, cache: &mut [u32],
     ensures { LooksAt (geometry g) q t i (i + stretch) cache.old chip.old cache.new chip.new }
 {
     let mut left = own;
-    let mut k = i + STRETCH;
-    while 0 < left {
-        k -= 1;
-        left -= of_page(g, t, k, cache);
-        set_if_changed(g, q, t, k, cache, chip);
+    for k in (0..STRETCH).rev() {
+        if left == 0 {
+            return;
+        }
+        left -= usize::from(of_page(g, t, i + k, cache));
+        set_if_changed(g, q, t, i + k, cache, chip);
     }
 }
 
@@ -130,14 +125,13 @@ pub(crate) fn set_changed(
     ensures cache_after { cache.new ≡ unchanged_of (geometry g) t n cache.old }
 {
     let w = g.w as usize;
-    let mut i = n;
+    let first = n % STRETCH;
     let mut met = 0;
-    while STRETCH <= i {
-        i -= STRETCH;
-        met = set_stretch(met, g, q, t, i, cache, chip);
+    for k in (0..n / STRETCH).rev() {
+        met = set_stretch(met, g, q, t, first + k * STRETCH, cache, chip);
         if w <= met {
             return;
         }
     }
-    set_first(g, q, t, i, cache, chip);
+    set_first(g, q, t, first, cache, chip);
 }

@@ -14,9 +14,8 @@ ghost use Rattle.index.specs.Writing.{PageReady};
 
 use changed::set_changed;
 use copying::copies::MOVES_WORDS;
-use lent::{Region, Work};
+use lent::Work;
 use page::{begin, finish};
-use steps::chip::next_page;
 use steps::Flash;
 use touched::{Left, lowest, take_words};
 
@@ -39,10 +38,10 @@ pub fn update_changed(
         flash.old directory.old work.old tt flash.new directory.new work.new }
     ensures cache_after { cache.new ≡ unchanged_of (geometry flash.old.g) t work.old.rec.used cache.old }
 {
+    let g = flash.g;
     let used = work.rec.used as usize;
-    begin(flash, work, directory, t);
-    let q = next_page(work.rec, flash.g, Region::Translation);
-    set_changed(flash.g, q, t, used, cache, flash.chip);
+    let q = begin(flash, work, directory, t);
+    set_changed(g, q, t, used, cache, flash.chip);
     finish(flash, work, directory, t);
 }
 
@@ -63,10 +62,10 @@ fn update_page(
     ensures left_after { LeftAfter (geometry flash.old.g) left.lowest m left.n waiting.old
         result.n result.lowest waiting.new }
 {
+    let g = flash.g;
     let t = left.lowest;
-    begin(flash, work, directory, t);
-    let q = next_page(work.rec, flash.g, Region::Translation);
-    let next = take_words(flash.g, q, t, left.n, m, waiting, flash.chip);
+    let q = begin(flash, work, directory, t);
+    let next = take_words(g, q, t, left.n, m, waiting, flash.chip);
     finish(flash, work, directory, t);
     next
 }

@@ -1,25 +1,31 @@
 // A translation page updated, in the parts that its changed entries and all that waits have in common: what comes before the words are set in
 // the new page, and what comes after.
-ghost use Rattle.lent.specs.Model.{geometry};
+ghost use Rattle.std.specs.Prelude.{◌≡◌};
+ghost use Rattle.scope.specs.Regions.{Translation};
+ghost use Rattle.lent.specs.Model.{geometry, small};
 ghost use Rattle.steps.specs.Flash.{SameFlash, OnlySpare};
+ghost use Rattle.steps.specs.Lies.{next_page};
 ghost use Rattle.index.specs.Index.{indexed};
 ghost use Rattle.index.specs.Writing.{PageReady, Begins, FinishReady, Written};
 
 use crate::room::room;
 use lent::{Region, Work};
+use steps::chip::next_page;
 use steps::directory::{named, names_it};
 use steps::Flash;
 
-// Room is made, and the open block's next page has the words of translation page t, or none throughout.
-pub(crate) fn begin(flash: &mut Flash, work: &mut Work, directory: &mut [u32], t: u32)
+// Room is made, and the open block's next page, which is handed back, has the words of translation page t, or none throughout.
+pub(crate) fn begin(flash: &mut Flash, work: &mut Work, directory: &mut [u32], t: u32) -> u32
     requires { PageReady (geometry flash.old.g) (indexed flash.old directory.old) work.old t }
     ensures begins { Begins (geometry flash.old.g) t (indexed flash.old directory.old) work.old
         (indexed flash.new directory.new) work.new }
+    ensures next { result ≡ next_page (geometry flash.old.g) Translation (small work.new.rec) }
     ensures same { SameFlash flash.old flash.new }
 {
     room(flash, work, directory);
     let former = named(t, directory);
     flash.begin_next(work, Region::Translation, former);
+    next_page(work.rec, flash.g, Region::Translation)
 }
 
 // The next page becomes that of translation page t, in the place of the former one, and the directory names it.

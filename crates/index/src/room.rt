@@ -25,10 +25,8 @@ fn names_moved(n: usize, moves: &[u32; MOVES_WORDS], directory: &mut [u32])
     ensures { (w : Work) → DoesDirectory (follow_each directory_follows (first_moves n moves.now))
         directory.old w [] directory.new w }
 {
-    let mut i = 0;
-    while i < n {
+    for i in 0..n {
         names_it(moves[i * MOVE_WORDS], moves[i * MOVE_WORDS + 1], directory);
-        i += 1;
     }
 }
 

@@ -9,7 +9,7 @@ ghost use Rattle.lent.specs.Model.{geometry};
 ghost use Rattle.steps.specs.Lies.{ChipLent};
 ghost use Rattle.copying.specs.Moves.{moves_words, first_moves};
 ghost use Rattle.index.specs.Moves.{WaitsIn, waits_too};
-ghost use Rattle.index.specs.Taking.{lower, Lowest, LeftAfter, TakenOut, Stays};
+ghost use Rattle.index.specs.Taking.{Lowest, LeftAfter, TakenOut, Stays};
 
 use copying::copies::{MOVE_WORDS, MOVES_WORDS};
 use lent::Geometry;
@@ -38,44 +38,33 @@ pub fn put_behind(
     waiting[n * MOVE_WORDS + 2] = page;
 }
 
-// The lower of two translation pages.
-fn lower(best: u32, t: u32) -> u32
-    ensures { result ≡ lower best t }
-{
-    if t < best { t } else { best }
-}
-
-// A mapping of translation page t: its word is set in the page at q. One of another page is left, behind the n that are. The two numbers
-// come apart: as a struct they would be read, each turn, in words wider than those just written (docs/DECISIONS.md).
-fn take(
-    n: usize,
-    lowest: u32,
-    g: Geometry,
-    q: u32,
-    t: u32,
-    logical: u32,
-    physical: u32,
-    page: u32,
-    waiting: &mut [u32; MOVES_WORDS],
-    chip: &mut [u32],
-) -> Left
-    requires chip_lent { ChipLent (geometry g) chip.old × (q < pages (geometry g)) × (page ≡ translation_page (geometry g) logical) }
-    requires n_lt_most_pages_in_block { (n < most_pages_in_block) × (length waiting.old ≡ moves_words) }
-    ensures { TakenOut (geometry g) q t record { logical = logical; physical = physical } n lowest
-        waiting.old chip.old result.n result.lowest waiting.new chip.new
-        ⊎ Stays (geometry g) t record { logical = logical; physical = physical } n lowest
-        waiting.old chip.old result.n result.lowest waiting.new chip.new }
-{
-    if page == t {
-        set_word(g, q, logical, physical, chip);
-        return Left { n, lowest };
-    }
-    put_behind(n, logical, physical, page, waiting);
-    let more = n + 1;
-    let less = lower(lowest, page);
-    Left {
-        n: more,
-        lowest: less,
+impl Left {
+    // A mapping of translation page t: its word is set in the page at q. One of another page is left, behind those that are.
+    fn take(
+        &mut self,
+        g: Geometry,
+        q: u32,
+        t: u32,
+        logical: u32,
+        physical: u32,
+        page: u32,
+        waiting: &mut [u32; MOVES_WORDS],
+        chip: &mut [u32],
+    )
+        requires chip_lent { ChipLent (geometry g) chip.old × (q < pages (geometry g)) × (page ≡ translation_page (geometry g) logical) }
+        requires n_lt_most_pages_in_block { (self.old.n < most_pages_in_block) × (length waiting.old ≡ moves_words) }
+        ensures { TakenOut (geometry g) q t record { logical = logical; physical = physical } self.old.n self.old.lowest
+            waiting.old chip.old self.new.n self.new.lowest waiting.new chip.new
+            ⊎ Stays (geometry g) t record { logical = logical; physical = physical } self.old.n self.old.lowest
+            waiting.old chip.old self.new.n self.new.lowest waiting.new chip.new }
+    {
+        if page == t {
+            set_word(g, q, logical, physical, chip);
+            return;
+        }
+        put_behind(self.n, logical, physical, page, waiting);
+        self.n += 1;
+        self.lowest = self.lowest.min(page);
     }
 }
 
@@ -94,19 +83,14 @@ pub(crate) fn take_words(
         (set_words (geometry g) (of_page (geometry g) t (first_moves n waiting.old)) (words_of (geometry g) q chip.old)) }
     ensures left_after { LeftAfter (geometry g) t m n waiting.old result.n result.lowest waiting.new }
 {
-    let mut k = 0;
-    let mut best = m;
-    let mut i = 0;
-    while i < n {
+    let mut left = Left { n: 0, lowest: m };
+    for i in 0..n {
         let logical = waiting[i * MOVE_WORDS];
         let physical = waiting[i * MOVE_WORDS + 1];
         let page = waiting[i * MOVE_WORDS + 2];
-        let left = take(k, best, g, q, t, logical, physical, page, waiting, chip);
-        k = left.n;
-        best = left.lowest;
-        i += 1;
+        left.take(g, q, t, logical, physical, page, waiting, chip);
     }
-    Left { n: k, lowest: best }
+    left
 }
 
 // The lowest translation page for which something waits; m where there is none below m.
@@ -116,10 +100,8 @@ pub(crate) fn lowest(n: usize, waiting: &[u32; MOVES_WORDS], m: u32) -> u32
         → Lowest (geometry g) (first_moves n waiting.now) m result }
 {
     let mut best = m;
-    let mut i = 0;
-    while i < n {
-        best = lower(best, waiting[i * MOVE_WORDS + 2]);
-        i += 1;
+    for i in 0..n {
+        best = best.min(waiting[i * MOVE_WORDS + 2]);
     }
     best
 }

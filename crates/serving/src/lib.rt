@@ -25,7 +25,7 @@ use replies::tests::{run_lengths_right, test_request};
 use replies::{Kind, Out, Request};
 use requests::node::Node;
 use running::Running;
-use steps::flash::Flash;
+use steps::Flash;
 
 // The tests of a run of n requests, with the lengths of all that it lends. `record_words` is as in crate calls; `odd_words` are the request words
 // that C lends beyond whole requests.

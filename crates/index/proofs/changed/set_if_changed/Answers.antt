@@ -6,14 +6,14 @@ use Rattle.words.specs.Runs.{get_d_any}
 use Rattle.index.specs.Changed.{of_other_page, of_this_page, looks_at_another, looks_at_one}
 use Rattle.index.proofs.changed.set_if_changed.Goals as goal
 
-pub returns-then-of_page-eq0 : goal.returns-then-of_page-eq0
-returns-then-of_page-eq0 c = let a = c.args in
-    looks_at_another (of_other_page (geometry a.g) a.t a.i a.cache.now c.of_page.ensures c.if-of_page-eq0.true)
+pub returns-then-not-of_page : goal.returns-then-not-of_page
+returns-then-not-of_page c = let a = c.args in
+    looks_at_another (of_other_page (geometry a.g) a.t a.i a.cache.now (sym c.of_page.ensures ∙ c.if-not-of_page.true))
 
 pub returns-then-cache-i-ne1 : goal.returns-then-cache-i-ne1
 returns-then-cache-i-ne1 c = let is-changed-word : get_or c.args.cache.now (c.args.i * entry_words + 2) 0 ≡ changed_at c.args.i c.args.cache.now = get_d_any c.args.cache.now (c.args.i * entry_words + 2) 0 none (omega (arith, c.requires.of_pages.1)) in
     let a = c.args in
-    looks_at_another (of_this_page (geometry a.g) a.t a.i a.cache.now c.of_page.ensures c.if-of_page-eq0.false
+    looks_at_another (of_this_page (geometry a.g) a.t a.i a.cache.now (sym c.of_page.ensures ∙ c.if-not-of_page.false)
     ∙ ne_eqb (changed_at a.i a.cache.now) 1 (λ e. c.if-cache-i-ne1.true (is-changed-word ∙ e)))
 
 pub returns : goal.returns
@@ -22,6 +22,6 @@ returns c = let is-logical : get_or c.args.cache.now (c.args.i * entry_words) 0 
     let is-changed-word : get_or c.args.cache.now (c.args.i * entry_words + 2) 0 ≡ changed_at c.args.i c.args.cache.now = get_d_any c.args.cache.now (c.args.i * entry_words + 2) 0 none (omega (arith, c.requires.of_pages.1)) in
     let a = c.args in
     looks_at_one c.requires.chip_lent.0 c.requires.chip_lent.1
-    (of_this_page (geometry a.g) a.t a.i a.cache.now c.of_page.ensures c.if-of_page-eq0.false
+    (of_this_page (geometry a.g) a.t a.i a.cache.now (sym c.of_page.ensures ∙ c.if-not-of_page.false)
     ∙ eq-eqb (changed_at a.i a.cache.now) 1 (sym is-changed-word ∙ c.if-cache-i-ne1.false))
     (c.set_word.ensures ∙ (rw (is-logical, is_place) refl)) refl

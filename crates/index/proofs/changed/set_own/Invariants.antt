@@ -4,8 +4,5 @@ use Rattle.index.specs.OfPage.{stretch}
 use Rattle.index.specs.Changed.{OwnLeft}
 use Rattle.index.proofs.changed.set_own.Given as goal
 
-abbrev pub invariant-loop-left : goal.invariant-loop-left
-invariant-loop-left l = OwnLeft (geometry l.g) l.q l.t l.i stretch l.initial.cache l.initial.chip l.cache l.chip l.left l.k
-
-abbrev pub decreases-loop-left : goal.decreases-loop-left
-decreases-loop-left l = l.k
+abbrev pub invariant-loop-k : goal.invariant-loop-k
+invariant-loop-k l = OwnLeft (geometry l.g) l.q l.t l.i stretch l.initial.cache l.initial.chip l.cache l.chip l.left l.k
