@@ -183,15 +183,6 @@ pub record OwnLeft (g : Geometry) (q t i n : ℕ) (cache₀ chip₀ cache chip :
   pub are_left : left ≡ count k (λ j. of_page_at g t cache₀ (i + j))
   pub looked : LooksAt g q t (i + k) (i + n) cache₀ chip₀ cache chip
 
-pub all_own_left : {g : Geometry} {q t i n : ℕ} {cache chip : List ℕ} {own : ℕ} → own ≡ count n (λ j. of_page_at g t cache (i + j))
-    → OwnLeft g q t i n cache chip cache chip own n
-all_own_left e =
-    record {
-      ahead = λ j h. refl;
-      are_left = e;
-      looked = λ m cache₀ chip₀ before. before;
-    }
-
 module _ {g : Geometry} {q t i n : ℕ} {cache₀ chip₀ cache chip : List ℕ} {left k : ℕ}
     (before : OwnLeft g q t i n cache₀ chip₀ cache chip left k) where
   abbrev own : ℕ → Bool
