@@ -1,7 +1,7 @@
 -- The changed entries of one translation page, from the last entry down: those from rank i on have been looked at, what is left to set and to
 -- make unchanged makes it whole, and nothing is left once as many entries of the page were met as it has words.
-use Rattle.std.specs.Prelude.{◌≡◌, ℕ, zero, suc, ◌+◌, ◌-◌, ◌*◌, ◌<◌, ◌≤◌, Bool, true, false, cond, ◌≢◌, List, [], ◌∷◌, ◌++◌, length, get_or, ◌==◌, nat_eq, slice_index_or, slice_set}
-use Rattle.std.proofs.Common.{add-zero, add-one, arith, ◌∙◌, subst, eq-eqb, ne_eqb}
+use Rattle.std.specs.Prelude.{◌≡◌, ℕ, zero, suc, ◌+◌, ◌-◌, ◌*◌, ◌<◌, ◌≤◌, Bool, true, false, cond, List, [], ◌∷◌, ◌++◌, length, get_or, ◌==◌, nat_eq, slice_index_or, slice_set}
+use Rattle.std.proofs.Common.{add-zero, add-one, arith, ◌∙◌, subst}
 use Rattle.std.proofs.Math.Path.{refl, sym, ap}
 use mathlib.Core.List.{append_assoc, append-nil}
 use Rattle.std.proofs.Math.ListN.{length-set}
@@ -14,8 +14,8 @@ use Rattle.scope.specs.Counting.{count}
 use Rattle.scope.specs.Lent.{none, Mapping, entry_words, words_of, logical_at, physical_at, translation_page, translation_word}
 use Rattle.scope.specs.Cache.{mapping_at, is_changed, is_changed_of, changed_of, unchanged_of}
 use Rattle.scope.specs.Steps.{set_words}
-use Rattle.flash.specs.Cases.{on, same?}
-use Rattle.flash.specs.Counting.{count_le, count_add, count_same, none_counted}
+use Rattle.flash.specs.Cases.{on}
+use Rattle.flash.specs.Counting.{count_add, count_same, none_counted}
 use Rattle.cache.specs.Neighbours.{test_of_page, test_of_other, changed_more, changed_no_more, none_changed}
 use Rattle.steps.specs.Lies.{ChipLent}
 use Rattle.index.specs.Words.{WordsSet, none_set, one_set}
@@ -182,15 +182,6 @@ pub record OwnLeft (g : Geometry) (q t i n : ℕ) (cache₀ chip₀ cache chip :
   pub ahead : (j : ℕ) → j < i + k → logical_at j cache ≡ logical_at j cache₀
   pub are_left : left ≡ count k (λ j. of_page_at g t cache₀ (i + j))
   pub looked : LooksAt g q t (i + k) (i + n) cache₀ chip₀ cache chip
-
-pub all_own_left : {g : Geometry} {q t i n : ℕ} {cache chip : List ℕ} {own : ℕ} → own ≡ count n (λ j. of_page_at g t cache (i + j))
-    → OwnLeft g q t i n cache chip cache chip own n
-all_own_left e =
-    record {
-      ahead = λ j h. refl;
-      are_left = e;
-      looked = λ m cache₀ chip₀ before. before;
-    }
 
 module _ {g : Geometry} {q t i n : ℕ} {cache₀ chip₀ cache chip : List ℕ} {left k : ℕ}
     (before : OwnLeft g q t i n cache₀ chip₀ cache chip left k) where

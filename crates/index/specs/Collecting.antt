@@ -1,7 +1,7 @@
 -- A collection of the translation region: what each of its parts asks for, from what the parts before it did, and that together they make
 -- room.
-use Rattle.std.specs.Prelude.{◌≡◌, ℕ, ◌+◌, ◌*◌, ◌<◌, ◌≤◌, List, [], length, slice_index, refl}
-use Rattle.std.proofs.Common.{◌∙◌, arith}
+use Rattle.std.specs.Prelude.{ℕ, ◌+◌, ◌*◌, List, [], slice_index}
+use Rattle.std.proofs.Common.{arith}
 use Rattle.scope.specs.Geometry.{Geometry}
 use Rattle.scope.specs.Regions.{Translation}
 use Rattle.scope.specs.Lent.{Mapping}

@@ -22,9 +22,6 @@ pub record MovesAhead (n n' : ℕ) (words words' : List ℕ) : Type 0 where
   pub most : n' ≤ n + 1
   pub behind : (j : ℕ) → n * move_words + move_words ≤ j → slice_index words' j ≡ slice_index words j
 
-pub all_ahead : {n : ℕ} {words : List ℕ} → MovesAhead n n words words
-all_ahead = record { most = omega arith; behind = λ j h. refl }
-
 -- The words of one more behind n others, and its translation page t.
 abbrev pub waits_too : ℕ → ℕ → ℕ → ℕ → List ℕ → List ℕ
 waits_too n l p t waiting = slice_set (slice_set (slice_set waiting (n * move_words) l) (n * move_words + 1) p) (n * move_words + 2) t

@@ -2,12 +2,10 @@
 -- since the others have nothing to set.
 use Rattle.std.specs.Prelude.{◌≡◌, ℕ, zero, suc, ◌+◌, ◌-◌, ◌*◌, ◌<◌, ◌≤◌, List, [], ◌∷◌, length, refl}
 use Rattle.std.proofs.Common.{sym, subst, ◌∙◌, mul-le-mul_left, add-zero, add-suc, add-one, arith}
-use Rattle.scope.specs.Geometry.{Geometry, Accepted, M, most_pages}
-use Rattle.scope.specs.Regions.{Translation}
+use Rattle.scope.specs.Geometry.{Geometry, M}
 use Rattle.scope.specs.Lent.{State, Mapping}
 use Rattle.scope.specs.Operations.{for}
 use Rattle.scope.specs.Steps.{of_page, update, update_touched, update_all}
-use Rattle.flash.specs.Bounded.{accepted_region, owners_few}
 use Rattle.flash.specs.Lengths.{Lengths, blank}
 use Rattle.cache.specs.Waiting.{Waits, of_page_waits, waiting_below, waiting_below_le}
 use Rattle.promises.specs.Parts.{IndexHolds, IndexFits}
@@ -18,10 +16,6 @@ use Rattle.lent.specs.Shapes.{RoomToCount, room_after, less_room}
 use Rattle.index.specs.Index.{Index, DoesIndex, index_state, IndexLent, index_lengths, lengths_lent, IndexReady}
 use Rattle.index.specs.Taking.{Lowest, Rest, lowest_rises}
 use Rattle.index.specs.Writing.{PageReady}
-
--- There are few translation pages.
-pub M_small : {g : Geometry} → Accepted g → M g ≤ most_pages
-M_small ok = owners_few (accepted_region ok Translation)
 
 -- How many mappings wait for translation page t and those above it.
 abbrev left : Geometry → List Mapping → ℕ → ℕ

@@ -112,19 +112,6 @@ pub record Stays (g : Geometry) (t : ℕ) (x : Mapping) (k lowest : ℕ) (words 
   pub is_lower : lowest' ≡ min lowest (translation_page g x.logical)
   pub behind : words' ≡ waits_too k x.logical x.physical (translation_page g x.logical) words
 
--- As the code has it: its translation page comes along.
-pub stays_so : {g : Geometry} {t : ℕ} (x : Mapping) {k lowest lowest' page : ℕ} {words chip words' : List ℕ}
-    → page ≡ translation_page g x.logical → page ≢ t → lowest' ≡ min lowest page
-    → words' ≡ waits_too k x.logical x.physical page words → Stays g t x k lowest words chip (k + 1) lowest' words' chip
-stays_so x {k} {lowest} {words = words} is_page other is_lower behind =
-    record {
-      other = λ e. other (is_page ∙ e);
-      same_chip = refl;
-      one_left = refl;
-      is_lower = is_lower ∙ ap (min lowest) is_page;
-      behind = behind ∙ ap (λ (p : ℕ). waits_too k x.logical x.physical p words) is_page;
-    }
-
 -- The first i mappings are taken out or left, and the words of those ahead are as they were.
 pub record TakenUpto (g : Geometry) (q t m i : ℕ) (words₀ chip₀ : List ℕ) (k lowest : ℕ) (words chip : List ℕ) : Type 0 where
   pub most : k ≤ i

@@ -79,17 +79,6 @@ pub record Begins (g : Geometry) (t : ℕ) (x : Index) (w : Work) (x' : Index) (
   pub made : DoesIndex (make_room g Translation directory_follows) x w tt (with_chip chip₁ x') w₁
   pub begins : Begun g Translation (named t x'.directory) chip₁ w₁ x'.chip w'
 
-pub begins_so : {g : Geometry} {t : ℕ} {x x₁ : Index} {chip' : List ℕ} {w w₁ w' : Work} {former : Entry}
-    → DoesIndex (make_room g Translation directory_follows) x w tt x₁ w₁ → former ≡ named t x₁.directory
-    → Begun g Translation former x₁.chip w₁ chip' w' → Begins g t x w (with_chip chip' x₁) w'
-begins_so {g} {x₁ = x₁} {chip'} {w₁ = w₁} {w'} made is_named begins =
-    record {
-      chip₁ = x₁.chip;
-      w₁ = w₁;
-      made = made;
-      begins = subst (λ e. Begun g Translation e x₁.chip w₁ chip' w') is_named begins;
-    }
-
 module _ {g : Geometry} {x x' : Index} {w w' : Work} {t : ℕ} (ready : PageReady g x w t) (b : Begins g t x w x' w') where
   before : Roomy g (with_chip b.chip₁ x') b.w₁ t 2
   before = roomy ready b.made

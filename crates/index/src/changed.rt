@@ -109,7 +109,8 @@ fn set_stretch(
     met + own
 }
 
-// All of the first n. A page has no more entries than words: once so many were met the others are of other pages.
+// All of the first n: the stretches, from the last down, and then those before the first stretch. A page has no more entries than words: once
+// so many were met the others are of other pages.
 pub(crate) fn set_changed(
     g: Geometry,
     q: u32,

@@ -7,34 +7,15 @@ use Rattle.index.specs.OfPage.{of_page_at, stretch}
 use Rattle.index.specs.Changed.{looks_past}
 use Rattle.index.proofs.changed.set_stretch.Goals as goal
 
-pub own_in-own-requires : goal.own_in-own-requires
-own_in-own-requires c = (c.requires.of_pages.0, c.requires.of_pages.1, c.requires.i_bound.0)
-
-pub returns-then-own-eq0 : goal.returns-then-own-eq0
-returns-then-own-eq0 c =
+pub returns-then-own-eq0-clause-looks_at : goal.returns-then-own-eq0-clause-looks_at
+returns-then-own-eq0-clause-looks_at c =
     let own : ℕ → Bool =
     λ k. of_page_at (geometry c.args.g) c.args.t c.args.cache.now (c.args.i + k) in
     let none-met : count stretch own ≡ 0 = sym c.own_in-own.ensures ∙ c.if-own-eq0.true in
-    record {
-      value = omega (arith, none-met);
-      looks_at = looks_past stretch none-met;
-    }
-
-pub set_own-requires : goal.set_own-requires
-set_own-requires c = record {
-  chip_lent = c.requires.chip_lent;
-  of_pages = (c.requires.of_pages.0, c.requires.of_pages.1, c.requires.i_bound.0);
-  own_value = c.own_in-own.ensures;
-}
+    looks_past stretch none-met
 
 pub overflow_add-result : goal.overflow_add-result
 overflow_add-result c =
     let own : ℕ → Bool =
     λ k. of_page_at (geometry c.args.g) c.args.t c.args.cache.now (c.args.i + k) in
     omega (arith, c.requires.i_bound.1, c.own_in-own.ensures, count_le stretch own)
-
-pub returns : goal.returns
-returns c = record {
-  value = omega (arith, c.own_in-own.ensures);
-  looks_at = c.set_own.ensures;
-}

@@ -4,4 +4,3 @@ use Rattle.index.proofs.room.names_moved.Given as goal
 
 abbrev pub invariant-loop-i : goal.invariant-loop-i
 invariant-loop-i l = NamedUpto l.moves l.i l.initial.directory l.directory
-

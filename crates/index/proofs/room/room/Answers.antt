@@ -8,24 +8,9 @@ use Rattle.copying.specs.Choice.{Chosen}
 use Rattle.index.specs.Collecting.{chosen_does}
 use Rattle.index.proofs.room.room.Goals as goal
 
-pub collect-requires : goal.collect-requires
-collect-requires c =
-    let a = c.args in
-    let chosen = subst (λ (o : Option ℕ). Chosen (geometry a.flash.now.g) Translation a.flash.now.spare.now a.work.now o c.choose.new.work)
-    c.in-Some.is c.choose.ensures in
-    rw chosen.1 (c.requires, chosen.0)
-
 pub returns-in_default : goal.returns-in_default
 returns-in_default c =
     let a = c.args in
     let chosen = subst (λ (o : Option ℕ). Chosen (geometry a.flash.now.g) Translation a.flash.now.spare.now a.work.now o c.choose.new.work)
     c.in_default.is c.choose.ensures in
     record { does = chosen_does chosen; same = same_lent }
-
-pub returns-in-Some : goal.returns-in-Some
-returns-in-Some c =
-    let a = c.args in
-    let chosen = subst (λ (o : Option ℕ). Chosen (geometry a.flash.now.g) Translation a.flash.now.spare.now a.work.now o c.choose.new.work)
-    c.in-Some.is c.choose.ensures in
-    let collected = rw chosen.1 at c.collect.ensures.does in
-    record { does = collected; same = c.collect.ensures.same }

@@ -5,4 +5,3 @@ use Rattle.index.proofs.touched.take_words.Given as goal
 
 abbrev pub invariant-loop-i : goal.invariant-loop-i
 invariant-loop-i l = TakenUpto (geometry l.g) l.q l.t l.m l.i l.initial.waiting l.initial.chip l.left.n l.left.lowest l.waiting l.chip
-
