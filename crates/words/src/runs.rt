@@ -38,7 +38,11 @@ pub fn copy_out(dst: &mut [u32], src: &[u32], from: usize)
     requires { from + length dst.old ≤ length src.now }
     ensures { dst.new ≡ take (length dst.old) (drop from src.now) }
 {
-    dst.copy_from_slice(&src[from..from + dst.len()]);
+    // Kept: (b) these are wide moves in place; `copy_from_slice` calls memmove behind a test, and a run of reads of pages of 512
+    // words then takes 1.1 times as long.
+    for i in 0..dst.len() {
+        dst[i] = src[from + i];
+    }
 }
 
 // Two words at `at`; three.
