@@ -8,9 +8,6 @@ use Rattle.entries.specs.Entries.{part_entered, enter_does}
 use Rattle.entries.specs.Filter.{filter_gains}
 use Rattle.entries.proofs.enter.Goals as goal
 
-pub put-requires : goal.put-requires
-put-requires c = omega (arith, c.bit_of.ensures, bit_below c.args.l)
-
 pub returns : goal.returns
 returns c = let a = c.args in
     let (fits, few, before) = c.requires.used_in_cache in

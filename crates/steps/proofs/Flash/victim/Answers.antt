@@ -5,16 +5,6 @@ use Rattle.steps.specs.Flash.{bounded, searchable}
 use Rattle.steps.specs.Census.{victim_found}
 use Rattle.steps.proofs.Flash.victim.Goals as goal
 
-pub fewest_below-requires : goal.fewest_below-requires
-fewest_below-requires c =
-    (searchable c.args.self.now (region c.args.r) c.first_block-first.ensures c.region_blocks-n.ensures).inside
-
-pub overflow_add-result : goal.overflow_add-result
-overflow_add-result c = omega (arith, searchable c.args.self.now (region c.args.r) c.first_block-first.ensures c.region_blocks-n.ensures)
-
-pub overflow_cast-result : goal.overflow_cast-result
-overflow_cast-result c = omega (arith, searchable c.args.self.now (region c.args.r) c.first_block-first.ensures c.region_blocks-n.ensures)
-
 pub returns : goal.returns
 returns c = let f = c.args.self.now in
     λ s lent. victim_found (bounded f) f.counted (region c.args.r) c.first_block-first.ensures c.region_blocks-n.ensures s lent c.fewest_below.ensures.1

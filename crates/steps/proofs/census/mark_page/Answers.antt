@@ -9,26 +9,12 @@ use Rattle.scope.specs.Regions.{page_in}
 use Prim.Native.Nat.{◌/◌, ◌%◌, ◌<◌}
 use Rattle.steps.proofs.census.mark_page.Goals as goal
 
-pub nonzero_div-p : goal.nonzero_div-p
-nonzero_div-p c = omega (arith, c.requires.spare_lent.0.bounded.P_from)
-
-pub overflow_cast-p : goal.overflow_cast-p
-overflow_cast-p c = let lent = c.requires.spare_lent in
-    let at = page_lies (geometry c.args.g) c.args.p lent.0.bounded.P_from lent.1 in
-    omega (arith, at.0, lent.0.bounded.blocks_to)
-
-pub state_at-requires : goal.state_at-requires
-state_at-requires c = (spare_lies c.requires.spare_lent.0 c.args.p c.requires.spare_lent.1).words
-
 pub restate-requires : goal.restate-requires
 restate-requires c = let lent = c.requires.spare_lent in
     let at = page_lies (geometry c.args.g) c.args.p lent.0.bounded.P_from lent.1 in
     let a = c.args in
     let r = restatable lent.0 c.requires.counted (a.p / a.g.p) (a.p % a.g.p) at.0 at.1 at.2 c.state_at.ensures in
     (r.inside, r.has, r.little)
-
-pub set_state-requires : goal.set_state-requires
-set_state-requires c = (spare_lies c.requires.spare_lent.0 c.args.p c.requires.spare_lent.1).words
 
 pub returns : goal.returns
 returns c = let lent = c.requires.spare_lent in
