@@ -1,9 +1,7 @@
 -- What a step on flash promises of it: its definition is done, whatever else the state holds, under the geometry that it had and in the
 -- slices that were lent. And what every step may rely on, as the leaves ask for it.
-use Rattle.std.specs.Prelude.{ℕ, ◌+◌, ◌≤◌, ◌≡◌, refl, length}
+use Rattle.std.specs.Prelude.{◌≡◌, refl}
 use Rattle.std.proofs.Common.{◌∙◌}
-use Rattle.scope.specs.Geometry.{most_pages_in_block, most_blocks}
-use Rattle.scope.specs.Regions.{Region, first_block, region_blocks}
 use Rattle.scope.specs.Operations.{Step}
 use Rattle.flash.specs.Bounded.{Bounded, accepted_bounded}
 use Rattle.lent.specs.declared.Geometry.{Geometry as Numbers}
@@ -12,7 +10,6 @@ use Rattle.lent.specs.Model.{geometry}
 use Rattle.lent.specs.Shapes.{DoesFlash}
 use Rattle.steps.specs.declared.Flash.{Flash}
 use Rattle.steps.specs.Lies.{ChipLent, SpareLent}
-use Rattle.steps.specs.Census.{numbers_lie, blocks_few}
 
 -- The geometry and the slices are those before.
 pub record SameLent {N : Type 0} (g g' : Numbers) (chip chip' spare spare' census census' : N) : Type 0 where
@@ -63,18 +60,3 @@ module _ (f : Flash) where
 
   pub spare_lent : SpareLent (geometry f.g) f.spare.now
   spare_lent = record { bounded = bounded; spare_fits = f.spare_fits }
-
--- A region's n numbers from `first` on lie in the census, and no number or place that a search of them comes to wraps.
-pub record Searchable (f : Flash) (first n : ℕ) : Type 0 where
-  pub inside : first + n ≤ length f.census.now
-  pub few : first + n ≤ most_blocks
-  pub P_to : f.g.p ≤ most_pages_in_block
-
-pub searchable : (f : Flash) (r : Region) {first n : ℕ} → first ≡ first_block (geometry f.g) r → n ≡ region_blocks (geometry f.g) r
-    → Searchable f first n
-searchable f r is_first is_n =
-    record {
-      inside = numbers_lie (bounded f) f.counted r is_first is_n;
-      few = blocks_few (bounded f) f.counted r is_first is_n;
-      P_to = (bounded f).P_to;
-    }

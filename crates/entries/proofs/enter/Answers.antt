@@ -1,9 +1,7 @@
 -- `entries::enter` meets its contract: the trial part, with the entry in front, behind the protected one.
 use Prim.Native.Nat.{◌-◌, ◌*◌}
 use mathlib.Core.Path.{refl}
-use native.Mathlib.Omega.{arith}
 use Rattle.scope.specs.Lent.{entry_words}
-use Rattle.words.specs.Filter.{bit_below}
 use Rattle.entries.specs.Entries.{part_entered, enter_does}
 use Rattle.entries.specs.Filter.{filter_gains}
 use Rattle.entries.proofs.enter.Goals as goal

@@ -3,11 +3,10 @@ use Prim.Native.Nat.{◌+◌, ◌-◌, ◌*◌, ◌%◌, ◌<◌}
 use mathlib.Core.Path.{refl, sym, ap, ◌∙◌}
 use native.Mathlib.Omega.{arith}
 use lib.ListN.{length}
-use borrow.Author.Tests.{eqb-true, eqb-false}
+use borrow.Author.Tests.{eqb-true}
 use Rattle.scope.specs.Lent.{entry_words}
-use Rattle.flash.specs.Cases.{same?, below?}
 use Rattle.words.specs.Bitmap.{has}
-use Rattle.words.specs.Entries.{entry_has, entry_differs, found_among, none_among}
+use Rattle.words.specs.Entries.{entry_has, found_among}
 use Rattle.lent.specs.Model.{geometry}
 use Rattle.entries.specs.Entries.{rank_only, rank_none}
 use Rattle.entries.specs.Filter.{filter_misses}

@@ -1,7 +1,6 @@
 -- `entries::rank_of` meets its contract.
 use mathlib.Core.Path.{sym, ap, ◌∙◌}
 use Rattle.words.specs.Bitmap.{has}
-use Rattle.words.specs.Filter.{bit_below}
 use native.Mathlib.Omega.{arith}
 use Rattle.scope.specs.Sound.{rank_of}
 use Rattle.lent.specs.Model.{geometry}

@@ -1,10 +1,9 @@
 -- `steps::Flash::begin_next` meets its contract, for a former page and for none.
-use mathlib.Core.Path.{refl, ap}
+use mathlib.Core.Path.{ap}
 use native.Mathlib.Omega.{arith}
 use Rattle.steps.specs.Lies.{next_words_lie, words_lie, pages_apart}
-use Rattle.steps.specs.Flash.{bounded, chip_lent, same_lent}
-use Rattle.steps.specs.Chip.{begun_is}
-use Rattle.lent.specs.Model.{geometry, region, entry}
+use Rattle.steps.specs.Flash.{chip_lent}
+use Rattle.lent.specs.Model.{entry}
 use Rattle.steps.proofs.Flash.begin_next.Goals as goal
 
 pub fill_erased-requires : goal.fill_erased-requires
@@ -17,4 +16,3 @@ copy_within-requires c = let from = words_lie (chip_lent c.args.self.now) _ (c.r
       n_in_bounds = (from.words, to.words);
       fact = pages_apart c.args.self.now.g.w _ c.next_page-q.result;
     }
-

@@ -1,7 +1,7 @@
 -- `steps::Flash::erase` meets its contract: the block's words and states are filled, and an erase is counted.
 use native.Mathlib.Omega.{arith}
 use mathlib.Core.Path.{refl}
-use Rattle.steps.specs.Lies.{BlockLies, block_lies}
+use Rattle.steps.specs.Lies.{block_lies}
 use Rattle.steps.specs.Flash.{same_lent, chip_lent, spare_lent}
 use Rattle.steps.specs.Chip.{erase_does}
 use Rattle.lent.specs.Model.{geometry}

@@ -1,7 +1,6 @@
 -- `steps::Flash::erased_blocks` meets its contract: the erased blocks have the number of P erased pages.
-use native.Mathlib.Omega.{arith}
 use Rattle.lent.specs.Model.{region}
-use Rattle.steps.specs.Flash.{bounded, searchable}
+use Rattle.steps.specs.Flash.{bounded}
 use Rattle.steps.specs.Census.{erased_counted}
 use Rattle.steps.proofs.Flash.erased_blocks.Goals as goal
 

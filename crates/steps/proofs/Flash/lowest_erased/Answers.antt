@@ -1,7 +1,6 @@
 -- `steps::Flash::lowest_erased` meets its contract: the erased blocks have the number of P erased pages.
-use native.Mathlib.Omega.{arith}
 use Rattle.lent.specs.Model.{region}
-use Rattle.steps.specs.Flash.{bounded, searchable}
+use Rattle.steps.specs.Flash.{bounded}
 use Rattle.steps.specs.Census.{lowest_found}
 use Rattle.steps.proofs.Flash.lowest_erased.Goals as goal
 

@@ -1,10 +1,9 @@
 -- `steps::Flash::program_next` meets its contract: the words are copied in, and the page is claimed.
 use native.Mathlib.Omega.{arith}
 use mathlib.Core.Path.{◌∙◌}
-use Rattle.steps.specs.Lies.{WordsLie, next_words_lie}
-use Rattle.steps.specs.Flash.{bounded, chip_lent}
+use Rattle.steps.specs.Lies.{next_words_lie}
+use Rattle.steps.specs.Flash.{chip_lent}
 use Rattle.steps.specs.Chip.{program_does}
-use Rattle.lent.specs.Model.{geometry}
 use Rattle.steps.proofs.Flash.program_next.Goals as goal
 
 pub copy_in-requires : goal.copy_in-requires

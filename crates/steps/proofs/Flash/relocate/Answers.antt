@@ -1,11 +1,8 @@
 -- `steps::Flash::relocate` meets its contract: a copy, a claim with the page's own owner, and a mark.
-use native.Mathlib.Omega.{arith}
 use mathlib.Core.Path.{refl, ◌∙◌}
 use Rattle.steps.specs.Lies.{next_words_lie, words_lie, pages_apart}
-use Rattle.steps.specs.Flash.{bounded, chip_lent, spare_lent, then_same}
+use Rattle.steps.specs.Flash.{chip_lent, then_same}
 use Rattle.steps.specs.Chip.{relocate_does}
-use Rattle.lent.specs.Model.{geometry}
-use Rattle.lent.specs.Shapes.{less_room, room_after_read}
 use Rattle.steps.proofs.Flash.relocate.Goals as goal
 
 pub copy_within-requires : goal.copy_within-requires

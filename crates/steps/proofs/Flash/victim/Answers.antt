@@ -1,7 +1,6 @@
 -- `steps::Flash::victim` meets its contract: a block with no erased page has a number below that of one.
-use native.Mathlib.Omega.{arith}
 use Rattle.lent.specs.Model.{region}
-use Rattle.steps.specs.Flash.{bounded, searchable}
+use Rattle.steps.specs.Flash.{bounded}
 use Rattle.steps.specs.Census.{victim_found}
 use Rattle.steps.proofs.Flash.victim.Goals as goal
 

@@ -1,10 +1,5 @@
 -- `steps::census::claim_page` meets its contract: the page lies in its block, whose number goes with its state.
-use native.Mathlib.Omega.{arith}
-use Rattle.scope.specs.Geometry.{blocks}
-use Rattle.flash.specs.Stores.{slot_below}
-use Rattle.steps.specs.Lies.{SpareLies, spare_lies}
 use Rattle.steps.specs.Census.{in_spare, restatable, claim_kept}
-use Rattle.lent.specs.Model.{geometry}
 use Rattle.steps.proofs.census.claim_page.Goals as goal
 
 pub state_at-requires : goal.state_at-requires

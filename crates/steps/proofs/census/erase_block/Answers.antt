@@ -1,11 +1,6 @@
 -- `steps::census::erase_block` meets its contract: the block's spare words are filled, and its number is that of erased pages.
-use native.Mathlib.Omega.{arith}
-use Rattle.std.proofs.Common.{mul-le-mul_right}
-use Rattle.scope.specs.Geometry.{Geometry, blocks}
-use Rattle.flash.specs.Bounded.{few_pages}
-use Rattle.steps.specs.Lies.{BlockSpares, block_spares}
+use Rattle.steps.specs.Lies.{block_spares}
 use Rattle.steps.specs.Census.{census_erased}
-use Rattle.lent.specs.Model.{geometry}
 use Rattle.steps.proofs.census.erase_block.Goals as goal
 
 pub returns : goal.returns

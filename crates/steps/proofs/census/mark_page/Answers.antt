@@ -1,12 +1,7 @@
 -- `steps::census::mark_page` meets its contract.
-use mathlib.Core.Path.{◌≡◌}
-use native.Mathlib.Omega.{arith}
-use Rattle.steps.specs.Lies.{SpareLies, spare_lies}
 use Rattle.steps.specs.Census.{page_lies, restatable, mark_kept}
 use Rattle.lent.specs.Model.{geometry}
-use Rattle.scope.specs.Geometry.{blocks}
-use Rattle.scope.specs.Regions.{page_in}
-use Prim.Native.Nat.{◌/◌, ◌%◌, ◌<◌}
+use Prim.Native.Nat.{◌/◌, ◌%◌}
 use Rattle.steps.proofs.census.mark_page.Goals as goal
 
 pub restate-requires : goal.restate-requires
