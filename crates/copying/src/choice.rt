@@ -3,8 +3,8 @@ ghost use Rattle.lent.specs.Model.{geometry, region};
 ghost use Rattle.copying.specs.Choice.{Chosen};
 
 use lent::{Region, Work};
-use steps::blocks::next_offset;
 use steps::Flash;
+use steps::blocks::next_offset;
 
 // "If the open block's offset is below P, nothing. Else, if two or more blocks are wholly erased, open the lowest. Else collect": the block
 // to collect, if it comes to that.

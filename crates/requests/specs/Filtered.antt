@@ -6,12 +6,11 @@ use Rattle.std.proofs.Math.Path.{subst, subst₂}
 use mathlib.Core.List.{List}
 use Rattle.scope.specs.Geometry.{Geometry}
 use Rattle.scope.specs.Regions.{Region, Data}
-use Rattle.scope.specs.Lent.{Entry, Place, Nowhere, State, logical_at}
+use Rattle.scope.specs.Lent.{State, logical_at}
 use Rattle.scope.specs.Sound.{rank_of}
 use Rattle.scope.specs.Operations.{Counts, Erase, apply, give, look, perform, set_cache, set_small, ◌>>=◌}
 use Rattle.scope.specs.Room.{read_page, program_next}
 use Rattle.scope.specs.Cache.{touch, forget, set_entry}
-use Rattle.scope.specs.Requests.{Replied, read_place}
 use Rattle.flash.specs.Lengths.{some_state}
 use Rattle.cache.specs.Ranks.{rank_found}
 use Rattle.lent.specs.declared.Work.{Work}

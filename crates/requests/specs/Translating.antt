@@ -3,9 +3,9 @@ use Rattle.std.specs.Prelude.{ℕ, ◌-◌, ◌≤◌, ◌<◌, ◌≡◌, refl,
 use Rattle.std.proofs.Common.{sym, ap, subst, ◌∙◌, arith, lt-ltb, le-ltb}
 use Rattle.scope.specs.Geometry.{Geometry, Accepted, pages}
 use Rattle.scope.specs.Regions.{Translation}
-use Rattle.scope.specs.Lent.{Entry, Place, Nowhere, State, with_flash, with_directory, with_cache, chip_size, directory_size, cache_size, named, logical_at, translation_page}
+use Rattle.scope.specs.Lent.{Entry, Place, Nowhere, State, with_flash, with_cache, chip_size, directory_size, cache_size, named, logical_at, translation_page}
 use Rattle.scope.specs.Sound.{rank_of, Names}
-use Rattle.scope.specs.Operations.{Counts, Step, apply, give, look, nothing, perform, ◌>>=◌}
+use Rattle.scope.specs.Operations.{Counts, apply, give, look, nothing, perform, ◌>>=◌}
 use Rattle.scope.specs.Room.{read_page}
 use Rattle.scope.specs.Cache.{dropped, touch, enter, forget, is_changed, changed_of, unchanged_of, become_unchanged}
 use Rattle.scope.specs.Steps.{update, write_back, drop_entry, drop_if_full, word_for, fetch, translate}
@@ -20,7 +20,7 @@ use Rattle.lent.specs.declared.Work.{Work}
 use Rattle.lent.specs.Model.{Lists, together, with_rec, small, counts}
 use Rattle.lent.specs.Does.{Does}
 use Rattle.lent.specs.DoesLaws.{does_ends, does_give, does_look, does_look_at, does_bind, does_cond_true, does_cond_false, does_set_cache}
-use Rattle.lent.specs.Ready.{DoesAll, Ready, ReadyFor, countable_after}
+use Rattle.lent.specs.Ready.{Ready, ReadyFor, countable_after}
 use Rattle.index.specs.Index.{index_in, lengths_lent}
 use Rattle.index.specs.Writing.{PageReady}
 use Rattle.lent.specs.Shapes.{DoesByChip, RoomToCount, less_room}

@@ -173,6 +173,11 @@ module _ {g : Geometry} {spare census : List ℕ} (kept : Census g spare census)
       of_other c other =
           sum_same g.P _ _ (λ j l. ap weight (new.others (page_in g c j) (λ q. other (slot_same g.P c b j i l k q))))
 
+-- Its words lie in the spare.
+pub in_spare : {g : Geometry} {spare : List ℕ} → SpareLent g spare → (b i : ℕ) {q : ℕ} → b < blocks g → i < g.P → q ≡ page_in g b i
+    → (q + 1) * spare_words ≤ length spare
+in_spare {g} lent b i {q} h k is = (spare_lies lent q (rw is (slot_below g.P (blocks g) b i h k))).words
+
 -- What `restate` asks for, and what it leaves: page q is page i of block b, and in the state `old`.
 pub record Restatable (census : List ℕ) (b old : ℕ) : Type 0 where
   pub inside : b < length census
@@ -182,7 +187,7 @@ pub record Restatable (census : List ℕ) (b old : ℕ) : Type 0 where
 module _ {g : Geometry} {spare census : List ℕ} (lent : SpareLent g spare) (kept : Census g spare census) (b i : ℕ) {q old : ℕ}
     (h : b < blocks g) (k : i < g.P) (is : q ≡ page_in g b i) (is-old : old ≡ state_of q spare) where
   lies : (q + 1) * spare_words ≤ length spare
-  lies = (spare_lies lent q (rw is (slot_below g.P (blocks g) b i h k))).words
+  lies = in_spare lent b i h k is
 
   its_state : state_of (page_in g b i) spare ≡ old
   its_state = ap (λ (p : ℕ). state_of p spare) (sym is) ∙ sym is-old

@@ -12,9 +12,9 @@ ghost use Rattle.steps.specs.Lies.{ChipLent, next_page, HasNext};
 ghost use Rattle.steps.specs.Chip.{Claimed, Begun, marked, relocate};
 ghost use Rattle.steps.specs.Flash.{FlashDoes, SameFlash, OnlySpare, OnlyChip};
 
+use crate::Flash;
 use crate::blocks::{next_offset, open_block, set_open};
 use crate::census::{claim_page, erase_block, mark_page};
-use crate::Flash;
 use lent::{Geometry, NONE, Record, Region, VALID, Work};
 use words::runs::{copy_in, copy_out, copy_within, fill_erased};
 use words::spare::{owner_at, state_at};

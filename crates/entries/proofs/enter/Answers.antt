@@ -1,15 +1,10 @@
 -- `entries::enter` meets its contract: the trial part, with the entry in front, behind the protected one.
 use Prim.Native.Nat.{◌-◌, ◌*◌}
 use mathlib.Core.Path.{refl}
-use native.Mathlib.Omega.{arith}
 use Rattle.scope.specs.Lent.{entry_words}
-use Rattle.words.specs.Filter.{bit_below}
 use Rattle.entries.specs.Entries.{part_entered, enter_does}
 use Rattle.entries.specs.Filter.{filter_gains}
 use Rattle.entries.proofs.enter.Goals as goal
-
-pub put-requires : goal.put-requires
-put-requires c = omega (arith, c.bit_of.ensures, bit_below c.args.l)
 
 pub returns : goal.returns
 returns c = let a = c.args in

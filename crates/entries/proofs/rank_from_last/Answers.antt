@@ -3,11 +3,10 @@ use Prim.Native.Nat.{◌+◌, ◌-◌, ◌*◌, ◌%◌, ◌<◌}
 use mathlib.Core.Path.{refl, sym, ap, ◌∙◌}
 use native.Mathlib.Omega.{arith}
 use lib.ListN.{length}
-use borrow.Author.Tests.{eqb-true, eqb-false}
+use borrow.Author.Tests.{eqb-true}
 use Rattle.scope.specs.Lent.{entry_words}
-use Rattle.flash.specs.Cases.{same?, below?}
 use Rattle.words.specs.Bitmap.{has}
-use Rattle.words.specs.Entries.{entry_has, entry_differs, found_among, none_among}
+use Rattle.words.specs.Entries.{entry_has, found_among}
 use Rattle.lent.specs.Model.{geometry}
 use Rattle.entries.specs.Entries.{rank_only, rank_none}
 use Rattle.entries.specs.Filter.{filter_misses}
@@ -17,9 +16,6 @@ pub returns-then-not-has : goal.returns-then-not-has
 returns-then-not-has c = let a = c.args in
     let clear = ap (has a.filter.now) (sym c.bit_of.ensures) ∙ sym c.has.ensures ∙ c.if-not-has.true in
     (omega arith, filter_misses c.requires.filter (geometry a.g) a.l clear)
-
-pub loop-turn-init : goal.loop-turn-init
-loop-turn-init c = λ k h j. absurd (omega arith)
 
 pub returns-then-k-lt4 : goal.returns-then-k-lt4
 returns-then-k-lt4 c = let a = c.args in
@@ -31,16 +27,6 @@ returns-then-k-lt4 c = let a = c.args in
           (eqb-true _ _ (found_among a.cache.now a.l first 4 k c.among_four-k.ensures c.if-k-lt4.true)),
     )
 
-pub loop-turn-preserved : goal.loop-turn-preserved
-loop-turn-preserved c = let a = c.args in
-    let first = a.rec.used % 4 + (c.loop-turn.turn - 1) * 4 in
-    λ k h j. below? k (first + 4)
-    (λ low. eqb-false _ _ (none_among a.cache.now a.l first 4 c.among_four-k.result c.among_four-k.ensures c.if-k-lt4.false k h low))
-    (λ high. c.loop-turn.invariant k (omega (arith, c.loop-turn-test.true)) j)
-
-pub loop-i-init : goal.loop-i-init
-loop-i-init c = λ k h j. c.loop-turn.invariant k (omega (arith, c.loop-turn-test.false)) j
-
 pub returns-then-cache-i : goal.returns-then-cache-i
 returns-then-cache-i c = let a = c.args in
     let i = c.loop-i.i - 1 in
@@ -50,15 +36,6 @@ returns-then-cache-i c = let a = c.args in
       rank_only (geometry a.g) a.cache.now a.l c.requires.cache_lent.used_to c.requires.different _ in_use
           (eqb-true _ _ (entry_has a.cache.now a.l i (i * entry_words) refl lies c.if-cache-i.true)),
     )
-
-pub loop-i-preserved : goal.loop-i-preserved
-loop-i-preserved c = let a = c.args in
-    let i = c.loop-i.i - 1 in
-    let lies : i * entry_words < length a.cache.now =
-    omega (arith, c.requires.cache_lent.cache_fits, c.requires.cache_lent.used_to, c.loop-i.auto.i, c.loop-i-test.true) in
-    λ k h j. same? k i
-    (λ here. eqb-false _ _ (entry_differs a.cache.now a.l k (i * entry_words) (omega arith) lies c.if-cache-i.false))
-    (λ other. c.loop-i.invariant k (omega arith) j)
 
 pub returns : goal.returns
 returns c = let a = c.args in (

@@ -1,21 +1,14 @@
 -- `entries::rank_of` meets its contract.
 use mathlib.Core.Path.{sym, ap, ◌∙◌}
 use Rattle.words.specs.Bitmap.{has}
-use Rattle.words.specs.Filter.{bit_below}
 use native.Mathlib.Omega.{arith}
 use Rattle.scope.specs.Sound.{rank_of}
 use Rattle.lent.specs.Model.{geometry}
 use Rattle.entries.specs.Filter.{filter_misses}
 use Rattle.entries.proofs.rank_of.Goals as goal
 
-pub has-requires : goal.has-requires
-has-requires c = omega (arith, c.bit_of.ensures, bit_below c.args.l)
-
 pub returns-then-not-has : goal.returns-then-not-has
 returns-then-not-has c = (omega arith, filter_misses c.requires.filter (geometry c.args.g) c.args.l (ap (has c.args.filter.now) (sym c.bit_of.ensures) ∙ sym c.has.ensures ∙ c.if-not-has.true))
-
-pub rank_of-requires : goal.rank_of-requires
-rank_of-requires c = (c.requires.cache_lent.used_to, omega (arith, c.requires.cache_lent.cache_fits))
 
 pub returns : goal.returns
 unfolding rank_of

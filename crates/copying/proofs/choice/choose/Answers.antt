@@ -3,7 +3,7 @@ use Prim.Native.Nat.{◌≤◌}
 use native.Mathlib.Omega.{arith}
 use Rattle.scope.specs.SmallRecord.{next_offset}
 use Rattle.lent.specs.Model.{geometry, region, small}
-use Rattle.copying.specs.Choice.{room_chosen, open_chosen, victim_chosen}
+use Rattle.copying.specs.Choice.{room_chosen, open_chosen}
 use Rattle.copying.proofs.choice.choose.Goals as goal
 
 pub returns-then-next_offset-flash : goal.returns-then-next_offset-flash
@@ -16,10 +16,3 @@ returns-then-erased_blocks-ge2 c = let a = c.args in
     omega (arith, c.if-next_offset-flash.false, c.next_offset.ensures) in
     open_chosen (geometry a.flash.now.g) (region a.r) full c.erased_blocks.ensures c.if-erased_blocks-ge2.true
     c.open_lowest.ensures
-
-pub returns : goal.returns
-returns c = let a = c.args in
-    let full : a.flash.now.g.p ≤ next_offset (region a.r) (small a.work.now.rec) =
-    omega (arith, c.if-next_offset-flash.false, c.next_offset.ensures) in
-    victim_chosen (geometry a.flash.now.g) (region a.r) full c.erased_blocks.ensures
-    (omega (arith, c.if-erased_blocks-ge2.false)) c.victim.ensures

@@ -12,9 +12,6 @@ use Rattle.copying.specs.Moves.{move_words, two_stored, stored_more}
 use Rattle.copying.specs.Copies.{valid_copied, other_passed}
 use Rattle.copying.proofs.copies.copy_if_valid.Goals as goal
 
-pub is_valid-requires : goal.is_valid-requires
-is_valid-requires c = c.requires.page_to_copy.on_chip
-
 pub returns-then-not-is_valid : goal.returns-then-not-is_valid
 returns-then-not-is_valid c =
     record {
@@ -27,35 +24,6 @@ returns-then-not-is_valid c =
       same = same_lent;
       moves_len_kept = c.requires.moves_len;
     }
-
-pub relocate-moved-requires : goal.relocate-moved-requires
-relocate-moved-requires c = let told : is_valid c.args.page c.args.flash.now.spare.now ≡ true = sym c.is_valid.ensures ∙ c.if-not-is_valid.false in
-    let ready = c.requires.page_to_copy in
-    record {
-      on_chip = ready.on_chip;
-      has_next = (ready.next, ready.countable told);
-    }
-
-pub overflow_mul-moves : goal.overflow_mul-moves
-overflow_mul-moves c = omega (arith, c.requires.page_to_copy.few, c.requires.moves_len)
-
-pub offset_bounds-moves-n : goal.offset_bounds-moves-n
-offset_bounds-moves-n c = omega (arith, c.requires.page_to_copy.few, c.requires.moves_len)
-
-pub bounds-moves-n : goal.bounds-moves-n
-bounds-moves-n c = omega (arith, c.requires.page_to_copy.few, c.requires.moves_len)
-
-pub overflow_mul-moves-2 : goal.overflow_mul-moves-2
-overflow_mul-moves-2 c = omega (arith, c.requires.page_to_copy.few, c.requires.moves_len)
-
-pub overflow_add-moves : goal.overflow_add-moves
-overflow_add-moves c = omega (arith, c.requires.page_to_copy.few, c.requires.moves_len)
-
-pub offset_bounds-moves-n-2 : goal.offset_bounds-moves-n-2
-offset_bounds-moves-n-2 c = omega (arith, c.requires.page_to_copy.few, c.requires.moves_len)
-
-pub bounds-moves-n-2 : goal.bounds-moves-n-2
-bounds-moves-n-2 c = omega (arith, c.requires.page_to_copy.few, c.requires.moves_len)
 
 pub returns : goal.returns
 returns c = let a = c.args in

@@ -1,5 +1,5 @@
 -- `copying::copies::copy_pages` meets its contract: the law of the definition says of the pages copied what the next turn asks for.
-use Prim.Native.Nat.{ℕ, ◌+◌, ◌*◌, ◌<◌}
+use Prim.Native.Nat.{ℕ, ◌+◌, ◌*◌}
 use mathlib.Core.Path.{◌≡◌, subst}
 use native.Mathlib.Omega.{arith}
 use Rattle.lent.specs.Model.{geometry, region}

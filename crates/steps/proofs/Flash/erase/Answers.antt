@@ -1,23 +1,14 @@
 -- `steps::Flash::erase` meets its contract: the block's words and states are filled, and an erase is counted.
 use native.Mathlib.Omega.{arith}
 use mathlib.Core.Path.{refl}
-use Rattle.steps.specs.Lies.{BlockLies, block_lies}
+use Rattle.steps.specs.Lies.{block_lies}
 use Rattle.steps.specs.Flash.{same_lent, chip_lent, spare_lent}
 use Rattle.steps.specs.Chip.{erase_does}
 use Rattle.lent.specs.Model.{geometry}
 use Rattle.steps.proofs.Flash.erase.Goals as goal
 
-pub overflow_mul-b : goal.overflow_mul-b
-overflow_mul-b c = let f = c.args.self.now in omega (arith, block_lies (chip_lent f) (spare_lent f) c.args.b c.requires.0)
-
 pub fill_erased-requires : goal.fill_erased-requires
 fill_erased-requires c = let f = c.args.self.now in omega (arith, block_lies (chip_lent f) (spare_lent f) c.args.b c.requires.0)
-
-pub erase_block-requires : goal.erase_block-requires
-erase_block-requires c = record {
-  spare_lent = (spare_lent c.args.self.now, c.requires.0);
-  counted = c.args.self.now.counted;
-}
 
 pub returns : goal.returns
 returns c = record {

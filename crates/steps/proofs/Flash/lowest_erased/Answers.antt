@@ -1,21 +1,9 @@
 -- `steps::Flash::lowest_erased` meets its contract: the erased blocks have the number of P erased pages.
-use native.Mathlib.Omega.{arith}
 use Rattle.lent.specs.Model.{region}
 use Rattle.steps.specs.Flash.{bounded}
-use Rattle.steps.specs.Census.{numbers_lie, blocks_few, lowest_found}
+use Rattle.steps.specs.Census.{lowest_found}
 use Rattle.steps.proofs.Flash.lowest_erased.Goals as goal
 
-pub overflow_mul-self : goal.overflow_mul-self
-overflow_mul-self c = omega (arith, (bounded c.args.self.now).P_to)
-
-pub lowest_equal-requires : goal.lowest_equal-requires
-lowest_equal-requires c = numbers_lie (bounded c.args.self.now) c.args.self.now.counted (region c.args.r) c.first_block-first.ensures c.region_blocks-n.ensures
-
-pub overflow_add-result : goal.overflow_add-result
-overflow_add-result c = omega (arith, blocks_few (bounded c.args.self.now) c.args.self.now.counted (region c.args.r) c.first_block-first.ensures c.region_blocks-n.ensures, (bounded c.args.self.now).P_to)
-
-pub overflow_cast-result : goal.overflow_cast-result
-overflow_cast-result c = omega (arith, blocks_few (bounded c.args.self.now) c.args.self.now.counted (region c.args.r) c.first_block-first.ensures c.region_blocks-n.ensures, (bounded c.args.self.now).P_to)
-
 pub returns : goal.returns
-returns c = λ s lent. lowest_found (bounded c.args.self.now) c.args.self.now.counted (region c.args.r) c.first_block-first.ensures c.region_blocks-n.ensures s lent c.lowest_equal.ensures.1
+returns c = let f = c.args.self.now in
+    λ s lent. lowest_found (bounded f) f.counted (region c.args.r) c.first_block-first.ensures c.region_blocks-n.ensures s lent c.lowest_equal.ensures.1

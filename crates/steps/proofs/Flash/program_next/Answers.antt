@@ -1,24 +1,14 @@
 -- `steps::Flash::program_next` meets its contract: the words are copied in, and the page is claimed.
 use native.Mathlib.Omega.{arith}
 use mathlib.Core.Path.{◌∙◌}
-use Rattle.steps.specs.Lies.{WordsLie, next_words_lie}
-use Rattle.steps.specs.Flash.{bounded, chip_lent}
+use Rattle.steps.specs.Lies.{next_words_lie}
+use Rattle.steps.specs.Flash.{chip_lent}
 use Rattle.steps.specs.Chip.{program_does}
-use Rattle.lent.specs.Model.{geometry}
 use Rattle.steps.proofs.Flash.program_next.Goals as goal
-
-pub next_page-q-requires : goal.next_page-q-requires
-next_page-q-requires c = (bounded c.args.self.now, c.requires.has_next.0)
-
-pub overflow_mul-q : goal.overflow_mul-q
-overflow_mul-q c = omega (arith, next_words_lie c.requires.has_next.0 c.next_page-q.ensures (chip_lent c.args.self.now))
 
 pub copy_in-requires : goal.copy_in-requires
 copy_in-requires c =
     omega (arith, next_words_lie c.requires.has_next.0 c.next_page-q.ensures (chip_lent c.args.self.now), c.requires.words_long)
-
-pub claim_next-requires : goal.claim_next-requires
-claim_next-requires c = c.requires.has_next
 
 pub returns : goal.returns
 returns c = record {

@@ -10,15 +10,9 @@ use Rattle.lent.specs.Model.{geometry}
 use Rattle.lent.specs.DoesLaws.{does_value}
 use Rattle.steps.proofs.Flash.read_page.Goals as goal
 
-pub overflow_mul-p : goal.overflow_mul-p
-overflow_mul-p c = omega (arith, words_lie (chip_lent c.args.self.now) c.args.p c.requires.on_chip)
-
 pub copy_out-requires : goal.copy_out-requires
 copy_out-requires c =
     omega (arith, words_lie (chip_lent c.args.self.now) c.args.p c.requires.on_chip, c.requires.buffer_long.0)
-
-pub add_read-requires : goal.add_read-requires
-add_read-requires c = c.requires.buffer_long.1
 
 pub returns : goal.returns
 returns c = let a = c.args in

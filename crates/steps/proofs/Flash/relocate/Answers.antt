@@ -1,21 +1,9 @@
 -- `steps::Flash::relocate` meets its contract: a copy, a claim with the page's own owner, and a mark.
-use native.Mathlib.Omega.{arith}
 use mathlib.Core.Path.{refl, ◌∙◌}
 use Rattle.steps.specs.Lies.{next_words_lie, words_lie, pages_apart}
-use Rattle.steps.specs.Flash.{bounded, chip_lent, spare_lent, then_same}
+use Rattle.steps.specs.Flash.{chip_lent, then_same}
 use Rattle.steps.specs.Chip.{relocate_does}
-use Rattle.lent.specs.Model.{geometry}
-use Rattle.lent.specs.Shapes.{less_room, room_after_read}
 use Rattle.steps.proofs.Flash.relocate.Goals as goal
-
-pub next_page-q-requires : goal.next_page-q-requires
-next_page-q-requires c = (bounded c.args.self.now, c.requires.has_next.0)
-
-pub overflow_mul-from : goal.overflow_mul-from
-overflow_mul-from c = omega (arith, words_lie (chip_lent c.args.self.now) c.args.p c.requires.on_chip)
-
-pub overflow_mul-q : goal.overflow_mul-q
-overflow_mul-q c = omega (arith, next_words_lie c.requires.has_next.0 c.next_page-q.ensures (chip_lent c.args.self.now))
 
 pub copy_within-requires : goal.copy_within-requires
 copy_within-requires c = record {
@@ -25,18 +13,6 @@ copy_within-requires c = record {
   );
   fact = pages_apart c.args.self.now.g.w c.args.p c.next_page-q.result;
 }
-
-pub owner-owner-requires : goal.owner-owner-requires
-owner-owner-requires c = c.requires.on_chip
-
-pub add_read-requires : goal.add_read-requires
-add_read-requires c = less_room (omega arith) c.requires.has_next.1
-
-pub claim_next-page-requires : goal.claim_next-page-requires
-claim_next-page-requires c = (c.requires.has_next.0, room_after_read 1 _ _ c.requires.has_next.1 c.add_read.ensures)
-
-pub mark-requires : goal.mark-requires
-mark-requires c = let kept = c.claim_next-page.ensures.only_spare.same.geometry_kept in rw kept c.requires.on_chip
 
 pub returns : goal.returns
 returns c = let claimed = c.claim_next-page.ensures in

@@ -1,18 +1,9 @@
 -- `steps::Flash::victim` meets its contract: a block with no erased page has a number below that of one.
-use native.Mathlib.Omega.{arith}
 use Rattle.lent.specs.Model.{region}
 use Rattle.steps.specs.Flash.{bounded}
-use Rattle.steps.specs.Census.{numbers_lie, blocks_few, victim_found}
+use Rattle.steps.specs.Census.{victim_found}
 use Rattle.steps.proofs.Flash.victim.Goals as goal
 
-pub fewest_below-requires : goal.fewest_below-requires
-fewest_below-requires c = numbers_lie (bounded c.args.self.now) c.args.self.now.counted (region c.args.r) c.first_block-first.ensures c.region_blocks-n.ensures
-
-pub overflow_add-result : goal.overflow_add-result
-overflow_add-result c = omega (arith, blocks_few (bounded c.args.self.now) c.args.self.now.counted (region c.args.r) c.first_block-first.ensures c.region_blocks-n.ensures, (bounded c.args.self.now).P_to)
-
-pub overflow_cast-result : goal.overflow_cast-result
-overflow_cast-result c = omega (arith, blocks_few (bounded c.args.self.now) c.args.self.now.counted (region c.args.r) c.first_block-first.ensures c.region_blocks-n.ensures, (bounded c.args.self.now).P_to)
-
 pub returns : goal.returns
-returns c = λ s lent. victim_found (bounded c.args.self.now) c.args.self.now.counted (region c.args.r) c.first_block-first.ensures c.region_blocks-n.ensures s lent c.fewest_below.ensures.1
+returns c = let f = c.args.self.now in
+    λ s lent. victim_found (bounded f) f.counted (region c.args.r) c.first_block-first.ensures c.region_blocks-n.ensures s lent c.fewest_below.ensures.1

@@ -18,18 +18,6 @@ returns-in_default c = let a = c.args in
     (sym (ap (λ (e : Option ℕ). in_page g a.self.now.chip.now a.l (entry e)) c.in_default.is))
     refl (sym (ap (λ (e : Option ℕ). read_if_place (entry e) (counts a.work.now.counts)) c.in_default.is))
 
-pub add_read-requires : goal.add_read-requires
-add_read-requires c = c.requires.countable
-
-pub overflow_mul-word : goal.overflow_mul-word
-overflow_mul-word c = omega (arith, word_lies (chip_lent c.args.self.now) _ c.args.l (c.requires.on_chip _ (ap entry c.in-Some.is)))
-
-pub overflow_add-word : goal.overflow_add-word
-overflow_add-word c = omega (arith, word_lies (chip_lent c.args.self.now) _ c.args.l (c.requires.on_chip _ (ap entry c.in-Some.is)))
-
-pub offset_bounds-self-q : goal.offset_bounds-self-q
-offset_bounds-self-q c = omega (arith, word_lies (chip_lent c.args.self.now) _ c.args.l (c.requires.on_chip _ (ap entry c.in-Some.is)))
-
 pub bounds-self-q : goal.bounds-self-q
 bounds-self-q c = omega (arith, word_lies (chip_lent c.args.self.now) _ c.args.l (c.requires.on_chip _ (ap entry c.in-Some.is)))
 

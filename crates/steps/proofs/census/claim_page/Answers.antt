@@ -1,18 +1,10 @@
 -- `steps::census::claim_page` meets its contract: the page lies in its block, whose number goes with its state.
-use native.Mathlib.Omega.{arith}
-use Rattle.scope.specs.Geometry.{blocks}
-use Rattle.flash.specs.Stores.{slot_below}
-use Rattle.steps.specs.Lies.{SpareLies, spare_lies}
-use Rattle.steps.specs.Census.{restatable, claim_kept}
-use Rattle.lent.specs.Model.{geometry}
+use Rattle.steps.specs.Census.{in_spare, restatable, claim_kept}
 use Rattle.steps.proofs.census.claim_page.Goals as goal
 
 pub state_at-requires : goal.state_at-requires
 state_at-requires c = let lent = c.requires.spare_lent in
-    let g = geometry c.args.g in
-    let lies : SpareLies c.args.spare.now c.args.q =
-    spare_lies lent.0 c.args.q (rw c.requires.is_page (slot_below g.P (blocks g) c.args.b c.args.offset lent.1 lent.2)) in
-    lies.words
+    in_spare lent.0 c.args.b c.args.offset lent.1 lent.2 c.requires.is_page
 
 pub restate-requires : goal.restate-requires
 restate-requires c = let lent = c.requires.spare_lent in
@@ -21,10 +13,7 @@ restate-requires c = let lent = c.requires.spare_lent in
 
 pub claim-requires : goal.claim-requires
 claim-requires c = let lent = c.requires.spare_lent in
-    let g = geometry c.args.g in
-    let lies : SpareLies c.args.spare.now c.args.q =
-    spare_lies lent.0 c.args.q (rw c.requires.is_page (slot_below g.P (blocks g) c.args.b c.args.offset lent.1 lent.2)) in
-    lies.words
+    in_spare lent.0 c.args.b c.args.offset lent.1 lent.2 c.requires.is_page
 
 pub returns : goal.returns
 returns c = let lent = c.requires.spare_lent in

@@ -6,7 +6,7 @@ use Rattle.lent.specs.Ready.{left_by}
 use Rattle.words.specs.Filter.{filter_of, filtered_of}
 use Rattle.requests.specs.Translating.{written_keeps_used, written_fits, drop_entry_does}
 use Rattle.requests.specs.Filtered.{forgotten_filter}
-use Rattle.requests.specs.Node.{under, held}
+use Rattle.requests.specs.Node.{under}
 use Rattle.requests.proofs.node.Node.drop_entry.Goals as goal
 
 pub forget-requires : goal.forget-requires

@@ -1,5 +1,4 @@
 -- `requests::node::Node::drop_if_full` meets its contract: the code's test is the definition's.
-use native.Mathlib.Omega.{arith}
 use Rattle.steps.specs.Flash.{same_lent}
 use Rattle.requests.specs.Translating.{drop_none_does, drop_last_does}
 use Rattle.requests.specs.Node.{under, same_lists}

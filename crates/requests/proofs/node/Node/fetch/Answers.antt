@@ -1,7 +1,6 @@
 -- `requests::node::Node::fetch` meets its contract: the word of the page that the directory names enters.
-use mathlib.Core.Path.{refl, sym, ap, ◌∙◌}
+use mathlib.Core.Path.{sym, ap}
 use native.Mathlib.Omega.{arith}
-use Rattle.promises.specs.Index.{page_below}
 use Rattle.scope.specs.SmallRecord.{SmallRecord}
 use Rattle.words.specs.Filter.{filter_of, filtered_of}
 use Rattle.steps.specs.Flash.{same_lent}
@@ -9,18 +8,6 @@ use Rattle.requests.specs.Translating.{fetch_does, read_keeps_small}
 use Rattle.requests.specs.Filtered.{filter_still}
 use Rattle.requests.specs.Node.{under, held, same_lists}
 use Rattle.requests.proofs.node.Node.fetch.Goals as goal
-
-pub nonzero_div-t : goal.nonzero_div-t
-nonzero_div-t c = omega (arith, c.requires.accepted.W_from)
-
-pub named-page-requires : goal.named-page-requires
-named-page-requires c = omega (arith, page_below c.requires.accepted c.args.l c.requires.below, c.requires.directory_fits)
-
-pub word_for-word-requires : goal.word_for-word-requires
-word_for-word-requires c = record {
-  on_chip = λ q e. c.requires.on_chip q (sym c.named-page.ensures ∙ e);
-  countable = c.requires.countable;
-}
 
 pub enter-requires : goal.enter-requires
 enter-requires c = let n = c.args.self.now in

@@ -1,6 +1,6 @@
 -- `requests::node::Node::follow_moves` meets its contract: the first i moves are followed, and those that wait stand in the words of these.
 use Prim.Native.Nat.{ℕ}
-use mathlib.Core.Path.{◌≡◌, ◌∙◌, subst}
+use mathlib.Core.Path.{◌≡◌, subst}
 use native.Mathlib.Omega.{arith}
 use Rattle.index.specs.Moves.{none_wait_in}
 use Rattle.requests.specs.Following.{FollowedUpto, none_followed, one_followed}
@@ -9,16 +9,6 @@ use Rattle.requests.proofs.node.Node.follow_moves.Goals as goal
 
 pub loop-i-init : goal.loop-i-init
 loop-i-init c = (none_followed, only_nothing, c.requires.different, none_wait_in c.requires.moves_len)
-
-pub follow-waiting-requires-clause-cache_lent : goal.follow-waiting-requires-clause-cache_lent
-follow-waiting-requires-clause-cache_lent c =
-    let inv = c.loop-i.invariant in
-    let only = inv.1 in
-    let pre = c.requires.cache_lent in
-    rw (only.same.0.geometry_kept, only.work_kept) (
-      record { cache_fits = only.as_long ∙ pre.0.cache_fits; used_to = pre.0.used_to },
-      omega (arith, inv.0.most, c.loop-i-test.true, pre.1),
-    )
 
 pub loop-i-preserved : goal.loop-i-preserved
 loop-i-preserved c =

@@ -11,12 +11,6 @@ use Rattle.requests.specs.Filtered.{filter_still, program_keeps_used, placed_fil
 use Rattle.requests.specs.Node.{under, held, same_lists}
 use Rattle.requests.proofs.node.Node.place.Goals as goal
 
-pub program_next-q-requires : goal.program_next-q-requires
-program_next-q-requires c = record {
-  has_next = (c.requires.next, c.requires.countable);
-  words_long = c.requires.long;
-}
-
 pub invariant_of-self : goal.invariant_of-self
 invariant_of-self c = let n = c.args.self.now in
     record {
@@ -24,16 +18,10 @@ invariant_of-self c = let n = c.args.self.now in
           (filter_of n.filtered));
     }
 
-pub physical-requires : goal.physical-requires
-physical-requires c = c.requires.lies
-
 pub mark_old-requires : goal.mark_old-requires
 mark_old-requires c =
     rw c.program_next-q.ensures.same.geometry_kept
     (λ p e. c.requires.on_chip p (ap decode (sym c.physical.ensures) ∙ sym c.decode-old.ensures ∙ e))
-
-pub set_entry-requires : goal.set_entry-requires
-set_entry-requires c = c.requires.lies
 
 pub invariant_of-self-3 : goal.invariant_of-self-3
 invariant_of-self-3 c = let n = c.args.self.now in

@@ -15,12 +15,6 @@ returns-in_default c = let n = c.args.self.now in
       same = (same_lent, same_lists);
     }
 
-pub read_page-requires : goal.read_page-requires
-read_page-requires c = record {
-  on_chip = c.requires.on_chip _ (ap entry c.in-Some.is);
-  buffer_long = (c.requires.long, c.requires.countable);
-}
-
 pub invariant_of-self : goal.invariant_of-self
 invariant_of-self c = let n = c.args.self.now in
     record { filtered = filtered_of (filter_still (read_page_keeps_used (under n) _ c.read_page.ensures) (filter_of n.filtered)) }

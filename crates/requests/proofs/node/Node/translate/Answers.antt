@@ -1,5 +1,4 @@
 -- `requests::node::Node::translate` meets its contract: l's entry is found, or fetched once one is free.
-use mathlib.Core.Path.{refl}
 use native.Mathlib.Omega.{arith}
 use Rattle.lent.specs.Ready.{fewer_begin}
 use Rattle.words.specs.Filter.{filter_of, filtered_of}

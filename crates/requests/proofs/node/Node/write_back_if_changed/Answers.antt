@@ -1,6 +1,6 @@
 -- `requests::node::Node::write_back_if_changed` meets its contract: the code's test is the definition's, and so are the page that is
 -- updated and the entries that become unchanged.
-use Prim.Native.Nat.{ℕ, ◌*◌, ◌+◌, ◌≤◌, ◌<◌}
+use Prim.Native.Nat.{ℕ, ◌<◌}
 use mathlib.Core.Path.{◌≡◌, sym, ap, ◌∙◌, subst}
 use native.Mathlib.Omega.{arith}
 use lib.ListN.{length}
