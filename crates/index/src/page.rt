@@ -10,9 +10,9 @@ ghost use Rattle.index.specs.Writing.{PageReady, Begins, FinishReady, Written};
 
 use crate::room::room;
 use lent::{Region, Work};
+use steps::Flash;
 use steps::chip::next_page;
 use steps::directory::{named, names_it};
-use steps::Flash;
 
 // Room is made, and the open block's next page, which is handed back, has the words of translation page t, or none throughout.
 pub(crate) fn begin(flash: &mut Flash, work: &mut Work, directory: &mut [u32], t: u32) -> u32

@@ -15,8 +15,8 @@ ghost use Rattle.index.specs.Index.{indexed, IndexDoes, RoomReady};
 use copying::choice::choose;
 use copying::copies::{MOVE_WORDS, MOVES_WORDS, start};
 use lent::{Region, Work};
-use steps::directory::names_it;
 use steps::Flash;
+use steps::directory::names_it;
 
 // The directory names the pages of the first n moves.
 fn names_moved(n: usize, moves: &[u32; MOVES_WORDS], directory: &mut [u32])
