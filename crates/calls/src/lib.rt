@@ -151,10 +151,11 @@ pub fn read(
         filter: &mut filter,
     };
     let answer = node.read(page, buffer);
-    put_counts(counts, work.counts);
+    let done = *node.work;
+    put_counts(counts, done.counts);
     Out {
         answer,
-        rec: work.rec,
+        rec: done.rec,
     }
 }
 
@@ -222,9 +223,10 @@ pub fn write(
         filter: &mut filter,
     };
     let answer = node.write(page, buffer);
-    put_counts(counts, work.counts);
+    let written = *node.work;
+    put_counts(counts, written.counts);
     Out {
         answer,
-        rec: work.rec,
+        rec: written.rec,
     }
 }

@@ -137,8 +137,8 @@ pub fn serve(
     answers[i] = done.into();
     Running {
         answer: cur.answer,
-        counts: work.counts,
-        rec: work.rec,
+        counts: node.work.counts,
+        rec: node.work.rec,
     }
 }
 

@@ -1,9 +1,9 @@
 -- `calls::write` meets its contract.
-use mathlib.Core.Path.{sym, ap}
+use mathlib.Core.Path.{refl, ap}
 use borrow.Author.Rules.{rules}
 use Rattle.lent.specs.DoesLaws.{does_ends}
 use Rattle.requests.specs.Node.{held_is}
-use Rattle.lent.specs.Model.{geometry, counts}
+use Rattle.lent.specs.Model.{geometry}
 use Rattle.lent.specs.Reply.{tested, refused_not_done}
 use Rattle.promises.specs.Bounds.{write_bound}
 use Rattle.scope.specs.Requests.{write_steps}
@@ -45,5 +45,5 @@ returns c = let a = c.args in
     single_served a.buffer.now (rw c.into.ensures at c.test_single-tests.ensures) (write_steps (geometry a.g) a.page a.buffer.now)
     _ (ap tested c.in_default.is)
     (does_ends c.write-answer.ensures.does.does
-    (held_is node (search rules) (search rules) (search rules) (search rules) (search rules)) (ap counts (sym (search rules))))
+    (held_is node (search rules) (search rules) (search rules) (search rules) refl) refl)
     c.put_counts.ensures

@@ -1,9 +1,9 @@
 -- `serving::serve` meets its contract.
 use Prim.Native.Nat.{◌+◌, ◌*◌, ◌-◌}
-use mathlib.Core.Path.{◌≡◌, refl, sym, ap, ◌∙◌}
+use mathlib.Core.Path.{◌≡◌, refl, sym, ◌∙◌}
 use borrow.Author.Rules.{rules}
 use native.Mathlib.Omega.{arith}
-use Rattle.lent.specs.Model.{geometry, small, counts}
+use Rattle.lent.specs.Model.{geometry, small}
 use Rattle.lent.specs.DoesLaws.{does_ends}
 use Rattle.requests.specs.Node.{held_is, node_noted}
 use Rattle.lent.specs.Reply.{refused_not_done}
@@ -56,7 +56,7 @@ returns c = let a = c.args in
           admitted serving.part_fits refl at
           c.in-Ok.ensures.first
           (does_ends served.does
-          (held_is node (search rules) (search rules) (search rules) (search rules) (search rules)) (ap counts (sym (search rules))))
+          (held_is node (search rules) (search rules) (search rules) (search rules) refl) refl)
           c.serve_request-done.auto.buffer);
-      noted = λ _. node_noted node served.same.0.geometry_kept (search rules) (search rules) (search rules) (search rules) (search rules);
+      noted = λ _. node_noted node served.same.0.geometry_kept (search rules) (search rules) (search rules) refl (search rules);
     }
