@@ -1,6 +1,7 @@
 // The five calls for Rattle as a caller makes them. Each function here has the small record by value, and a run's requests too; it lends them
 // to the call, as `&mut Record`, `&Record` and `&[Request]`, and hands back the record that the call left. Each ensures what its call does,
 // of the record by value.
+// Kept: docs/DECISIONS.md and docs/DESIGN.md name these five as where a caller lends the record and a run's requests.
 ghost use Rattle.std.specs.Prelude.{map, length};
 ghost use Rattle.lent.specs.Model.{geometry, state};
 ghost use Rattle.lent.specs.Reply.{reply};

@@ -1,6 +1,6 @@
 // A recorder in Rattle: document 01's session through the five calls for Rattle, so that their form, a small record that is lent and changed
 // in place and a lent slice of requests, is run and not only proved. The session is made twice on 01's geometry G, each time on a node that
-// is formatted first and checked at the end: by a call for each request, and as one run. All here has the record by value, which
+// is formatted first and checked at the end: by a call for each request, and as one run. The node has the record by value, which
 // lending.rt lends. It is proved safe and ending; what is printed, a word and the numbers of 01's session, is held to the file stdout.
 #![tactic(auto)]
 
@@ -11,6 +11,8 @@ use crate::lending::REQUESTS;
 use crate::printing::{tell, tell_numbers, tell_word};
 use lent::reply::Reply;
 use lent::{ENTRY_WORDS, Geometry, NONE, Record, SPARE_WORDS};
+use lines::Request as Asked;
+use lines::Request::{Read, Write};
 use replies::{Kind, Request};
 use std::io;
 
@@ -23,238 +25,192 @@ const G: Geometry = Geometry {
     c: 1,
 };
 
-// The words of its 12 pages, of their spare, of its two translation pages' directory, and of its one entry.
-const CHIP: usize = 24;
+// 01's session, each line as what it asks for.
+const SESSION: [Asked; REQUESTS] = [
+    Write(0, 10),
+    Write(1, 11),
+    Write(0, 12),
+    Write(2, 13),
+    Write(1, 14),
+    Read(0),
+    Read(0),
+    Write(0, 15),
+];
 
-const SPARE: usize = 12 * SPARE_WORDS;
-
-const DIRECTORY: usize = 2;
-
-const CACHE: usize = ENTRY_WORDS;
-
-fn reads(page: u32) -> Request {
-    Request {
-        kind: Kind::Read.into(),
-        page,
-    }
-}
-
-fn writes(page: u32) -> Request {
-    Request {
-        kind: Kind::Write.into(),
-        page,
-    }
-}
-
-// 01's session, but for the values: W 0 10, W 1 11, W 0 12, W 2 13, W 1 14, R 0, R 0, W 0 15.
-fn session() -> [Request; REQUESTS] {
-    [
-        writes(0),
-        writes(1),
-        writes(0),
-        writes(2),
-        writes(1),
-        reads(0),
-        reads(0),
-        writes(0),
-    ]
-}
-
-// The pages of the requests, two words each: what a write writes, and where a run puts what it read.
-const PAGES: [u32; 2 * REQUESTS] = [10, 10, 11, 11, 12, 12, 13, 13, 14, 14, 0, 0, 0, 0, 15, 15];
-
-// Format asks nothing of the state before, nor of the record.
-fn formatted(
-    to: &impl Print,
-    chip: &mut [u32; CHIP],
-    spare: &mut [u32; SPARE],
-    directory: &mut [u32; DIRECTORY],
-    cache: &mut [u32; CACHE],
-) -> io::Result<Record> {
-    let any = Record {
-        open_data: 0,
-        data_offset: 0,
-        open_translation: 0,
-        translation_offset: 0,
-        used: 0,
-        protected: 0,
+// As a request of a run.
+fn request(asked: Asked) -> Request {
+    let (kind, page) = match asked {
+        Write(page, _) => (Kind::Write, page),
+        Read(page) => (Kind::Read, page),
     };
-    let mut counts = [NONE; 3];
-    let out = lending::format(any, G, chip, spare, directory, cache, &mut counts);
-    tell(to, b"format ", out.answer, counts)?;
-    Ok(out.rec)
-}
-
-// Says too what the record is, which has been lent to every call.
-fn checked(
-    to: &impl Print,
-    rec: Record,
-    chip: &[u32; CHIP],
-    spare: &[u32; SPARE],
-    directory: &[u32; DIRECTORY],
-    cache: &[u32; CACHE],
-) -> io::Result<()> {
-    let mut counts = [NONE; 3];
-    let answer = lending::check(rec, G, chip, spare, directory, cache, &mut counts);
-    tell(to, b"check ", answer, counts)?;
-    let numbers = [
-        rec.open_data,
-        rec.data_offset,
-        rec.open_translation,
-        rec.translation_offset,
-        rec.used,
-        rec.protected,
-    ];
-    tell_numbers(to, b"record ", &numbers)
-}
-
-fn read_page(
-    to: &impl Print,
-    rec: Record,
-    page: u32,
-    chip: &mut [u32; CHIP],
-    spare: &mut [u32; SPARE],
-    directory: &mut [u32; DIRECTORY],
-    cache: &mut [u32; CACHE],
-) -> io::Result<Record> {
-    let mut buffer = [0u32; 2];
-    let mut counts = [NONE; 3];
-    let out = lending::read(
-        rec,
-        G,
+    Request {
+        kind: kind.into(),
         page,
-        chip,
-        spare,
-        directory,
-        cache,
-        &mut buffer,
-        &mut counts,
-    );
-    if out.answer == Reply::Done {
-        tell_word(to, b"read ", out.answer, counts, buffer[0])?;
-    } else {
-        tell(to, b"read ", out.answer, counts)?;
     }
-    Ok(out.rec)
 }
 
-fn write_page(
-    to: &impl Print,
+// Its page of two words, which a run has beside the requests: what a write writes, and where the run puts what it read.
+fn page_words(asked: Asked) -> [u32; 2] {
+    match asked {
+        Write(_, value) => [value; 2],
+        Read(_) => [0; 2],
+    }
+}
+
+// A node on G: the words of its 12 pages, of their spare, of its two translation pages' directory, of its one entry, and the small record.
+#[derive(Drop)]
+struct Node {
+    chip: [u32; 24],
+    spare: [u32; 12 * SPARE_WORDS],
+    directory: [u32; 2],
+    cache: [u32; ENTRY_WORDS],
     rec: Record,
-    page: u32,
-    value: u32,
-    chip: &mut [u32; CHIP],
-    spare: &mut [u32; SPARE],
-    directory: &mut [u32; DIRECTORY],
-    cache: &mut [u32; CACHE],
-) -> io::Result<Record> {
-    let buffer = [value; 2];
-    let mut counts = [NONE; 3];
-    let out = lending::write(
-        rec,
-        G,
-        page,
-        chip,
-        spare,
-        directory,
-        cache,
-        &buffer,
-        &mut counts,
-    );
-    tell(to, b"write ", out.answer, counts)?;
-    Ok(out.rec)
 }
 
-fn serve(
-    to: &impl Print,
-    rec: Record,
-    q: Request,
-    value: u32,
-    chip: &mut [u32; CHIP],
-    spare: &mut [u32; SPARE],
-    directory: &mut [u32; DIRECTORY],
-    cache: &mut [u32; CACHE],
-) -> io::Result<Record> {
-    if Kind::try_from(q.kind) == Ok(Kind::Read) {
-        return read_page(to, rec, q.page, chip, spare, directory, cache);
+impl Node {
+    // A node as it comes: format asks nothing of the state before, nor of the record.
+    fn unformatted() -> Node {
+        Node {
+            chip: [0; 24],
+            spare: [0; 12 * SPARE_WORDS],
+            directory: [0; 2],
+            cache: [0; ENTRY_WORDS],
+            // Kept: no plainer by a Default of Record, which would stand in lent for this place alone.
+            rec: Record {
+                open_data: 0,
+                data_offset: 0,
+                open_translation: 0,
+                translation_offset: 0,
+                used: 0,
+                protected: 0,
+            },
+        }
     }
-    write_page(to, rec, q.page, value, chip, spare, directory, cache)
-}
 
-fn one_by_one(
-    to: &impl Print,
-    fresh: Record,
-    requests: [Request; REQUESTS],
-    chip: &mut [u32; CHIP],
-    spare: &mut [u32; SPARE],
-    directory: &mut [u32; DIRECTORY],
-    cache: &mut [u32; CACHE],
-) -> io::Result<Record> {
-    let pages = PAGES;
-    let mut rec = fresh;
-    for i in 0..REQUESTS {
-        let q = requests[i];
-        rec = serve(to, rec, q, pages[2 * i], chip, spare, directory, cache)?;
+    fn format(&mut self, to: &impl Print) -> io::Result<()> {
+        let mut counts = [NONE; 3];
+        let out = lending::format(
+            self.rec,
+            G,
+            &mut self.chip,
+            &mut self.spare,
+            &mut self.directory,
+            &mut self.cache,
+            &mut counts,
+        );
+        self.rec = out.rec;
+        tell(to, "format", out.answer, counts)
     }
-    Ok(rec)
-}
 
-fn in_one_run(
-    to: &impl Print,
-    fresh: Record,
-    requests: [Request; REQUESTS],
-    chip: &mut [u32; CHIP],
-    spare: &mut [u32; SPARE],
-    directory: &mut [u32; DIRECTORY],
-    cache: &mut [u32; CACHE],
-) -> io::Result<Record> {
-    let mut pages = PAGES;
-    let mut answers = [NONE; REQUESTS];
-    let mut counts = [NONE; 3];
-    let out = lending::run(
-        fresh,
-        G,
-        requests,
-        chip,
-        spare,
-        directory,
-        cache,
-        &mut pages,
-        &mut answers,
-        &mut counts,
-    );
-    tell(to, b"run ", out.answer, counts)?;
-    tell_numbers(to, b"answers ", &answers)?;
-    tell_numbers(to, b"pages ", &pages)?;
-    Ok(out.rec)
+    // Says too what the record is, which has been lent to every call.
+    fn check(&self, to: &impl Print) -> io::Result<()> {
+        let mut counts = [NONE; 3];
+        let answer = lending::check(
+            self.rec,
+            G,
+            &self.chip,
+            &self.spare,
+            &self.directory,
+            &self.cache,
+            &mut counts,
+        );
+        tell(to, "check", answer, counts)?;
+        let Record {
+            open_data,
+            data_offset,
+            open_translation,
+            translation_offset,
+            used,
+            protected,
+        } = self.rec;
+        println!(to;
+            "record {open_data} {data_offset} {open_translation} {translation_offset} {used} {protected}"
+        )
+    }
+
+    fn read_page(&mut self, to: &impl Print, page: u32) -> io::Result<()> {
+        let mut buffer = [0u32; 2];
+        let mut counts = [NONE; 3];
+        let out = lending::read(
+            self.rec,
+            G,
+            page,
+            &mut self.chip,
+            &mut self.spare,
+            &mut self.directory,
+            &mut self.cache,
+            &mut buffer,
+            &mut counts,
+        );
+        self.rec = out.rec;
+        if out.answer == Reply::Done {
+            tell_word(to, "read", out.answer, counts, buffer[0])
+        } else {
+            tell(to, "read", out.answer, counts)
+        }
+    }
+
+    fn write_page(&mut self, to: &impl Print, page: u32, value: u32) -> io::Result<()> {
+        let buffer = [value; 2];
+        let mut counts = [NONE; 3];
+        let out = lending::write(
+            self.rec,
+            G,
+            page,
+            &mut self.chip,
+            &mut self.spare,
+            &mut self.directory,
+            &mut self.cache,
+            &buffer,
+            &mut counts,
+        );
+        self.rec = out.rec;
+        tell(to, "write", out.answer, counts)
+    }
+
+    fn serve(&mut self, to: &impl Print, asked: Asked) -> io::Result<()> {
+        match asked {
+            Write(page, value) => self.write_page(to, page, value),
+            Read(page) => self.read_page(to, page),
+        }
+    }
+
+    fn one_by_one(&mut self, to: &impl Print) -> io::Result<()> {
+        for asked in SESSION {
+            self.serve(to, asked)?;
+        }
+        Ok(())
+    }
+
+    fn in_one_run(&mut self, to: &impl Print) -> io::Result<()> {
+        let mut pages = SESSION.map(page_words);
+        let mut answers = [NONE; REQUESTS];
+        let mut counts = [NONE; 3];
+        let out = lending::run(
+            self.rec,
+            G,
+            SESSION.map(request),
+            &mut self.chip,
+            &mut self.spare,
+            &mut self.directory,
+            &mut self.cache,
+            pages.as_flattened_mut(),
+            &mut answers,
+            &mut counts,
+        );
+        self.rec = out.rec;
+        tell(to, "run", out.answer, counts)?;
+        tell_numbers(to, "answers", &answers)?;
+        tell_numbers(to, "pages", pages.as_flattened())
+    }
 }
 
 fn main(rt: HostRuntime) -> io::Result<()> {
-    let mut chip = [0u32; CHIP];
-    let mut spare = [0u32; SPARE];
-    let mut directory = [0u32; DIRECTORY];
-    let mut cache = [0u32; CACHE];
-    let requests = session();
-    let fresh = formatted(&rt, &mut chip, &mut spare, &mut directory, &mut cache)?;
-    let after_calls = one_by_one(
-        &rt,
-        fresh,
-        requests,
-        &mut chip,
-        &mut spare,
-        &mut directory,
-        &mut cache,
-    )?;
-    checked(&rt, after_calls, &chip, &spare, &directory, &cache)?;
-    let again = formatted(&rt, &mut chip, &mut spare, &mut directory, &mut cache)?;
-    let after_run = in_one_run(
-        &rt,
-        again,
-        requests,
-        &mut chip,
-        &mut spare,
-        &mut directory,
-        &mut cache,
-    )?;
-    checked(&rt, after_run, &chip, &spare, &directory, &cache)
+    let mut node = Node::unformatted();
+    node.format(&rt)?;
+    node.one_by_one(&rt)?;
+    node.check(&rt)?;
+    node.format(&rt)?;
+    node.in_one_run(&rt)?;
+    node.check(&rt)
 }
