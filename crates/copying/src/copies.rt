@@ -81,6 +81,6 @@ pub fn start(
     ensures started { Started (geometry flash.old.g) (region r) v result moves.new flash.new.chip.now flash.new.spare.now work.old work.new }
     ensures moves_len_kept { length moves.new ≡ moves_words }
 {
-    flash.open_lowest(work, r);
+    flash.blocks().open_lowest(work, r);
     copy_pages(flash, work, r, v, moves)
 }

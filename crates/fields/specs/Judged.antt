@@ -1,5 +1,5 @@
 -- The reader's parts put together: the row of a version, what may follow its fields, and the whole record.
-use Rattle.std.specs.Prelude.{ℕ, zero, suc, ◌≡◌, refl, true, false, List, [], ◌∷◌, map, length, get_or, Option, Some, None, ok_or, Ok, Err}
+use Rattle.std.specs.Prelude.{ℕ, zero, suc, ◌≡◌, refl, Bool, true, false, List, [], ◌∷◌, map, length, get_or, Option, Some, None, ok_or, Ok, Err}
 use Rattle.std.specs.Borrow.{Bor}
 use Rattle.std.proofs.Common.{sym, ◌∙◌, arith}
 use Rattle.std.proofs.Math.Path.{ap}
@@ -7,7 +7,7 @@ use Rattle.std.proofs.Math.Option.{Option as Row}
 use Rattle.lent.specs.declared.Geometry.{Geometry as GeometryOf}
 use Rattle.lent.specs.Model.{geometry}
 use Rattle.scope.specs.Geometry.{accepted}
-use Rattle.settings.specs.Fields.{Reading, Numbers, Refused, AFTER, GEOMETRY, ACCEPTED, fields_read, whole_fields}
+use Rattle.settings.specs.Fields.{Reading, Numbers, Refused, AFTER, GEOMETRY, ACCEPTED, fields_read}
 use Rattle.settings.specs.Settings.{Version, version_field, versions, version_of, last_tag, may_follow, numbers_of, answered, refused, by_version, by_table, ended, read}
 use Rattle.fields.specs.declared.Field.{Field as FieldOf}
 use Rattle.fields.specs.declared.Version.{Version as VersionOf}
@@ -24,10 +24,11 @@ last_tag_of_rows n (f ∷ []) (suc k) d e = absurd (omega (arith, e))
 last_tag_of_rows n (f ∷ f' ∷ fs) zero d e = absurd (omega (arith, e))
 last_tag_of_rows n (f ∷ f' ∷ fs) (suc k) d e = last_tag_of_rows f.tag (f' ∷ fs) k d (omega (arith, e))
 
-pub fields_follow : (v : VersionOf) (bytes : List ℕ) (d : FieldOf) → v.more ≡ true → length v.fields ≡ 6
-    → whole_fields (get_or v.fields 5 d).tag 0 bytes ≡ may_follow (version v) bytes
-fields_follow v bytes d m n =
-    rw m (ap (λ (last : ℕ). whole_fields last 0 bytes) (sym (last_tag_of_rows 0 v.fields 5 d n)))
+-- What is so of any version with a row's last tag and its `more` is so of the row's.
+pub row_follows : (v : VersionOf) (bytes : List ℕ) (d : FieldOf) {b : Bool} → length v.fields ≡ 6
+    → ((w : Version) → w.more ≡ v.more → last_tag 0 w.fields ≡ (get_or v.fields 5 d).tag → b ≡ may_follow w bytes)
+    → b ≡ may_follow (version v) bytes
+row_follows v bytes d n follows = follows (version v) refl (last_tag_of_rows 0 v.fields 5 d n)
 
 -- The record behind its version's field, behind the fields of its version, and behind the tests there.
 module _ (bytes : List ℕ) where
@@ -36,7 +37,7 @@ module _ (bytes : List ℕ) where
   read_refused n = ap (by_version versions) (sym (n.is []))
 
   module _ {n : ℕ} {rest : Bor (List ℕ)} (first : Next bytes version_field (Ok (n, rest))) where
-    by_row : (o : Row Version) → o ≡ version_of versions n → by_table o rest.now ≡ read versions bytes
+    pub by_row : (o : Row Version) → o ≡ version_of versions n → by_table o rest.now ≡ read versions bytes
     unfolding read
     by_row o e = ap (λ (o : Row Version). by_table o rest.now) e ∙ ap (by_version versions) (sym (first.is []))
 
@@ -54,7 +55,7 @@ module _ (bytes : List ℕ) where
     is_row (Some w) v known e = let same : v ≡ w = cc in ap (λ (v : VersionOf). row (Some v)) same ∙ known
 
     module _ (o : Option VersionOf) (v : VersionOf) (known : row o ≡ version_of versions n) (found : Ok v ≡ ok_or o UnknownVersion) where
-      by_fields : (r : Reading) → fields_read (version v).fields (Numbers [] rest.now) ≡ r → ended (version v) r ≡ read versions bytes
+      pub by_fields : (r : Reading) → fields_read (version v).fields (Numbers [] rest.now) ≡ r → ended (version v) r ≡ read versions bytes
       by_fields r e = ap (ended (version v)) (sym e) ∙ by_row (row (Some v)) (is_row o v known found)
 
       pub fields_refused : (r : Refusal) → fields_read (version v).fields (Numbers [] rest.now) ≡ Refused (refusal r)

@@ -49,7 +49,7 @@ module _ (last : ℕ) (bytes : List ℕ) (head : 3 ≤ length bytes) where
         not_whole
         (head_there last bytes head ∙ rw (lt-ltb _ _ high) (ended_cut last (number 2 (drop 1 bytes)) (drop 3 bytes) (omega (arith, h, size, length-drop 3 bytes))))
 
-    whole : 3 + n ≤ length bytes → whole_fields last 0 bytes ≡ whole_fields last 0 (drop (3 + n) bytes)
+    pub whole : 3 + n ≤ length bytes → whole_fields last 0 bytes ≡ whole_fields last 0 (drop (3 + n) bytes)
     whole h =
         head_there last bytes head ∙ rw (lt-ltb _ _ high) (ended_whole last (number 2 (drop 1 bytes)) (drop 3 bytes) (omega (arith, h, size, length-drop 3 bytes)) ∙ ap (whole_fields last 0) (drop-drop (number 2 (drop 1 bytes)) 3 bytes ∙ ap (λ (k : ℕ). drop (3 + k) bytes) (sym size)))
 

@@ -1,11 +1,11 @@
 // What may stand behind a version's fields.
 ghost use Rattle.std.specs.Prelude.{◌≡◌};
 ghost use Rattle.settings.specs.Fields.{whole_fields};
-ghost use Rattle.settings.specs.Settings.{may_follow};
-ghost use Rattle.fields.specs.Model.{version, Skipped};
+ghost use Rattle.settings.specs.Settings.{Version, last_tag, may_follow};
+ghost use Rattle.fields.specs.Model.{Skipped};
 
+use crate::HEAD_BYTES;
 use crate::next::pair;
-use crate::{HEAD_BYTES, NUMBERS, Version};
 
 // The bytes behind the field that some begin with, if it is whole and its tag above the last.
 fn skipped(bytes: &[u8], last: u8) -> Option<&[u8]>
@@ -36,12 +36,12 @@ fn whole_fields(bytes: &[u8], last: u8) -> bool
     rest.is_empty()
 }
 
-// Whether some bytes may follow the version's fields.
-pub fn may_follow(bytes: &[u8], table: Version) -> bool
-    ensures { result ≡ may_follow (version table) bytes.now }
+// Whether some bytes may follow the fields of a version, by the last one's tag and by whether more may follow.
+pub fn may_follow(bytes: &[u8], last: u8, more: bool) -> bool
+    ensures { (v : Version) → v.more ≡ more → last_tag 0 v.fields ≡ last → result ≡ may_follow v bytes.now }
 {
-    if !table.more {
+    if !more {
         return bytes.is_empty();
     }
-    whole_fields(bytes, table.fields[NUMBERS - 1].tag)
+    whole_fields(bytes, last)
 }

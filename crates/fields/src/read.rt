@@ -8,7 +8,7 @@ use crate::next::next;
 use crate::numbers::geometry_from;
 use crate::refusal::Refusal;
 use crate::rows::fields_at;
-use crate::{VERSION_FIELD, version_of};
+use crate::{NUMBERS, VERSION_FIELD, version_of};
 use lent::Geometry;
 
 // What a settings record says, or why it is refused.
@@ -18,7 +18,7 @@ pub fn read(bytes: &[u8]) -> Result<Geometry, Refusal>
     let (number, fields) = next(bytes, VERSION_FIELD)?;
     let table = version_of(number).ok_or(Refusal::Version)?;
     let (numbers, rest) = fields_at(fields, table)?;
-    if !may_follow(rest, table) {
+    if !may_follow(rest, table.fields[NUMBERS - 1].tag, table.more) {
         return Err(Refusal::After);
     }
     let g = geometry_from(numbers);

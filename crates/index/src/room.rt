@@ -49,7 +49,7 @@ pub fn room(flash: &mut Flash, work: &mut Work, directory: &mut [u32])
     ensures { IndexDoes (make_room (geometry flash.old.g) Translation directory_follows)
         flash.old directory.old work.old tt flash.new directory.new work.new }
 {
-    if let Some(v) = choose(flash, work, Region::Translation) {
+    if let Some(v) = choose(&flash.blocks(), work, Region::Translation) {
         collect(flash, work, directory, v);
     }
 }

@@ -1,10 +1,12 @@
 -- What the structs of src/lib.rt mean in document 01's definitions.
-use Rattle.std.specs.Prelude.{ℕ, List, Option, Some, None}
+use Rattle.std.specs.Prelude.{ℕ, List}
 use Rattle.lent.specs.declared.Geometry.{Geometry as Numbers}
 use Rattle.lent.specs.declared.Record.{Record}
 use Rattle.lent.specs.declared.Counts.{Counts as Counted}
 use Rattle.lent.specs.declared.Region.{Region as Kind}
 use Rattle.lent.specs.declared.Region.TheVariants.{Data as DataOf, Translation as TranslationOf}
+use Rattle.lent.specs.declared.Entry.{Entry as Coded}
+use Rattle.lent.specs.declared.Entry.TheVariants.{Place as PlaceOf, Nowhere as NowhereOf}
 use Rattle.scope.specs.Geometry.{Geometry}
 use Rattle.scope.specs.Regions.{Region, Data, Translation}
 use Rattle.scope.specs.SmallRecord.{SmallRecord}
@@ -33,9 +35,9 @@ abbrev pub region : Kind → Region
 region DataOf = Data
 region TranslationOf = Translation
 
-abbrev pub entry : Option ℕ → Entry
-entry (Some p) = Place p
-entry None = Nowhere
+abbrev pub entry : Coded → Entry
+entry (PlaceOf p) = Place p
+entry NowhereOf = Nowhere
 
 -- The state with another record.
 abbrev pub with_rec : Record → State → State

@@ -1,5 +1,5 @@
-// The words that have a meaning, and the numbers of a call: the geometry, the small record, the counts, a region. Their models, and the
-// shape of every step's contract, stand in specs/.
+// The words that have a meaning, and the numbers of a call: the geometry, the small record, the counts, a region, and an entry taken apart.
+// Their models, and the shape of every step's contract, stand in specs/.
 #![tactic(auto)]
 
 ghost use Rattle.std.specs.Prelude.{◌≡◌};
@@ -79,11 +79,23 @@ pub enum Region {
     Translation,
 }
 
-// A word as an entry: the page that it names, or none.
-pub fn decode(x: u32) -> Option<u32>
+// An entry: a page number, or none.
+// Kept: (a) document 01 names this form, "an entry is a page number or none", and docs/DECISIONS.md this enum and `decode`.
+#[derive(Clone, Copy, Debug, PartialEq, Eq)]
+pub enum Entry {
+    Place(u32),
+    Nowhere,
+}
+
+// A word as an entry.
+pub fn decode(x: u32) -> Entry
     ensures { entry result ≡ decode x }
 {
-    if x == NONE { None } else { Some(x) }
+    if x == NONE {
+        Entry::Nowhere
+    } else {
+        Entry::Place(x)
+    }
 }
 
 impl Counts {

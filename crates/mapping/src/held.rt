@@ -9,7 +9,7 @@ use crate::owners::Owners;
 use crate::part::Part;
 use crate::stored::Stored;
 use crate::tally::Tally;
-use lent::{ENTRY_WORDS, Geometry};
+use lent::{ENTRY_WORDS, Entry, Geometry};
 use words::erased::{erased_run, only_erased};
 
 // The map on flash and the spare, in lists of their lengths; the pages that the directory names are on the chip.
@@ -71,7 +71,7 @@ impl<'a> Held<'a> {
     {
         let w = self.g.w as usize;
         let from = t * w;
-        let Some(q) = lent::decode(self.directory[t]) else {
+        let Entry::Place(q) = lent::decode(self.directory[t]) else {
             let next = erased_run(self.directory, t + 1);
             sum.nones += (next * w).min(self.g.l as usize) - from;
             return next;
@@ -143,7 +143,7 @@ impl<'a> Held<'a> {
         ensures { Decides result (PastL (geometry self.now.g) self.now.chip.now self.now.directory.now) }
     {
         let last = self.directory.len() - 1;
-        let Some(q) = lent::decode(self.directory[last]) else {
+        let Entry::Place(q) = lent::decode(self.directory[last]) else {
             return true;
         };
         let w = self.g.w as usize;

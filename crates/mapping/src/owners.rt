@@ -11,7 +11,7 @@ const PAIR: u64 = 4294967296;
 
 // The n pages from `first` on: their states and owners stand in the spare.
 #[derive(Clone, Copy)]
-pub(crate) struct Owners<'a> {
+pub struct Owners<'a> {
     pub spare: &'a [u32],
     pub first: usize,
     pub n: usize,

@@ -10,7 +10,7 @@ use words::states::bit;
 
 // Words of a map for the owners from `from` on, each of which should name its owner's page. Neither are more than a chip has pages.
 #[derive(Clone, Copy)]
-pub(crate) struct Part<'a> {
+pub struct Part<'a> {
     pub words: &'a [u32],
     pub from: usize,
     pub owners: Owners<'a>,
@@ -119,7 +119,9 @@ impl Part<'_> {
 
     // The counts of all its words. The words of a full chip name pages, one after the other: a run of them is counted apart from those that
     // name none, so that its loops hold little and the compiler keeps all of it in registers; of a copy, whose fields no loop reads anew.
-    pub(crate) fn tally(&self) -> Tally
+    // Always inlined: of pages of two or three words a call for each costs a quarter of a check.
+    #[inline(always)]
+    pub fn tally(&self) -> Tally
         ensures { Tallied nothing result (length self.now.words.now) (word_none self.now.words.now) (good self.now) }
     {
         let part = *self;

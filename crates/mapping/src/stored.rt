@@ -7,12 +7,12 @@ ghost use Rattle.scope.specs.Sound.{stored, UnchangedAgree};
 ghost use Rattle.lent.specs.Model.{geometry};
 ghost use Rattle.mapping.specs.Stored.{parts, agrees};
 
-use lent::{ENTRY_WORDS, Geometry, NONE};
+use lent::{ENTRY_WORDS, Entry, Geometry, NONE};
 
 // The directory and the chip with the pages that it names. Any words whatever stand in them, so the directory's word is bounded before
 // it is followed.
 #[derive(Clone, Copy)]
-pub(crate) struct Stored<'a> {
+pub struct Stored<'a> {
     pub g: Geometry,
     pub chip: &'a [u32],
     pub directory: &'a [u32],
@@ -21,13 +21,13 @@ pub(crate) struct Stored<'a> {
 
 impl Stored<'_> {
     // The word of l's translation page, or none where the page doesn't exist.
-    pub(crate) fn stored(&self, l: u32) -> u32
+    pub fn stored(&self, l: u32) -> u32
         ensures { result ≡ stored (geometry self.now.g) self.now.chip.now self.now.directory.now l }
     {
         let w = self.g.w as usize;
         let page = l as usize;
         let word = self.directory.get(page / w).copied().unwrap_or(NONE);
-        let Some(q) = lent::decode(word) else {
+        let Entry::Place(q) = lent::decode(word) else {
             return NONE;
         };
         let at = q as usize * w + page % w;

@@ -9,14 +9,14 @@ use lent::NONE;
 use words::states::bit;
 
 #[derive(Clone, Copy, Default)]
-pub(crate) struct Tally {
+pub struct Tally {
     pub nones: usize,
     pub good: usize,
 }
 
 impl Tally {
     // Counts a word, x, whose owner is k. A page comes first: where there are many words they name pages.
-    pub(crate) fn add_word(&mut self, owners: &Owners, x: u32, k: u32)
+    pub fn add_word(&mut self, owners: &Owners, x: u32, k: u32)
         requires room { Room self.old 1 }
         ensures { TalliedWord self.old self.new (is_none x) (owns owners.now.first owners.now.n owners.now.spare.now k x) }
     {

@@ -74,8 +74,10 @@ pub record OnlyCache (n n' : Node) : Type 0 where
   pub same : SameNode n n'
   pub chip_kept : n'.flash.now.chip.now ≡ n.flash.now.chip.now
   pub spare_kept : n'.flash.now.spare.now ≡ n.flash.now.spare.now
+  pub census_kept : n'.flash.now.census.now ≡ n.flash.now.census.now
   pub directory_kept : n'.directory.now ≡ n.directory.now
   pub work_kept : n'.work.now ≡ n.work.now
+  pub filter_kept : n'.filter.now ≡ n.filter.now
   pub as_long : length n'.cache.now ≡ length n.cache.now
 
 pub only_nothing : {n : Node} → OnlyCache n n
@@ -84,8 +86,10 @@ only_nothing =
       same = (same_lent, same_lists);
       chip_kept = refl;
       spare_kept = refl;
+      census_kept = refl;
       directory_kept = refl;
       work_kept = refl;
+      filter_kept = refl;
       as_long = refl;
     }
 
@@ -95,7 +99,9 @@ then_only x y =
       same = (then_same x.same.0 y.same.0, then_lists x.same.1 y.same.1);
       chip_kept = y.chip_kept ∙ x.chip_kept;
       spare_kept = y.spare_kept ∙ x.spare_kept;
+      census_kept = y.census_kept ∙ x.census_kept;
       directory_kept = y.directory_kept ∙ x.directory_kept;
       work_kept = y.work_kept ∙ x.work_kept;
+      filter_kept = y.filter_kept ∙ x.filter_kept;
       as_long = y.as_long ∙ x.as_long;
     }

@@ -13,15 +13,15 @@ ghost use Rattle.requests.specs.Node.{under, held, NodeDoes, SameNode};
 use crate::node::Node;
 use entries::set_entry;
 use lent::reply::Reply;
-use lent::{Region, decode};
+use lent::{Entry, Region, decode};
 
 impl Node<'_, '_, '_, '_, '_, '_> {
     // The page at a place is read into the buffer; nowhere, nothing.
-    fn read_place(&mut self, place: Option<u32>, buffer: &mut [u32]) -> Reply
+    fn read_place(&mut self, place: Entry, buffer: &mut [u32]) -> Reply
         requires { PlaceReady (under self.old) (entry place) self.old.flash.now.chip.now buffer.old self.old.work.now.counts }
         ensures { NodeDoes (read_place (under self.old) buffer.old (entry place)) self.old (replied buffer.new (reply result)) self.new }
     {
-        let Some(p) = place else {
+        let Entry::Place(p) = place else {
             return Reply::Unwritten;
         };
         self.flash.read_page(self.work, p, buffer);

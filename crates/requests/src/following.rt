@@ -40,7 +40,7 @@ fn wait(
 impl Node<'_, '_, '_, '_, '_, '_> {
     // Logical page l has moved to a page: its entry takes the new place, or it waits behind n others. Handed back is how many wait.
     fn follow(&mut self, n: usize, l: u32, page: u32, waiting: &mut [u32; MOVES_WORDS]) -> usize
-        requires cache_lent { CacheLent (under self.old) self.old.cache.now self.old.work.now.rec.used × (n < most_pages_in_block) }
+        requires accepted { Accepted (under self.old) × CacheLent (under self.old) self.old.cache.now self.old.work.now.rec.used × (n < most_pages_in_block) }
         requires different { Different self.old.cache.now self.old.work.now.rec.used }
         requires waits_in { WaitsIn (under self.old) n waiting.old }
         ensures does_waiting { DoesWaiting (cache_or_wait (under self.old) l page) self.old.cache.now self.old.work.now
@@ -60,7 +60,7 @@ impl Node<'_, '_, '_, '_, '_, '_> {
 
     // The first n moves are followed, in their order. Handed back is how many wait.
     pub(crate) fn follow_moves(&mut self, n: usize, moves: &mut [u32; MOVES_WORDS]) -> usize
-        requires cache_lent { CacheLent (under self.old) self.old.cache.now self.old.work.now.rec.used × (n ≤ most_pages_in_block) }
+        requires accepted { Accepted (under self.old) × CacheLent (under self.old) self.old.cache.now self.old.work.now.rec.used × (n ≤ most_pages_in_block) }
         requires different { Different self.old.cache.now self.old.work.now.rec.used }
         requires moves_len { length moves.old ≡ moves_words }
         ensures does_cache { DoesCache (follow_each (cache_follows (under self.old)) (first_moves n moves.old)) self.old.cache.now self.old.work.now

@@ -8,7 +8,7 @@ ghost use Rattle.lent.specs.Model.{geometry, entry};
 ghost use Rattle.entries.specs.Entries.{CacheLent, Different};
 ghost use Rattle.words.specs.Filter.{Filtered};
 
-use lent::{FILTER_WORDS, Work};
+use lent::{Entry, FILTER_WORDS, Work};
 use steps::Flash;
 
 #[derive(Drop)]
@@ -64,7 +64,7 @@ impl Node<'_, '_, '_, '_, '_, '_> {
     }
 
     // The page that the directory names for translation page t.
-    pub(crate) fn named(&self, t: u32) -> Option<u32>
+    pub(crate) fn named(&self, t: u32) -> Entry
         requires { t < length self.now.directory.now }
         ensures { entry result ≡ named t self.now.directory.now }
     {

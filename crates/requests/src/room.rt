@@ -15,11 +15,12 @@ use index::settle;
 use lent::Region;
 
 impl Node<'_, '_, '_, '_, '_, '_> {
-    // Block v is emptied into the one erased block, and erased.
+    // Block v is emptied into the one erased block, and erased. No other page is cached then than before, so that the filter stays.
     fn collect(&mut self, v: u32)
         requires { RoomReady (under self.old) (held self.old) self.old.work.now.counts
             × ToCollect (under self.old) Data self.old.flash.now.spare.now self.old.work.now v }
-        ensures { NodeDoes (make_room (under self.old) Data (cache_follows (under self.old))) self.old tt self.new }
+        ensures filter_kept { self.new.filter.now ≡ self.old.filter.now }
+        ensures does { NodeDoes (make_room (under self.old) Data (cache_follows (under self.old))) self.old tt self.new }
     {
         let mut moves = [0u32; MOVES_WORDS];
         let n = start(self.flash, self.work, Region::Data, v, &mut moves);
@@ -29,11 +30,12 @@ impl Node<'_, '_, '_, '_, '_, '_> {
     }
 
     // Room for the next data page.
-    pub(crate) fn make_room(&mut self)
+    pub fn make_room(&mut self)
         requires { RoomReady (under self.old) (held self.old) self.old.work.now.counts }
-        ensures { NodeDoes (make_room (under self.old) Data (cache_follows (under self.old))) self.old tt self.new }
+        ensures filter_kept { self.new.filter.now ≡ self.old.filter.now }
+        ensures does { NodeDoes (make_room (under self.old) Data (cache_follows (under self.old))) self.old tt self.new }
     {
-        if let Some(v) = choose(self.flash, self.work, Region::Data) {
+        if let Some(v) = choose(&self.flash.blocks(), self.work, Region::Data) {
             self.collect(v);
         }
     }

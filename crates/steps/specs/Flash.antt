@@ -3,7 +3,6 @@
 use Rattle.std.specs.Prelude.{◌≡◌, refl}
 use Rattle.std.proofs.Common.{◌∙◌}
 use Rattle.scope.specs.Operations.{Step}
-use Rattle.flash.specs.Bounded.{Bounded, accepted_bounded}
 use Rattle.lent.specs.declared.Geometry.{Geometry as Numbers}
 use Rattle.lent.specs.declared.Work.{Work}
 use Rattle.lent.specs.Model.{geometry}
@@ -40,10 +39,11 @@ pub record OnlySpare (f f' : Flash) : Type 0 where
   pub same : SameFlash f f'
   pub words : f'.chip.now ≡ f.chip.now
 
--- So they are, and so is the spare.
+-- So they are, and so are the spare and the census.
 pub record OnlyChip (f f' : Flash) : Type 0 where
   pub same : SameFlash f f'
   pub states : f'.spare.now ≡ f.spare.now
+  pub numbers : f'.census.now ≡ f.census.now
 
 -- A step of 01 is done.
 pub record FlashDoes {A : Type 0} (m : Step A) (f : Flash) (w : Work) (x : A) (f' : Flash) (w' : Work) : Type 0 where
@@ -52,11 +52,8 @@ pub record FlashDoes {A : Type 0} (m : Step A) (f : Flash) (w : Work) (x : A) (f
 
 -- The lists have their sizes.
 module _ (f : Flash) where
-  pub bounded : Bounded (geometry f.g)
-  bounded = accepted_bounded f.accepted
-
   pub chip_lent : ChipLent (geometry f.g) f.chip.now
-  chip_lent = record { bounded = bounded; chip_fits = f.chip_fits }
+  chip_lent = record { bounded = f.bounded; chip_fits = f.chip_fits }
 
   pub spare_lent : SpareLent (geometry f.g) f.spare.now
-  spare_lent = record { bounded = bounded; spare_fits = f.spare_fits }
+  spare_lent = record { bounded = f.bounded; spare_fits = f.spare_fits }

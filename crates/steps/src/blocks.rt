@@ -1,11 +1,13 @@
 // A region's numbers, of the geometry and of the small record, and the searches among its blocks.
 ghost use Rattle.std.specs.Prelude.{◌≡◌};
+ghost use Rattle.flash.specs.Bounded.{Bounded};
 ghost use Rattle.lent.specs.Model.{geometry, small, region};
 ghost use Rattle.scope.specs.Regions.{first_block, region_blocks};
 ghost use Rattle.scope.specs.SmallRecord.{open_block, next_offset, with_open};
 ghost use Rattle.scope.specs.Lent.{State};
 ghost use Rattle.scope.specs.Room.{erased_blocks, lowest_erased, victim, open_lowest};
 ghost use Rattle.lent.specs.Shapes.{DoesBySpare};
+ghost use Rattle.words.specs.Census.{Census};
 
 use crate::Flash;
 use lent::{Geometry, Record, Region, Work};
@@ -64,7 +66,17 @@ pub fn set_open(rec: &mut Record, r: Region, b: u32, offset: u32)
     }
 }
 
-impl Flash<'_> {
+// The blocks as the searches see them: the spare, and the census that is right of it. They ask nothing of a chip, nor how long the spare is.
+#[derive(Clone, Copy)]
+pub struct Blocks<'a> {
+    pub g: Geometry,
+    pub spare: &'a [u32],
+    pub census: &'a [u32],
+    pub ghost bounded: { Bounded (geometry g) },
+    pub ghost counted: { Census (geometry g) spare.now census.now },
+}
+
+impl Blocks<'_> {
     // How many blocks are wholly erased.
     pub fn erased_blocks(&self, r: Region) -> u32
         ensures { (s : State) → s.spare ≡ self.now.spare.now
@@ -100,5 +112,19 @@ impl Flash<'_> {
     {
         let b = self.lowest_erased(r);
         set_open(&mut work.rec, r, b, 0);
+    }
+}
+
+impl Flash<'_> {
+    // Its blocks.
+    pub fn blocks(&self) -> Blocks<'_>
+        ensures same_geometry { result.g ≡ self.now.g }
+        ensures same_spare { result.spare.now ≡ self.now.spare.now }
+    {
+        Blocks {
+            g: self.g,
+            spare: self.spare,
+            census: self.census,
+        }
     }
 }

@@ -31,7 +31,7 @@ fn restate(census: &mut [u32], b: usize, old: u32, new: u32)
 }
 
 // Page p is marked invalid.
-pub(crate) fn mark_page(g: Geometry, p: u32, spare: &mut [u32], census: &mut [u32])
+pub fn mark_page(g: Geometry, p: u32, spare: &mut [u32], census: &mut [u32])
     requires spare_lent { SpareLent (geometry g) spare.old × (p < pages (geometry g)) }
     requires counted { Census (geometry g) spare.old census.old }
     ensures spare_after { spare.new ≡ with_state p invalid spare.old }

@@ -6,9 +6,9 @@ ghost use Rattle.lent.specs.declared.Work.{Work};
 ghost use Rattle.lent.specs.Model.{entry};
 ghost use Rattle.lent.specs.Shapes.{DoesDirectory};
 
-use lent::decode;
+use lent::{Entry, decode};
 
-pub fn named(t: u32, directory: &[u32]) -> Option<u32>
+pub fn named(t: u32, directory: &[u32]) -> Entry
     requires { t < length directory.now }
     ensures { entry result ≡ named t directory.now }
 {

@@ -1,16 +1,17 @@
 // What document 01's steps on flash and directory are made of, in code, each equal to its definition in lent words and in counts. Flash is
 // what they work on; blocks: a region's numbers, and the searches among its blocks; census: states changed, with what these read; chip:
-// operations; directory.
+// operations on chip or spare alone; operations: those on flash; directory.
 #![tactic(auto)]
 
 pub mod blocks;
-mod census;
+pub mod census;
 pub mod chip;
 pub mod directory;
+pub mod operations;
 
 ghost use Rattle.std.specs.Prelude.{◌≡◌, length};
-ghost use Rattle.scope.specs.Geometry.{Accepted};
 ghost use Rattle.scope.specs.Lent.{chip_size, spare_size};
+ghost use Rattle.flash.specs.Bounded.{Bounded};
 ghost use Rattle.lent.specs.Model.{geometry};
 ghost use Rattle.words.specs.Census.{Census};
 
@@ -24,7 +25,7 @@ pub struct Flash<'a> {
     pub chip: &'a mut [u32],
     pub spare: &'a mut [u32],
     pub census: &'a mut [u32],
-    pub ghost accepted: { Accepted (geometry g) },
+    pub ghost bounded: { Bounded (geometry g) },
     pub ghost chip_fits: { length chip.now ≡ chip_size (geometry g) },
     pub ghost spare_fits: { length spare.now ≡ spare_size (geometry g) },
     pub ghost counted: { Census (geometry g) spare.now census.now },

@@ -2,7 +2,7 @@
 use Prim.Native.Nat.{ℕ, ◌+◌, ◌-◌, ◌*◌, ◌≤◌, ◌<◌}
 use Rattle.std.specs.Prelude.{◌≡◌, ◌≢◌, ◌⊎◌, refl, cond, ◌&&◌, ◌||◌, List, ltb, leb}
 use Rattle.std.proofs.Math.Path.{sym, subst}
-use Rattle.std.proofs.Common.{⊎_elim, ap, ap₂, ◌∙◌, add_assoc, add-zero, add-one, eqb-true, eq-eqb, ne_eqb, lt-ltb, le-ltb}
+use Rattle.std.proofs.Common.{⊎_elim, ap, ap₂, ◌∙◌, add_assoc, add-zero, mul-one, mul-le-mul_left, add-one, eqb-true, eq-eqb, ne_eqb, lt-ltb, le-ltb}
 use Rattle.std.proofs.Math.Bool.{Bool, true, false, not}
 use Rattle.std.proofs.Math.Nat.{suc-mul}
 use native.Mathlib.Omega.{arith}
@@ -11,7 +11,7 @@ use Rattle.std.proofs.lemmas.Bool.{not-true}
 use Rattle.scope.specs.Counting.{all, some, count}
 use Rattle.scope.specs.Geometry.{Geometry}
 use Rattle.scope.specs.Regions.{Region, first_block, region_blocks}
-use Rattle.scope.specs.Lent.{is_erased}
+use Rattle.scope.specs.Lent.{spare_words, is_erased}
 use Rattle.scope.specs.Decisions.{blocks_fit}
 use Rattle.flash.specs.Cases.{on, below?, clash, and_true, true_and, or_cases, or_right, is_false, not_of_false}
 use Rattle.flash.specs.Counting.{all_each, each_all, count_none, none_counted, count_le}
@@ -53,6 +53,12 @@ pub rule_3_region : (g : Geometry) (r : Region) (spare : List ℕ) (opened offse
     → rule_3 g.P (first_block g r) (region_blocks g r) spare opened offset ≡ blocks_fit g r spare opened offset
 unfolding rule_3 open_fits others_fit besides blocks_fit
 rule_3_region g r spare opened offset = refl
+
+-- ---- where the blocks lie
+
+-- Where the blocks' spare words lie in a list there are no more blocks than it has words.
+pub blocks_inside : (P first n len : ℕ) → 1 ≤ P → (first + n) * P * spare_words ≤ len → first + n ≤ len
+blocks_inside P first n len h k = omega (arith, mul-le-mul_left (first + n) h, mul-one (first + n))
 
 -- ---- counts that decide
 

@@ -1,5 +1,5 @@
 -- The census as the walk over a region's blocks takes it, a block at a time.
-use Rattle.std.specs.Prelude.{ℕ, ◌+◌, ◌*◌, ◌≤◌, ◌<◌, ◌≡◌, refl, ◌⊎◌, List, length, get_or, set}
+use Rattle.std.specs.Prelude.{ℕ, ◌+◌, ◌*◌, ◌≤◌, ◌<◌, ◌≡◌, refl, ◌⊎◌, Bool, true, List, length, get_or, set}
 use Rattle.std.proofs.Common.{◌∙◌, inl, inr, ⊎_elim, arith, length-set, get_or-set_same, get_or-set_other}
 use Rattle.scope.specs.Geometry.{Geometry, blocks}
 use Rattle.scope.specs.Lent.{state_of, is_valid, is_erased}
@@ -20,7 +20,7 @@ abbrev pub TakenIn : Geometry → Region → List ℕ → List ℕ → List ℕ 
 TakenIn g r = Taken g.P (first_block g r) (region_blocks g r)
 
 -- No more pages are found valid or erased than a block has.
-pub few_found : {W limit : ℕ} {chip spare : List ℕ} {first n : ℕ} {b : Block} → Looked W limit chip spare first n b
+pub few_found : {W limit : ℕ} {chip spare : List ℕ} {first n : ℕ} {fits : Bool} {b : Block} → Looked W limit chip spare first n fits b
     → (b.valid ≤ n) × (b.erased ≤ n)
 few_found {spare = spare} {first = first} {n = n} found = (
   omega (arith, found.valid_are, count_le n (λ i. is_valid (first + i) spare)),
@@ -33,7 +33,7 @@ module _ (P first : ℕ) (spare census₀ : List ℕ) where
 
   -- What is found of a block's pages gives its number.
   pub taken_more : (W limit : ℕ) (chip : List ℕ) (i x : ℕ) (census : List ℕ) (b : Block) → Taken P first i spare census₀ census
-      → first + i < length census₀ → Looked W limit chip spare ((first + i) * P) P b → x ≡ b.valid + 256 * b.erased
+      → first + i < length census₀ → Looked W limit chip spare ((first + i) * P) P true b → x ≡ b.valid + 256 * b.erased
       → Taken P first (i + 1) spare census₀ (set census (first + i) x)
   taken_more W limit chip i x census b taken inside found is =
       record {

@@ -141,9 +141,9 @@ pub first_marked : (b n : ℕ) (spare : List ℕ) → 1 ≤ n → state_of (b * 
 first_marked b n spare some marked =
     is_false (blank (n * spare_words) spare b) (λ h. marked (rw add-zero at (word_at spare_words b n spare h 0 (omega arith))))
 
--- What is found of the n pages from `first` on, where the rule holds of each.
-pub record Looked (W limit : ℕ) (chip spare : List ℕ) (first n : ℕ) (b : Block) : Type 0 where
-  pub fit : all n (λ i. rule_1 W limit chip spare (first + i)) ≡ true
+-- What is found of the n pages from `first` on: whether the rule holds of each, and the counts.
+pub record Looked (W limit : ℕ) (chip spare : List ℕ) (first n : ℕ) (fits : Bool) (b : Block) : Type 0 where
+  pub fit : fits ≡ all n (λ i. rule_1 W limit chip spare (first + i))
   pub erased_are : b.erased ≡ count n (λ i. is_erased (first + i) spare)
   pub valid_are : b.valid ≡ count n (λ i. is_valid (first + i) spare)
 

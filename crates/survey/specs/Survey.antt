@@ -3,11 +3,11 @@
 use Rattle.std.specs.Prelude.{ℕ, ◌+◌, ◌*◌, ◌≤◌, ◌<◌, ◌≡◌, Bool, true, false, ◌&&◌, ◌||◌, List, Option, Some, None, MatchOption, eqb, length}
 use Rattle.std.proofs.Common.{sym, ap, ◌∙◌, add-mul, zero-mul, suc-mul, mul-le-mul_right, add-one, arith}
 use Rattle.scope.specs.Counting.{all, count}
-use Rattle.scope.specs.Geometry.{Geometry}
+use Rattle.scope.specs.Geometry.{Geometry, blocks}
 use Rattle.scope.proofs.Decided.{pages_fit_decided, blocks_fit_decided}
 use Rattle.scope.specs.Laws.Decides.{Decides, by_and}
-use Rattle.scope.specs.Lent.{spare_words, is_valid}
-use Rattle.scope.specs.Regions.{Region, owners, first_block, region_blocks, region_pages}
+use Rattle.scope.specs.Lent.{spare_words, chip_size, spare_size, is_valid}
+use Rattle.scope.specs.Regions.{Region, Data, Translation, owners, first_block, region_blocks, region_pages}
 use Rattle.scope.specs.SmallRecord.{SmallRecord, open_block, next_offset}
 use Rattle.scope.specs.Sound.{PagesFit, BlocksFit}
 use Rattle.flash.specs.Cases.{and_true, true_and, clash}
@@ -26,11 +26,25 @@ pub record PagesAndBlocks (g : Geometry) (r : Region) (chip spare : List ℕ) (s
   pub pages : PagesFit g r chip spare
   pub blocks : BlocksFit g r spare (open_block r small) (next_offset r small)
 
--- The slices reach as far as the region's blocks do.
+-- The slices reach as far as the region's blocks do; those of a whole chip reach as far as either region's.
 pub record Reaches (g : Geometry) (r : Region) (chip spare census : List ℕ) : Type 0 where
   pub in_chip : (first_block g r + region_blocks g r) * g.P * g.W ≤ length chip
   pub in_spare : (first_block g r + region_blocks g r) * g.P * spare_words ≤ length spare
   pub in_census : first_block g r + region_blocks g r ≤ length census
+
+pub whole_reaches : (g : Geometry) (r : Region) (chip spare census : List ℕ) → length chip ≡ chip_size g → length spare ≡ spare_size g
+    → blocks g ≤ length census → Reaches g r chip spare census
+whole_reaches g r chip spare census chip_fits spare_fits census_fits =
+    let in_pages = mul-le-mul_right g.P (on_chip r) in
+    record {
+      in_chip = omega (arith, mul-le-mul_right g.W in_pages, chip_fits);
+      in_spare = omega (arith, in_pages, spare_fits);
+      in_census = omega (arith, on_chip r, census_fits);
+    }
+  where
+    on_chip : (r : Region) → first_block g r + region_blocks g r ≤ blocks g
+    on_chip Data = omega arith
+    on_chip Translation = omega arith
 
 -- What a walk found: None where what it tests does not hold, else a count, and what the census then has.
 pub record Held (Holds : Type 0) (count : ℕ) (Numbered : Type 0) (valid : ℕ) : Type 0 where
@@ -117,16 +131,16 @@ module _ (W limit P first : ℕ) (chip spare : List ℕ) (opened : ℕ) where
         counted = sym (ap (λ (k : ℕ). count k page_valid) (zero-mul P));
       }
 
-  -- What was found of block i.
+  -- What was found of block i, of whose pages the rule holds.
   abbrev Looked : ℕ → Block → Type 0
-  Looked i b = Pages.Looked W limit chip spare ((first + i) * P) P b
+  Looked i b = Pages.Looked W limit chip spare ((first + i) * P) P true b
 
   pub walked_more : (i total valid e : ℕ) (b : Block) → 1 ≤ P → Walked i total valid → Looked i b
       → e ≡ adds P first spare opened i → eqb e P || eqb e 0 ≡ true → Walked (i + 1) (total + e) (valid + b.valid)
   walked_more i total valid e b h w l is whole =
       record {
         so_far = so_far_more P first spare opened i total e h w.so_far is whole;
-        fit = all_block i ∙ true_and w.fit l.fit;
+        fit = all_block i ∙ true_and w.fit (sym l.fit);
         counted = sym (count_block i ∙ omega (arith, w.counted, l.valid_are));
       }
 

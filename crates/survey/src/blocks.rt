@@ -4,7 +4,7 @@
 ghost use Rattle.std.specs.Prelude.{◌≡◌, true, ◌&&◌, ◌+◌, ◌*◌, ◌≤◌, ◌<◌, leb, ltb, length};
 ghost use Rattle.scope.specs.Lent.{spare_words};
 ghost use Rattle.scope.specs.Counting.{all, count};
-ghost use Rattle.scope.specs.Geometry.{Accepted};
+ghost use Rattle.scope.specs.Geometry.{Accepted, most_pages_in_block};
 ghost use Rattle.flash.specs.Owners.{valid_in};
 ghost use Rattle.lent.specs.Model.{geometry, region, small as small-record};
 ghost use Rattle.survey.specs.Blocks.{open_fits, rule_3};
@@ -40,9 +40,10 @@ impl Area<'_> {
     }
 
     // The walk over the blocks. Every block but the open one is wholly erased or has no erased page, and there is one of the first kind:
-    // the erased pages of these blocks number more than 0. Every page fits.
+    // the erased pages of these blocks number more than 0. Every page fits. A block's pages are few, so that its number is in range.
     fn walk(&self, opened: usize, census: &mut [u32]) -> Option<usize>
-        requires { self.now.first + self.now.n ≤ length census.old }
+        requires few_pages { self.now.p ≤ most_pages_in_block }
+        requires in_census { self.now.first + self.now.n ≤ length census.old }
         ensures { Surveyed result (rules self.now.w self.now.limit self.now.p self.now.first self.now.chip.now self.now.spare.now opened self.now.n ≡ true)
             (count (self.now.n * self.now.p) (row_valid self.now.p self.now.first self.now.spare.now))
             (Taken self.now.p self.now.first self.now.n self.now.spare.now census.old census.new) }
@@ -51,7 +52,9 @@ impl Area<'_> {
         let mut valid = 0;
         for i in 0..self.n {
             let b = self.first + i;
-            let block = self.look(b)?;
+            let Ok(block) = self.look(b) else {
+                return None;
+            };
             let erased = if b == opened { 0 } else { block.erased };
             if erased != self.p && erased != 0 {
                 return None;
@@ -68,7 +71,8 @@ impl Area<'_> {
 
     // Both rules.
     fn survey(&self, opened: usize, offset: usize, census: &mut [u32]) -> Option<usize>
-        requires { self.now.first + self.now.n ≤ length census.old }
+        requires few_pages { self.now.p ≤ most_pages_in_block }
+        requires in_census { self.now.first + self.now.n ≤ length census.old }
         ensures { Surveyed result
             (rule_3 self.now.p self.now.first self.now.n self.now.spare.now opened offset
             && all (self.now.n * self.now.p) (row_fits self.now.w self.now.limit self.now.p self.now.first self.now.chip.now self.now.spare.now) ≡ true)

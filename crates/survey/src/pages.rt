@@ -1,6 +1,6 @@
 // Rule 1, page by page: its state, its owner, and, where it is erased, its words. These are swept without leaving the loop at a word, so
 // that a fresh chip is checked at the speed of reading it. A block that has no erased page is told by counts, without a branch.
-ghost use Rattle.std.specs.Prelude.{◌≡◌, false, ◌&&◌, ◌+◌, ◌*◌, ◌≤◌, ◌<◌, length, MatchOption};
+ghost use Rattle.std.specs.Prelude.{◌≡◌, true, false, ◌&&◌, ◌+◌, ◌*◌, ◌≤◌, ◌<◌, length, MatchResult};
 ghost use Rattle.scope.specs.Counting.{all, count};
 ghost use Rattle.scope.specs.Lent.{is_valid, spare_words};
 ghost use Rattle.survey.specs.Pages.{blank, rule_1, programmed_fits, programmed_at, Looked};
@@ -19,7 +19,9 @@ fn fits_programmed(state: u32, owner: u32, limit: u32) -> bool
     owner < limit && (state == VALID || state == INVALID)
 }
 
-// Page p of w words has only erased words.
+// Page p of w words has only erased words. Never inlined: where pages or blocks are small, a walk that keeps the places of this sweep for
+// each block takes a quarter longer.
+#[inline(never)]
 fn is_blank(chip: &[u32], w: usize, p: usize) -> bool
     requires { p * w + w ≤ length chip.now }
     ensures { result ≡ blank w chip.now p }
@@ -36,7 +38,7 @@ struct Programmed {
     valid: u32,
 }
 
-// What is found of a block's pages of which the rule holds, and other rules ask: how many are erased and valid.
+// What is found of a block's pages, and other rules ask: how many are erased and valid.
 #[derive(Drop)]
 pub struct Block {
     pub erased: usize,
@@ -57,7 +59,8 @@ impl Area<'_> {
         fits_programmed(state, owner, self.limit)
     }
 
-    // The rule for each page of block b.
+    // The rule for each page of block b. Never inlined, for the same reason: only an open or a broken block comes here.
+    #[inline(never)]
     fn pages_fit(&self, b: usize) -> bool
         requires { b < self.now.first + self.now.n }
         ensures { result ≡ all self.now.p (λ i. rule_1 self.now.w self.now.limit self.now.chip.now self.now.spare.now (b * self.now.p + i)) }
@@ -99,15 +102,16 @@ impl Area<'_> {
             && is_blank(self.chip, self.p * self.w, b)
     }
 
-    // Block b, where the rule holds of each of its pages. Most blocks are wholly erased, and one sweep tells, or have no erased page, and
-    // the counts tell; only where they are neither, as the open block, each page is looked at.
-    pub(crate) fn look(&self, b: usize) -> Option<Block>
+    // Block b: Ok where the rule holds of each of its pages, else Err, with the same counts. Most blocks are wholly erased, and one sweep
+    // tells, or have no erased page, and the counts tell; only where they are neither, as the open block, each page is looked at.
+    pub fn look(&self, b: usize) -> Result<Block, Block>
         requires { b < self.now.first + self.now.n }
-        ensures { MatchOption result (all self.now.p (λ i. rule_1 self.now.w self.now.limit self.now.chip.now self.now.spare.now (b * self.now.p + i)) ≡ false)
-            (Looked self.now.w self.now.limit self.now.chip.now self.now.spare.now (b * self.now.p) self.now.p) }
+        ensures { MatchResult result
+            (Looked self.now.w self.now.limit self.now.chip.now self.now.spare.now (b * self.now.p) self.now.p true)
+            (Looked self.now.w self.now.limit self.now.chip.now self.now.spare.now (b * self.now.p) self.now.p false) }
     {
         if self.wholly_erased(b) {
-            return Some(Block {
+            return Ok(Block {
                 erased: self.p,
                 valid: 0,
             });
@@ -115,13 +119,14 @@ impl Area<'_> {
         let counts = self.count_programmed(b);
         let valid = counts.valid as usize;
         if counts.fit as usize == self.p {
-            return Some(Block { erased: 0, valid });
-        }
-        if !self.pages_fit(b) {
-            return None;
+            return Ok(Block { erased: 0, valid });
         }
         let erased = count_state(self.spare, b * self.p, self.p, ERASED);
-        Some(Block { erased, valid })
+        let found = Block { erased, valid };
+        if !self.pages_fit(b) {
+            return Err(found);
+        }
+        Ok(found)
     }
 }
 

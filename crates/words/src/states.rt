@@ -13,7 +13,9 @@ pub fn bit(a: u32, b: u32) -> usize
     usize::from(a == b)
 }
 
-// How many of the n pages from `first` on have the state.
+// How many of the n pages from `first` on have the state. Never inlined: a walk over all blocks comes here for few of them, and keeps its
+// own numbers in registers where the places of this loop are not among them.
+#[inline(never)]
 pub fn count_state(spare: &[u32], first: usize, n: usize, state: u32) -> usize
     requires { (first + n) * spare_words ≤ length spare.now }
     ensures { result ≡ count n (λ i. eqb (state_of (first + i) spare.now) state) }

@@ -2,11 +2,12 @@
 use mathlib.Core.Path.{refl, ap}
 use borrow.Author.Rules.{rules}
 use Rattle.lent.specs.DoesLaws.{does_ends}
+use Rattle.flash.specs.Bounded.{accepted_bounded}
 use Rattle.requests.specs.Node.{held_is}
 use Rattle.lent.specs.Model.{geometry}
-use Rattle.lent.specs.Reply.{tested, refused_not_done}
+use Rattle.lent.specs.Reply.{reply, tested, refused_not_done}
 use Rattle.promises.specs.Bounds.{read_bound}
-use Rattle.scope.specs.Requests.{read_steps}
+use Rattle.scope.specs.Requests.{read_steps, replied}
 use Rattle.scope.specs.Calls.{read}
 use Rattle.words.specs.Filter.{filtered_of}
 use Rattle.admission.specs.Room.{read_few}
@@ -23,7 +24,7 @@ pub invariant_of-flash : goal.invariant_of-flash
 invariant_of-flash c = let a = c.args in
     let (ready, noted) = single_ready a.buffer.now (rw c.into.ensures at c.test_single-tests.ensures) (read_bound (geometry a.g)) read_few (ap tested c.in_default.is) in
     record {
-      accepted = ready.0.ready.accepted;
+      bounded = accepted_bounded ready.0.ready.accepted;
       chip_fits = ready.0.ready.lengths.chip_fits;
       spare_fits = ready.0.ready.lengths.spare_fits;
       counted = noted.counted;
@@ -43,7 +44,7 @@ unfolding read
 returns c = let a = c.args in
     let node = c.read-answer.new.self in
     single_served a.buffer.now (rw c.into.ensures at c.test_single-tests.ensures) (read_steps (geometry a.g) a.page a.buffer.now)
-    _ (ap tested c.in_default.is)
+    {x = replied c.read-answer.new.buffer (reply c.read-answer.result)} _ (ap tested c.in_default.is)
     (does_ends c.read-answer.ensures.does.does
     (held_is node (search rules) (search rules) (search rules) (search rules) refl) refl)
     c.put_counts.ensures

@@ -2,6 +2,7 @@
 use mathlib.Core.Path.{refl, ap}
 use borrow.Author.Rules.{rules}
 use Rattle.lent.specs.DoesLaws.{does_ends}
+use Rattle.flash.specs.Bounded.{accepted_bounded}
 use Rattle.requests.specs.Node.{held_is}
 use Rattle.lent.specs.Model.{geometry}
 use Rattle.lent.specs.Reply.{tested, refused_not_done}
@@ -23,7 +24,7 @@ pub invariant_of-flash : goal.invariant_of-flash
 invariant_of-flash c = let a = c.args in
     let (ready, noted) = single_ready a.buffer.now (rw c.into.ensures at c.test_single-tests.ensures) (write_bound (geometry a.g)) write_few (ap tested c.in_default.is) in
     record {
-      accepted = ready.0.ready.accepted;
+      bounded = accepted_bounded ready.0.ready.accepted;
       chip_fits = ready.0.ready.lengths.chip_fits;
       spare_fits = ready.0.ready.lengths.spare_fits;
       counted = noted.counted;
@@ -45,5 +46,5 @@ returns c = let a = c.args in
     single_served a.buffer.now (rw c.into.ensures at c.test_single-tests.ensures) (write_steps (geometry a.g) a.page a.buffer.now)
     _ (ap tested c.in_default.is)
     (does_ends c.write-answer.ensures.does.does
-    (held_is node (search rules) (search rules) (search rules) (search rules) refl) refl)
+    (held_is node (search rules) (search rules) (search rules) (search rules) (refl {a = node.work.now.rec})) refl)
     c.put_counts.ensures

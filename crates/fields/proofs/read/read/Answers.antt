@@ -1,7 +1,7 @@
 -- The tests in their order, each with what was read before it.
-use Rattle.std.proofs.Common.{sym, ap, ◌∙◌}
+use Rattle.std.proofs.Common.{rules, sym, ap, ◌∙◌}
 use Rattle.fields.specs.Model.{settings}
-use Rattle.fields.specs.Judged.{read_refused, unknown_refused, fields_refused, other_bytes_refused, geometry_refused, all_accepted}
+use Rattle.fields.specs.Judged.{row_follows, read_refused, unknown_refused, fields_refused, other_bytes_refused, geometry_refused, all_accepted}
 use Rattle.fields.proofs.Exits.{err_passed_on}
 use Rattle.fields.proofs.read.read.Goals as goal
 
@@ -21,14 +21,14 @@ returns-in_err-numbers c =
 pub returns-then-not-may_follow : goal.returns-then-not-may_follow
 returns-then-not-may_follow c =
     other_bytes_refused _ c.in_ok-number.ensures _ _ c.version_of.ensures c.in_ok-table.ensures.value _ _ c.in_ok-numbers.ensures
-    (sym c.may_follow.ensures ∙ c.if-not-may_follow.true)
+    (sym (row_follows c.in_ok-table.table _ _ (search rules) c.may_follow.ensures) ∙ c.if-not-may_follow.true)
 
 pub returns-then-not-accepts : goal.returns-then-not-accepts
 returns-then-not-accepts c =
     geometry_refused _ c.in_ok-number.ensures _ _ c.version_of.ensures c.in_ok-table.ensures.value _ _ c.in_ok-numbers.ensures
-    (sym c.may_follow.ensures ∙ c.if-not-may_follow.false) _ c.geometry_from-g.ensures (sym c.accepts.ensures ∙ c.if-not-accepts.true)
+    (sym (row_follows c.in_ok-table.table _ _ (search rules) c.may_follow.ensures) ∙ c.if-not-may_follow.false) _ c.geometry_from-g.ensures (sym c.accepts.ensures ∙ c.if-not-accepts.true)
 
 pub returns : goal.returns
 returns c =
     all_accepted _ c.in_ok-number.ensures _ _ c.version_of.ensures c.in_ok-table.ensures.value _ _ c.in_ok-numbers.ensures
-    (sym c.may_follow.ensures ∙ c.if-not-may_follow.false) _ c.geometry_from-g.ensures (sym c.accepts.ensures ∙ c.if-not-accepts.false)
+    (sym (row_follows c.in_ok-table.table _ _ (search rules) c.may_follow.ensures) ∙ c.if-not-may_follow.false) _ c.geometry_from-g.ensures (sym c.accepts.ensures ∙ c.if-not-accepts.false)

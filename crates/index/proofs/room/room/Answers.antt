@@ -12,5 +12,5 @@ pub returns-in_default : goal.returns-in_default
 returns-in_default c =
     let a = c.args in
     let chosen = subst (λ (o : Option ℕ). Chosen (geometry a.flash.now.g) Translation a.flash.now.spare.now a.work.now o c.choose.new.work)
-    c.in_default.is c.choose.ensures in
+    c.in_default.is (rw (c.blocks-2.ensures.same_geometry, c.blocks-2.ensures.same_spare) at c.choose.ensures) in
     record { does = chosen_does chosen; same = same_lent }

@@ -21,12 +21,12 @@ slice_bounds-only_erased-end c = let s = c.args.self.now in
       arith,
       holds_at_most (geometry s.g) s.accepted s.chip.now s.directory.now (length s.directory.now) s.directory_len,
       read_on_chip (geometry s.g) s.chip.now s.directory.now (length s.directory.now - 1) _ s.chip_len s.directory_len s.names_on_chip
-          (omega (arith, s.directory_len, s.accepted.M_from)) (ap entry (sym c.in-Some.is) ∙ c.decode.ensures),
+          (omega (arith, s.directory_len, s.accepted.M_from)) (ap entry (sym c.in-Place.is) ∙ c.decode.ensures),
     )
 
 pub returns : goal.returns
 returns c = let s = c.args.self.now in
-    let e = ap entry (sym c.in-Some.is) ∙ c.decode.ensures in
+    let e = ap entry (sym c.in-Place.is) ∙ c.decode.ensures in
     page_named (geometry s.g) s.accepted s.chip.now s.directory.now (length s.directory.now) s.directory_len _
     (e ∙ read_here s.directory.now (length s.directory.now - 1) (omega (arith, s.directory_len, s.accepted.M_from)))
     (read_on_chip (geometry s.g) s.chip.now s.directory.now (length s.directory.now - 1) _ s.chip_len s.directory_len s.names_on_chip

@@ -25,14 +25,14 @@ returns-in_default c = let s = c.args.self.now in
 pub tally_held-requires : goal.tally_held-requires
 tally_held-requires c = let s = c.args.self.now in (
   read_on_chip (geometry s.g) s.chip.now s.directory.now c.args.t _ s.chip_len s.directory_len s.names_on_chip c.requires.0
-      (ap entry (sym c.in-Some.is) ∙ c.decode.ensures),
+      (ap entry (sym c.in-Place.is) ∙ c.decode.ensures),
   omega (arith, page_starts (geometry s.g) s.accepted.W_from c.args.t c.requires.0),
   room_less s.g.w (s.g.l + s.g.w) (omega arith) c.requires.1,
 )
 
 pub returns : goal.returns
 returns c = let s = c.args.self.now in
-    let e = ap entry (sym c.in-Some.is) ∙ c.decode.ensures in record {
+    let e = ap entry (sym c.in-Place.is) ∙ c.decode.ensures in record {
       goes_on = omega arith;
       ends = omega (arith, c.requires.0);
       counted = page_place (geometry s.g) s.accepted (data_few s.accepted) s.chip.now s.spare.now s.directory.now c.args.t c.args.sum.now

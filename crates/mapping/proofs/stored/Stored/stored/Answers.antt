@@ -17,7 +17,7 @@ returns-in_default c = let s = c.args.self.now in
 pub returns : goal.returns
 returns c = let s = c.args.self.now in
     let word : c.unwrap_or-word.result ≡ get_or s.directory.now (c.args.l / s.g.w) none = search rules in
-    let held : c.unwrap_or.result ≡ get_or s.chip.now (c.in-Some.q * s.g.w + c.args.l % s.g.w) none = search rules in
+    let held : c.unwrap_or.result ≡ get_or s.chip.now (c.in-Place.q * s.g.w + c.args.l % s.g.w) none = search rules in
     held
     ∙ stored_place (geometry s.g) s.chip.now s.directory.now c.args.l _
-    (ap entry (sym c.in-Some.is) ∙ c.decode.ensures ∙ ap decode word)
+    (ap entry (sym c.in-Place.is) ∙ c.decode.ensures ∙ ap decode word)

@@ -62,8 +62,8 @@ invariant_of-self-2 c =
     ∙ sym (ap (λ (w : Work). w.rec.used) only.work_kept) in
     record { filtered = filtered_of (filter_still used (filter_of c.follow_moves-waiting.new.self.filtered)) }
 
-pub returns : goal.returns
-returns c =
+pub returns-clause-does : goal.returns-clause-does
+returns-clause-does c =
     let n = c.args.self.now in
     let (ready, chosen) = c.requires in
     let starts = c.start-n.ensures.does_flash in
@@ -79,3 +79,6 @@ returns c =
         only.same.1,
       );
     }
+
+pub returns-clause-filter_kept : goal.returns-clause-filter_kept
+returns-clause-filter_kept c = c.follow_moves-waiting.ensures.only_cache.filter_kept

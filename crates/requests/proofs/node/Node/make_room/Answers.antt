@@ -12,21 +12,25 @@ use Rattle.requests.proofs.node.Node.make_room.Goals as goal
 
 pub invariant_of-self : goal.invariant_of-self
 invariant_of-self c = let n = c.args.self.now in
-    let used = chosen_keeps_used (under n) Data n.flash.now.spare.now n.work.now c.choose.new.work c.choose.result c.choose.ensures in
+    let chosen = rw (c.blocks-2.ensures.same_geometry, c.blocks-2.ensures.same_spare) at c.choose.ensures in
+    let used = chosen_keeps_used (under n) Data n.flash.now.spare.now n.work.now c.choose.new.work c.choose.result chosen in
     record { filtered = filtered_of (filter_still used (filter_of n.filtered)) }
 
-pub returns-in_default : goal.returns-in_default
-returns-in_default c = let n = c.args.self.now in
-    let chosen = subst (λ (o : Option ℕ). Chosen (under n) Data n.flash.now.spare.now n.work.now o c.choose.new.work) c.in_default.is c.choose.ensures in
+pub returns-in_default-clause-does : goal.returns-in_default-clause-does
+returns-in_default-clause-does c = let n = c.args.self.now in
+    let chosen = subst (λ (o : Option ℕ). Chosen (under n) Data n.flash.now.spare.now n.work.now o c.choose.new.work) c.in_default.is (rw (c.blocks-2.ensures.same_geometry, c.blocks-2.ensures.same_spare) at c.choose.ensures) in
     record { does = chosen_does c.requires.ready chosen; same = (same_lent, same_lists) }
 
 pub collect-requires : goal.collect-requires
 collect-requires c = let n = c.args.self.now in
-    let chosen = subst (λ (o : Option ℕ). Chosen (under n) Data n.flash.now.spare.now n.work.now o c.choose.new.work) c.in-Some.is c.choose.ensures in
+    let chosen = subst (λ (o : Option ℕ). Chosen (under n) Data n.flash.now.spare.now n.work.now o c.choose.new.work) c.in-Some.is (rw (c.blocks-2.ensures.same_geometry, c.blocks-2.ensures.same_spare) at c.choose.ensures) in
     rw chosen.1 (c.requires, chosen.0)
 
-pub returns-in-Some : goal.returns-in-Some
-returns-in-Some c = let n = c.args.self.now in
-    let chosen = subst (λ (o : Option ℕ). Chosen (under n) Data n.flash.now.spare.now n.work.now o c.choose.new.work) c.in-Some.is c.choose.ensures in
-    let collects = rw chosen.1 at c.collect.ensures.does in
-    record { does = collects; same = c.collect.ensures.same }
+pub returns-in-Some-clause-filter_kept : goal.returns-in-Some-clause-filter_kept
+returns-in-Some-clause-filter_kept c = c.collect.ensures.filter_kept
+
+pub returns-in-Some-clause-does : goal.returns-in-Some-clause-does
+returns-in-Some-clause-does c = let n = c.args.self.now in
+    let chosen = subst (λ (o : Option ℕ). Chosen (under n) Data n.flash.now.spare.now n.work.now o c.choose.new.work) c.in-Some.is (rw (c.blocks-2.ensures.same_geometry, c.blocks-2.ensures.same_spare) at c.choose.ensures) in
+    let collects = rw chosen.1 at c.collect.ensures.does.does in
+    record { does = collects; same = c.collect.ensures.does.same }

@@ -22,6 +22,6 @@ invariant_of-self c = let n = c.args.self.now in
 pub returns : goal.returns
 returns c = let n = c.args.self.now in
     record {
-      does = read_place_does (under n) c.args.buffer.now _ (ap entry c.in-Some.is) c.read_page.ensures (held n);
+      does = read_place_does (under n) c.args.buffer.now _ (ap entry c.in-Place.is) c.read_page.ensures (held n);
       same = (same_lent, same_lists);
     }

@@ -13,17 +13,17 @@ make_room-requires c = let translated = c.translate-i.ensures in
 
 pub place-requires : goal.place-requires
 place-requires c = let translated = c.translate-i.ensures in
-    let made = rw translated.same.0.geometry_kept at c.make_room.ensures.does in
-    rw (c.make_room.ensures.same.0.geometry_kept, translated.same.0.geometry_kept)
+    let made = rw translated.same.0.geometry_kept at c.make_room.ensures.does.does in
+    rw (c.make_room.ensures.does.same.0.geometry_kept, translated.same.0.geometry_kept)
     (writing_ready c.requires.0 translated.does made c.requires.1)
 
 pub returns-clause-does : goal.returns-clause-does
 returns-clause-does c = let n = c.args.self.now in
     let translated = c.translate-i.ensures in
     let kept = translated.same.0.geometry_kept in
-    let made = rw kept at c.make_room.ensures.does in
-    let places = rw (c.make_room.ensures.same.0.geometry_kept, kept) at c.place.ensures.does in
-    let same₁ = c.make_room.ensures.same in
+    let made = rw kept at c.make_room.ensures.does.does in
+    let places = rw (c.make_room.ensures.does.same.0.geometry_kept, kept) at c.place.ensures.does in
+    let same₁ = c.make_room.ensures.does.same in
     let same₂ = c.place.ensures.same in
     record {
       does = write_does (under n) c.args.l c.args.buffer.now translated.does made places;

@@ -12,7 +12,7 @@ pub returns-then-wholly_erased : goal.returns-then-wholly_erased
 returns-then-wholly_erased c = let a = c.args.self.now in
     let both = and_true _ _ (sym c.wholly_erased.ensures ∙ c.if-wholly_erased.true) in
     record {
-      fit = sym (all_blank a.w a.limit c.args.b a.p a.chip.now a.spare.now both.0 both.1);
+      fit = all_blank a.w a.limit c.args.b a.p a.chip.now a.spare.now both.0 both.1;
       erased_are = all_erased a.w a.limit c.args.b a.p a.chip.now a.spare.now both.0 both.1;
       valid_are = none_valid a.w a.limit c.args.b a.p a.chip.now a.spare.now both.0 both.1;
     }
@@ -21,10 +21,17 @@ pub returns-then-counts-self : goal.returns-then-counts-self
 returns-then-counts-self c = let a = c.args.self.now in
     let whole = sym c.count_programmed-counts.ensures.0 ∙ c.if-counts-self.true in
     record {
-      fit = sym (all_programmed a.w a.limit _ a.p a.chip.now a.spare.now whole);
+      fit = all_programmed a.w a.limit _ a.p a.chip.now a.spare.now whole;
       erased_are = none_erased a.w a.limit _ a.p a.chip.now a.spare.now whole;
       valid_are = c.count_programmed-counts.ensures.1;
     }
+
+pub returns-then-not-pages_fit : goal.returns-then-not-pages_fit
+returns-then-not-pages_fit c = record {
+  fit = sym c.if-not-pages_fit.true ∙ c.pages_fit.ensures;
+  erased_are = c.count_state-erased.ensures;
+  valid_are = c.count_programmed-counts.ensures.1;
+}
 
 pub count_state-erased-requires : goal.count_state-erased-requires
 count_state-erased-requires c = let a = c.args.self.now in

@@ -1,9 +1,0 @@
--- `steps::Flash::erased_blocks` meets its contract: the erased blocks have the number of P erased pages.
-use Rattle.lent.specs.Model.{region}
-use Rattle.steps.specs.Flash.{bounded}
-use Rattle.steps.specs.Census.{erased_counted}
-use Rattle.steps.proofs.Flash.erased_blocks.Goals as goal
-
-pub returns : goal.returns
-returns c = let f = c.args.self.now in
-    λ s lent. erased_counted (bounded f) f.counted (region c.args.r) c.first_block-first.ensures c.region_blocks-n.ensures s lent c.count_equal.ensures.1
