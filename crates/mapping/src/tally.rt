@@ -29,7 +29,7 @@ impl Tally {
     }
 
     // Adds the counts of other words.
-    pub(crate) fn add(&mut self, more: Tally)
+    pub fn add(&mut self, more: Tally)
         requires { (self.old.nones + more.nones ≤ most_counted) × (self.old.good + more.good ≤ most_counted) }
         ensures { (self.new.nones ≡ self.old.nones + more.nones) × (self.new.good ≡ self.old.good + more.good) }
     {
