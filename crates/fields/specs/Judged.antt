@@ -7,7 +7,7 @@ use Rattle.std.proofs.Math.Option.{Option as Row}
 use Rattle.lent.specs.declared.Geometry.{Geometry as GeometryOf}
 use Rattle.lent.specs.Model.{geometry}
 use Rattle.scope.specs.Geometry.{accepted}
-use Rattle.settings.specs.Fields.{Reading, Numbers, Refused, AFTER, GEOMETRY, ACCEPTED, fields_read}
+use Rattle.settings.specs.Fields.{Reading, Numbers, Refused, AFTER, GEOMETRY, ACCEPTED, fields_read, whole_fields}
 use Rattle.settings.specs.Settings.{Version, version_field, versions, version_of, last_tag, may_follow, numbers_of, answered, refused, by_version, by_table, ended, read}
 use Rattle.fields.specs.declared.Field.{Field as FieldOf}
 use Rattle.fields.specs.declared.Version.{Version as VersionOf}
@@ -24,11 +24,17 @@ last_tag_of_rows n (f ∷ []) (suc k) d e = absurd (omega (arith, e))
 last_tag_of_rows n (f ∷ f' ∷ fs) zero d e = absurd (omega (arith, e))
 last_tag_of_rows n (f ∷ f' ∷ fs) (suc k) d e = last_tag_of_rows f.tag (f' ∷ fs) k d (omega (arith, e))
 
--- What is so of any version with a row's last tag and its `more` is so of the row's.
+-- An answer that is `may_follow` of every version with a row's last tag and its `more` is that of the row.
 pub row_follows : (v : VersionOf) (bytes : List ℕ) (d : FieldOf) {b : Bool} → length v.fields ≡ 6
     → ((w : Version) → w.more ≡ v.more → last_tag 0 w.fields ≡ (get_or v.fields 5 d).tag → b ≡ may_follow w bytes)
     → b ≡ may_follow (version v) bytes
 row_follows v bytes d n follows = follows (version v) refl (last_tag_of_rows 0 v.fields 5 d n)
+
+-- Where more may follow a row's fields: whole fields alone, of tags above its last.
+pub fields_follow : (v : VersionOf) (bytes : List ℕ) (d : FieldOf) → v.more ≡ true → length v.fields ≡ 6
+    → whole_fields (get_or v.fields 5 d).tag 0 bytes ≡ may_follow (version v) bytes
+fields_follow v bytes d m n =
+    rw m (ap (λ (last : ℕ). whole_fields last 0 bytes) (sym (last_tag_of_rows 0 v.fields 5 d n)))
 
 -- The record behind its version's field, behind the fields of its version, and behind the tests there.
 module _ (bytes : List ℕ) where
